@@ -1,0 +1,34 @@
+-- The entity table: what an unused place holds, and which place an ID names.
+use Prim.Native.Nat.{ℕ, suc}
+use mathlib.Core.List.{List, [], _∷_}
+use lib.ListN.{take, getD, replicate}
+use lib.Dec.{eqb}
+use Rattle.rules.specs.Pick.{pick}
+use Rattle.entities.specs.declared.Entity.{Entity}
+use Rattle.entities.specs.declared.Table.{Table}
+use Rattle.entities.specs.declared.Found.{Found}
+use Rattle.entities.specs.declared.Found.the-variants.{At, Nothing}
+
+-- an unused place
+abbrev pub noEntity : Entity
+noEntity = record { id = 0; kind = 0; terminal = 0; offset = 0 }
+
+abbrev pub noTable : Table
+noTable = record { count = 0; entities = replicate 32 noEntity; clock = 0 }
+
+-- the entity at a place of a list
+abbrev pub entityAt : List Entity → ℕ → Entity
+entityAt l i = getD l i noEntity
+
+-- the used places
+abbrev pub used : Table → List Entity
+used t = take (t .count) (t .entities)
+
+-- the place, counted from i, of the first entity that carries the ID
+unfoldable pub findFrom : ℕ → List Entity → ℕ → Found
+findFrom i [] id = Nothing
+findFrom i (e ∷ l) id = pick (eqb (e .id) id) (At i) (findFrom (suc i) l id)
+
+-- finding an ID: the first used place whose entity carries it
+abbrev pub foundIn : Table → ℕ → Found
+foundIn t id = findFrom 0 (used t) id

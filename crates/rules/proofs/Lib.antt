@@ -1,0 +1,5 @@
+-- The laws that every reader cites.
+pub mod Numbered
+pub mod Firsts
+pub mod Padded
+pub mod Walks

@@ -1,0 +1,6 @@
+pub mod Pick
+pub mod Numbered
+pub mod First
+pub mod Chain
+pub mod Pad
+pub mod Walk
