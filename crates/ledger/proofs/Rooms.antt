@@ -22,7 +22,7 @@ use Rattle.ledger.specs.declared.Entry.{Entry}
 use Rattle.ledger.specs.declared.Step.{Step}
 use Rattle.ledger.specs.declared.Step.the-variants.{Forward, Backward}
 use Rattle.ledger.specs.declared.Ledger.{Ledger}
-use Rattle.ledger.specs.Ledger.{placeOf, accountFor, countAt, bytesAt, lostAt, idleAt, ticksAt, backwardAt, untimedAt, plusOf, enteredOf, steppedOf, timedBy, timedOf, postOf, endedOf, entryBytes, Apart, Room, Spare}
+use Rattle.ledger.specs.Ledger.{placeOf, accountFor, countAt, bytesAt, lostAt, idleAt, ticksAt, backwardAt, untimedAt, plusOf, enteredOf, steppedOf, lastIs, timedBy, timedOf, postOf, endedOf, entryBytes, Room, Spare}
 use Rattle.ledger.specs.Step.{aheadOf, stepOf, ticksOf}
 
 -- ---- n more at a place
@@ -43,10 +43,23 @@ unfolding plusOf
 plus-other l i n j p = getD-set-other (l .numbers) i j (getD (l .numbers) i 0 + n) 0 p
 
 pub room-up : (b m : ℕ) (l : Ledger) → Room b l → b ≤ m → Room m l
-room-up b m l r h i p = omega (arith, r i p)
+room-up b m l r h =
+    record {
+      accounts = λ k q p. let s = r .accounts k q p in record { count = omega (arith, s .count); bytes = omega (arith, s .bytes) };
+      others = λ i p q. omega (arith, r .others i p q);
+    }
 
 pub room-plus : (b m : ℕ) (l : Ledger) (i n : ℕ) → Room b l → b + n ≤ m → Room m (plusOf l i n)
-room-plus b m l i n r h j p = omega (arith, plus-most l i n j b (r j p))
+room-plus b m l i n r h =
+    record {
+      accounts = λ k q p. let s = r .accounts k q p in
+          record { count = omega (arith, plus-most l i n (countAt k) b (s .count)); bytes = omega (arith, plus-most l i n (bytesAt k) b (s .bytes)) };
+      others = λ j p q. omega (arith, plus-most l i n j b (r .others j p q));
+    }
+
+room-last : (b : ℕ) (l : Ledger) (s : Stamp) → Room b l → Room b (lastIs l s)
+room-last b l s r =
+    record { accounts = λ k q p. let a = r .accounts k q p in record { count = a .count; bytes = a .bytes }; others = r .others }
 
 -- ---- each operation
 pub room-entered : (b m : ℕ) (l : Ledger) (a : Account) (n : ℕ) → Room b l → b + 1 + n ≤ m → Room m (enteredOf l a n)
@@ -68,8 +81,8 @@ room-stepped b m l (Backward n) r t h = room-plus b m l backwardAt 1 r (omega ar
 
 room-timed-by : (last : Stamp) (b m : ℕ) (l : Ledger) (s : Stamp) → Room b l → b + 2 ^ 31 ≤ m → Room m (timedBy last l s)
 room-timed-by last b m l Absent r h = room-plus b m l untimedAt 1 r (omega arith)
-room-timed-by Absent b m l (At y) r h = room-up b m l r (omega arith)
-room-timed-by (At x) b m l (At y) r h = room-stepped b m l (stepOf x y) r (step-ticks x y) h
+room-timed-by Absent b m l (At y) r h = room-last m l (At y) (room-up b m l r (omega arith))
+room-timed-by (At x) b m l (At y) r h = room-last m (steppedOf l (stepOf x y)) (At y) (room-stepped b m l (stepOf x y) r (step-ticks x y) h)
 
 pub room-timed : (b m : ℕ) (l : Ledger) (s : Stamp) → Room b l → b + 2 ^ 31 ≤ m → Room m (timedOf l s)
 unfolding timedOf
@@ -92,12 +105,22 @@ room-ended b m l Nothing gone r n h = room-up b m l r (omega arith)
 room-ended b m l (Frame why) gone r n h = room-post b m l (Entry.Dropped why gone) r n h
 
 -- ---- what the code asks before it adds
-apart : (k : ℕ) → (k ≡ placeOf Account.UnderWay → ⊥) → Apart (countAt k) × Apart (bytesAt k)
-apart k p = ((λ e. p (omega arith), λ e. omega arith), (λ e. omega arith, λ e. p (omega arith)))
+place-below : (a : Account) → placeOf a < 11
+place-below Account.Delivered = omega arith
+place-below Account.Gap = omega arith
+place-below Account.Error = omega arith
+place-below Account.Clock = omega arith
+place-below Account.Long = omega arith
+place-below Account.Cut = omega arith
+place-below Account.Empty = omega arith
+place-below Account.UnderWay = omega arith
+place-below Account.Stray = omega arith
+place-below Account.Unreadable = omega arith
+place-below Account.Headers = omega arith
 
 -- an account other than the one under way has room
-pub entering : (b k : ℕ) (l : Ledger) (a : Account) (n : ℕ) → Room b l → (placeOf a ≡ placeOf Account.UnderWay → ⊥) → n ≤ k → Spare b l a × (n ≤ k)
-entering b k l a n r p h = (record { count = r (countAt (placeOf a)) (apart (placeOf a) p .0); bytes = r (bytesAt (placeOf a)) (apart (placeOf a) p .1) }, h)
+pub entering : (b c : ℕ) (l : Ledger) (a : Account) (n : ℕ) → Room b l → (placeOf a ≡ placeOf Account.UnderWay → ⊥) → n ≤ c → Spare b l (placeOf a) × (n ≤ c)
+entering b c l a n r p h = (r .accounts (placeOf a) (place-below a) p, h)
 
 pub not-under-way : (why : Reason) → placeOf (accountFor why) ≡ placeOf Account.UnderWay → ⊥
 not-under-way Gap e = omega arith
@@ -107,15 +130,15 @@ not-under-way Long e = omega arith
 not-under-way Cut e = omega arith
 not-under-way Empty e = omega arith
 
-pub adding : (b : ℕ) (l : Ledger) (i n : ℕ) → Room b l → bytesAt (placeOf Account.UnderWay) < i → i < 27 → b + n < 2 ^ 64 → (i < 27) × (getD (l .numbers) i 0 + n < 2 ^ 64)
-adding b l i n r p q h = (q, omega (arith, r i (λ e. omega arith, λ e. omega arith)))
+pub adding : (b : ℕ) (l : Ledger) (i n : ℕ) → Room b l → lostAt ≤ i → i ≤ untimedAt → b + n < 2 ^ 64 → (i < 27) × (getD (l .numbers) i 0 + n < 2 ^ 64)
+adding b l i n r p q h = (omega arith, omega (arith, r .others i p q))
 
 -- an account's count, and then its bytes
-pub entering-count : (b : ℕ) (l : Ledger) (a : Account) (k : ℕ) → (k ≡ placeOf a) × (k < 11) → Spare b l a → b + 1 < 2 ^ 64 → (countAt k < 27) × (getD (l .numbers) (countAt k) 0 + 1 < 2 ^ 64)
+pub entering-count : (b : ℕ) (l : Ledger) (a : Account) (k : ℕ) → (k ≡ placeOf a) × (k < 11) → Spare b l (placeOf a) → b + 1 < 2 ^ 64 → (countAt k < 27) × (getD (l .numbers) (countAt k) 0 + 1 < 2 ^ 64)
 entering-count b l a k e s h = (omega arith, let q : getD (l .numbers) (countAt k) 0 ≤ b = rw (e .0) (s .count) in omega arith)
 
 pub entering-bytes :
-    (b : ℕ) (l m : Ledger) (a : Account) (k n : ℕ) → m ≡ plusOf l (countAt k) 1 → (k ≡ placeOf a) × (k < 11) → Spare b l a → b + n < 2 ^ 64 →
+    (b : ℕ) (l m : Ledger) (a : Account) (k n : ℕ) → m ≡ plusOf l (countAt k) 1 → (k ≡ placeOf a) × (k < 11) → Spare b l (placeOf a) → b + n < 2 ^ 64 →
     (bytesAt k < 27) × (getD (m .numbers) (bytesAt k) 0 + n < 2 ^ 64)
 entering-bytes b l m a k n p e s h = (
   omega arith,

@@ -115,7 +115,7 @@ impl Ledger {
 
     // One more in an account, of n bytes.
     fn entered(self, a: Account, n: u64) -> Self
-        requires { ⌜ (Spare (2 ^ 63 + 2 ^ 60) self a) × (n ≤ 2 ^ 50) ⌝ }
+        requires { ⌜ (Spare (2 ^ 63 + 2 ^ 60) self (placeOf a)) × (n ≤ 2 ^ 50) ⌝ }
         ensures { λ r. ⌜ r ≡ enteredOf self a n ⌝ }
     {
         let at = 2 * place(a);

@@ -1,5 +1,5 @@
 use Rattle.ledger.specs.declared.Account.{Account}
-use Rattle.ledger.specs.Ledger.{postOf}
+use Rattle.ledger.specs.Ledger.{accountFor, postOf}
 use Rattle.ledger.proofs.Rooms.{adding, entering, not-under-way, room-entered}
 use native.Mathlib.Omega.{arith}
 use borrow.Author.Needs.{needs}
@@ -22,7 +22,7 @@ account-for-requires : tie.Need-account-for-requires
 account-for-requires c κs = search needs
 
 entered-requires-2 : tie.Need-entered-requires-2
-entered-requires-2 c κs = rw (c .account-for .ensures) (entering _ _ _ _ _ (c .before .before .before .before .pre .0) (not-under-way (c .before .before .e2 .given .0 .0)) (rw (c .before .before .e2 .given .1) at (c .before .before .before .before .pre .2)))
+entered-requires-2 c κs = rw (c .account-for .ensures) (entering _ _ _ (accountFor (c .before .before .e2 .given .0 .0)) _ (c .before .before .before .before .pre .0) (not-under-way (c .before .before .e2 .given .0 .0)) (rw (c .before .before .e2 .given .1) at (c .before .before .before .before .pre .2)))
 
 enum-known-e-3 : tie.Need-enum-known-e-3
 enum-known-e-3 c = search needs
