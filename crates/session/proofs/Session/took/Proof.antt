@@ -1,69 +1,54 @@
+use Rattle.session.proofs.Calls.{took-idle, took-unreadable, took-readable, header-within}
+use Rattle.session.proofs.Ready.{ready-able}
+use Rattle.ledger.proofs.Rooms.{room-up}
+use denote.Ref.{now}
+use mathlib.Core.List.{[]}
+use native.Mathlib.Omega.{arith}
 use borrow.Author.Needs.{needs}
 use Rattle.session.proofs.Session.took.Statement.{statement}
 use Rattle.session.proofs.Session.took.Tie as tie
-use Rattle.session.proofs.Session.took.Reads as reads
-use Rattle.session.proofs.Session.took.Lts as lts
-use Rattle.frames.proofs.Track.spoilt.Reads as spoilt-reads
-use Rattle.ledger.proofs.Ledger.post.Reads as post-reads
-use Rattle.payload.proofs.read.Reads as read-reads
-use Rattle.session.proofs.Session.counted.Reads as counted-reads
-use Rattle.session.proofs.Session.read.Reads as Session-read-reads
 
--- src/lib.rt:177:13
 read-requires : tie.Need-read-requires
 read-requires c κs = search needs
 
--- src/lib.rt:180:37
 enum-told : tie.Need-enum-told
 enum-told c = search needs
 
--- src/lib.rt:180:21
 post-requires : tie.Need-post-requires
-post-requires c κs = search needs
+post-requires c κs = let s = c .before .before .before .before .before .before .before .before in (room-up _ _ (s .args .self .ledger) (ready-able (s .args .self) (s .pre .0) .room) (omega arith), tt, omega arith)
 
--- src/lib.rt:182:30
 counted-requires : tie.Need-counted-requires
 counted-requires c κs = search needs
 
--- src/lib.rt:189:33
 enum-known-reading : tie.Need-enum-known-reading
 enum-known-reading c = search needs
 
--- src/lib.rt:190:21
 post-requires-2 : tie.Need-post-requires-2
-post-requires-2 c κs = search needs
+post-requires-2 c κs = let s = c .before .before .before .before .before .before .before .before .before in (room-up _ _ (s .args .self .ledger) (ready-able (s .args .self) (s .pre .0) .room) (omega arith), tt, omega (arith, s .pre .2))
 
--- src/lib.rt:192:43
 spoilt-requires : tie.Need-spoilt-requires
 spoilt-requires c κs = search needs
 
--- src/lib.rt:192:30
 counted-requires-2 : tie.Need-counted-requires-2
 counted-requires-2 c κs = search needs
 
--- src/lib.rt:199:31
 enum-known-reading-2 : tie.Need-enum-known-reading-2
 enum-known-reading-2 c = search needs
 
--- src/lib.rt:199:37
 read-requires-2 : tie.Need-read-requires-2
-read-requires-2 c κs = search needs
+read-requires-2 c κs = let s = c .before .before .before .before .before .before .before .before .before .before in (s .pre .0, s .pre .1, s .pre .2, header-within (s .args .self) [] (now (s .args .t)) _ _ (c .before .before .before .before .read .ensures) (c .before .before .reading2 .given .1))
 
--- src/lib.rt:169:5
 returns : tie.Need-returns
-returns c = ?
+returns c = let s = c .before .before .before .before .before .before .before .before .before .before in took-idle (s .args .self) (now (s .args .buffer)) (now (s .args .t)) _ _ _ (c .before .before .before .before .read .ensures) (c .before .before .enum-told .given .1) (c .before .post .ensures) (c .counted .ensures)
 
--- src/lib.rt:169:5
 returns-2 : tie.Need-returns-2
-returns-2 c = ?
+returns-2 c = let s = c .before .before .before .before .before .before .before .before .before .before .before .before in took-unreadable (s .args .self) (now (s .args .buffer)) (now (s .args .t)) _ _ _ _ _ (c .before .before .before .before .before .before .read .ensures) (c .before .before .before .before .reading .given .1) (c .before .before .post2 .ensures) (c .before .spoilt .ensures) (c .counted2 .ensures)
 
--- src/lib.rt:169:5
 same-length : tie.Need-same-length
 same-length c = search needs
 
--- src/lib.rt:169:5
 returns-3 : tie.Need-returns-3
-returns-3 c = ?
+returns-3 c = let s = c .before .before .before .before .before .before .before .before .before .before .before .before .before in took-readable (s .args .self) (now (s .args .buffer)) (now (s .args .t)) _ _ _ _ (c .before .before .before .before .before .before .before .read .ensures) (c .before .before .before .before .before .reading2 .given .1) (c .before .before .read2 .ensures .0) (c .before .before .read2 .ensures .1)
 
 pub took-spec : {M : Type 1} → statement M
 took-spec =

@@ -1,70 +1,61 @@
+use Prim.Native.Nat.{ℕ, _*_, _-_, _≤_, _<_}
+use mathlib.Core.Path.{_≡_, refl}
+use mathlib.Core.Bool.{false}
+use native.Mathlib.Omega.{arith}
+use borrow.Author.Count.{below-more}
+use Rattle.session.specs.Refusals.{accountBroken}
+use Rattle.session.proofs.Checks.{count-over, bytes-over, account-within, accounts-within}
 use borrow.Author.Needs.{needs}
 use Rattle.session.proofs.check.accounts_broken.Statement.{statement}
 use Rattle.session.proofs.check.accounts_broken.Tie as tie
-use Rattle.session.proofs.check.accounts_broken.Reads as reads
-use Rattle.session.proofs.check.accounts_broken.Lts as lts
 
 abbrev Inv-loop : tie.InvT-loop
-Inv-loop n l most k₀ k = ?
+Inv-loop n l most k₀ k = (k ≤ 11) × (most ≡ 65536 * n) × ((j : ℕ) → j < k → accountBroken l n j ≡ false)
 
 abbrev μ-loop : tie.MeasureT-loop
-μ-loop n l most k₀ k = ?
+μ-loop n l most k₀ k = 11 - k
 
--- src/check.rt:63:16
 mul-most : tie.Need-mul-most Inv-loop μ-loop
 mul-most c = search needs
 
--- src/check.rt:65:5
 loop-holds : tie.Need-loop-holds Inv-loop μ-loop
-loop-holds c = ?
+loop-holds c = (omega arith, refl, λ j h. absurd (omega arith))
 
--- src/check.rt:66:18
 mul-at : tie.Need-mul-at Inv-loop μ-loop
 mul-at c = search needs
 
--- src/check.rt:67:16
 mul-if1 : tie.Need-mul-if1 Inv-loop μ-loop
 mul-if1 c = search needs
 
--- src/check.rt:67:16
 element-copy-out-if1 : tie.Need-element-copy-out-if1 Inv-loop μ-loop
 element-copy-out-if1 c = search needs
 
--- src/check.rt:68:13
 returns : tie.Need-returns Inv-loop μ-loop
-returns c = ?
+returns c = search count-over
 
--- src/check.rt:70:29
 add-if2 : tie.Need-add-if2 Inv-loop μ-loop
 add-if2 c = search needs
 
--- src/check.rt:70:19
 mul-if2 : tie.Need-mul-if2 Inv-loop μ-loop
 mul-if2 c = search needs
 
--- src/check.rt:70:19
 element-copy-out-if2 : tie.Need-element-copy-out-if2 Inv-loop μ-loop
 element-copy-out-if2 c = search needs
 
--- src/check.rt:71:13
 returns-2 : tie.Need-returns-2 Inv-loop μ-loop
-returns-2 c = ?
+returns-2 c = search bytes-over
 
--- src/check.rt:73:9
 add-k : tie.Need-add-k Inv-loop μ-loop
 add-k c = search needs
 
--- src/check.rt:65:5
 loop-less : tie.Need-loop-less Inv-loop μ-loop
 loop-less c = search needs
 
--- src/check.rt:65:5
 loop-again : tie.Need-loop-again Inv-loop μ-loop
-loop-again c = ?
+loop-again c = (omega arith, refl, below-more _ _ (c .before .before .before .before .before .loop .inv .2) (account-within (c .before .before .before .before .before .before .args .t1) (c .before .before .before .before .before .before .args .n) (c .before .before .before .before .before .loop .k) (omega arith) (omega arith)))
 
--- src/check.rt:59:1
 returns-3 : tie.Need-returns-3 Inv-loop μ-loop
-returns-3 c = ?
+returns-3 c = accounts-within _ _ (λ k h. c .before .loop .inv .2 k (omega arith))
 
 pub accounts-broken-spec : {M : Type 1} → statement M
 accounts-broken-spec =
