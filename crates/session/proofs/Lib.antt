@@ -2,3 +2,4 @@
 pub mod Checks
 pub mod Ready
 pub mod Calls
+pub mod Refused

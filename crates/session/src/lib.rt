@@ -1,5 +1,5 @@
 // A session: takes transfers in turn, hands out whole frames and keeps the ledger. Every call takes the session by value and gives the new one back.
-pub mod check;
+mod check;
 
 ghost use mathlib.Core.Path.{_≡_};
 ghost use Prim.Native.Nat.{_-_, _+_, _<_, _≤_};
