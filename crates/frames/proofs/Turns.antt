@@ -1,6 +1,6 @@
 -- What a call makes of the frame under way, one law for each way through the code.
-use Prim.Native.Nat.{ℕ, _+_, _≤_, _<_, _^_}
-use mathlib.Core.Path.{_≡_, refl, sym, _∙_}
+use Prim.Native.Nat.{ℕ, _+_, _<_, _^_}
+use mathlib.Core.Path.{_≡_, refl}
 use mathlib.Core.Bool.{Bool, true, false}
 use native.Mathlib.Omega.{arith}
 use lib.Dec.{eqb}
@@ -20,8 +20,7 @@ use Rattle.frames.specs.declared.Phase.the-variants.{Fresh, Under, Past}
 use Rattle.frames.specs.declared.Track.{Track}
 use Rattle.frames.specs.declared.Ended.the-variants.{Nothing, Frame}
 use Rattle.frames.specs.declared.Turn.{Turn}
-use Rattle.frames.specs.declared.Shut.{Shut}
-use Rattle.frames.specs.Track.{whyOf, sameOf, begunOf, joinTurn, strayTurn, turnBy, turnOf, completeOf, closedBy, closedOf, Roomy}
+use Rattle.frames.specs.Track.{whyOf, sameOf, begunOf, joinTurn, strayTurn, turnOf, completeOf, closedBy, closedOf, Roomy}
 
 -- ---- a readable transfer
 module _ (o : Opening) (t : Track) (h : Header) (n : ℕ) (x : Turn) where

@@ -1,12 +1,11 @@
 -- What a transfer is read as: idle, unreadable by the first broken rule of 61 to 66, or readable, each exactly when.
 use Prim.Native.Nat.{ℕ, zero, suc, _+_, _≤_, _<_}
-use mathlib.Core.Path.{_≡_, refl, sym, _∙_, ap}
+use mathlib.Core.Path.{_≡_, refl, sym, _∙_}
 use mathlib.Core.List.{List, [], _∷_}
 use mathlib.Core.Bool.{Bool, true, false, not, true≢false}
 use mathlib.Core.Logic.{_↔_}
 use native.Mathlib.Omega.{arith}
 use lib.ListN.{length, getD}
-use lib.Dec.{ltb, eqb}
 use borrow.Author.Tests.{ltb-false}
 use Rattle.rules.specs.Pick.{pick}
 use Rattle.rules.specs.Numbered.{firstFrom, Up, Down}
@@ -14,7 +13,6 @@ use Rattle.rules.proofs.Numbered.{up-above, none-up, none-first, first-zero, fi
 use Rattle.payload.specs.Transfer.{flagOf, flagsAt, needOf, transferFlags, headerOf, sorted, readingOf}
 use Rattle.payload.specs.declared.Opening.{Opening}
 use Rattle.payload.specs.declared.Header.{Header}
-use Rattle.payload.specs.declared.Reading.{Reading}
 use Rattle.payload.specs.declared.Reading.the-variants.{Idle, Unreadable, Readable}
 
 -- ---- the rules that a transfer breaks

@@ -1,15 +1,14 @@
 -- What each call answers, one law for each way through the code.
 use Prim.Native.Nat.{ℕ, zero, suc, _+_, _-_, _≤_, _<_, _^_}
-use mathlib.Core.Path.{_≡_, refl, sym, ap, _∙_}
-use mathlib.Core.List.{List, [], _∷_}
-use mathlib.Core.Bool.{Bool, true, false}
+use mathlib.Core.Path.{_≡_, refl, sym, _∙_}
+use mathlib.Core.List.{List}
+use mathlib.Core.Bool.{true, false}
 use native.Mathlib.Omega.{arith}
 use native.Mathlib.Nat.{add-sub-cancel-left}
-use lib.Dec.{ltb, eqb}
 use lib.ListN.{length, take, drop, length-drop}
 use lib.Seq.{paste, length-take-le, take-length}
 use borrow.Author.Tests.{ltb-false, eqb-false}
-use Rattle.rules.specs.Numbered.{Row, firstFrom, firstRow, NoneOf}
+use Rattle.rules.specs.Numbered.{firstFrom, firstRow, NoneOf}
 use Rattle.rules.proofs.Rows.{row-none}
 use Rattle.payload.specs.declared.Header.{Header}
 use Rattle.payload.specs.declared.Reading.{Reading}
@@ -20,21 +19,19 @@ use Rattle.frames.specs.declared.Track.{Track}
 use Rattle.frames.specs.declared.Turn.{Turn}
 use Rattle.frames.specs.declared.Shut.{Shut}
 use Rattle.frames.specs.declared.Fate.{Fate}
-use Rattle.frames.specs.Track.{turnOf, spoiltOf, closedOf}
+use Rattle.frames.specs.Track.{spoiltOf, closedOf}
 use Rattle.ledger.specs.declared.Ledger.{Ledger}
 use Rattle.ledger.specs.declared.Entry.{Entry}
-use Rattle.ledger.specs.Ledger.{postOf, endedOf, answeredOf}
+use Rattle.ledger.specs.Ledger.{postOf, endedOf}
 use Rattle.session.specs.declared.Session.{Session}
 use Rattle.session.specs.declared.Start.{Start}
-use Rattle.session.specs.declared.Opened.{Opened}
 use Rattle.session.specs.declared.Outcome.{Outcome}
 use Rattle.session.specs.declared.Taken.{Taken}
 use Rattle.session.specs.declared.Report.{Report}
-use Rattle.session.specs.declared.Reported.{Reported}
 use Rattle.session.specs.declared.Closing.{Closing}
 use Rattle.session.specs.declared.Closed.{Closed}
 use Rattle.session.specs.Refusals.{openingFlags, recordBroken, closeRows, lostRows, takeRows, Ready}
-use Rattle.session.specs.Session.{fresh, noSession, openOf, countedOf, readOf, readBuffer, plainly, tookOf, tookBuffer, takeOf, bufferOf, missedOf, lostBy, lostOf, shutOf, closeBy, closeOf, openBy, takeBy, bufferBy}
+use Rattle.session.specs.Session.{fresh, noSession, openOf, countedOf, readOf, readBuffer, plainly, tookOf, tookBuffer, takeOf, bufferOf, lostBy, lostOf, closeBy, closeOf, openBy, takeBy, bufferBy}
 
 -- ---- a call that nothing refuses
 module _ (s : Session) where

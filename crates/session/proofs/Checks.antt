@@ -1,16 +1,13 @@
 -- What the tests of rule 50 and of the refusals after it say, one law for each way through the code.
-use Prim.Native.Nat.{ℕ, zero, suc, _+_, _*_, _≤_, _<_, _^_}
-use mathlib.Core.Path.{_≡_, refl, sym, ap, _∙_}
+use Prim.Native.Nat.{ℕ, zero, suc, _*_, _≤_, _<_}
+use mathlib.Core.Path.{_≡_, refl, sym, _∙_}
 use mathlib.Core.List.{List, [], _∷_, _++_}
-use mathlib.Core.Bool.{Bool, true, false, not, _||_, true≢false}
+use mathlib.Core.Bool.{Bool, true, false, _||_}
 use native.Mathlib.Omega.{arith}
 use lib.Dec.{ltb, eqb}
-use lib.ListN.{getD}
 use borrow.Author.Tests.{lt-ltb, le-ltb, eq-eqb, ne-eqb}
-use Rattle.rules.specs.Numbered.{Row, firstRow, anyBelow}
+use Rattle.rules.specs.Numbered.{Row, firstRow}
 use Rattle.rules.proofs.Rows.{Numbered, row-here, row-later, row-before, row-after, any-none, any-some}
-use Rattle.rules.proofs.Ladder.{said}
-use Rattle.frames.specs.declared.Fault.{Fault}
 use Rattle.frames.specs.declared.Phase.{Phase}
 use Rattle.frames.specs.declared.Phase.the-variants.{Fresh, Under, Past}
 use Rattle.frames.specs.declared.Run.{Run}

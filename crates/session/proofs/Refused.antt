@@ -1,8 +1,7 @@
 -- EXACTLY WHEN each call is refused, by which number, and what a refused call leaves as it was.
-use Prim.Native.Nat.{ℕ, zero, suc, _≤_, _<_}
-use mathlib.Core.Path.{_≡_, refl, sym, _∙_}
-use mathlib.Core.List.{List, [], _∷_}
-use mathlib.Core.Bool.{Bool, true, false}
+use Prim.Native.Nat.{ℕ, zero, suc, _<_}
+use mathlib.Core.Path.{_≡_, refl}
+use mathlib.Core.List.{List}
 use mathlib.Core.Logic.{_↔_}
 use native.Mathlib.Omega.{arith}
 use lib.ListN.{length}
@@ -73,16 +72,18 @@ module _ (s : Session) (t : List ℕ) where
   -- 50, 53, 52, 51, 55: k is given exactly when its row says so and no earlier one does
   pub take-refused-exactly : (room k : ℕ) → (takeOf s room t .outcome ≡ Outcome.Refused k) ↔ Given (takeRows s room (length t)) k
   unfolding takeOf
-  take-refused-exactly room k =
-      (λ e. to-given (takeRows s room (length t)) k (take-to (firstRow (takeRows s room (length t))) k e),
-      λ g. take-from (firstRow (takeRows s room (length t))) k (from-given (takeRows s room (length t)) k (take-numbered s room (length t)) g))
+  take-refused-exactly room k = (
+    λ e. to-given (takeRows s room (length t)) k (take-to (firstRow (takeRows s room (length t))) k e),
+    λ g. take-from (firstRow (takeRows s room (length t))) k (from-given (takeRows s room (length t)) k (take-numbered s room (length t)) g),
+  )
 
   -- taken exactly when no row is broken
   pub take-taken-exactly : (room : ℕ) → ((a : Answer) × (takeOf s room t .outcome ≡ Outcome.Taken a)) ↔ NoneOf (takeRows s room (length t))
   unfolding takeOf
-  take-taken-exactly room =
-      (λ p. row-none (takeRows s room (length t)) (take-numbered s room (length t)) (take-open (firstRow (takeRows s room (length t))) p),
-      λ n. rw (none-row (takeRows s room (length t)) n) (took-taken s t))
+  take-taken-exactly room = (
+    λ p. row-none (takeRows s room (length t)) (take-numbered s room (length t)) (take-open (firstRow (takeRows s room (length t))) p),
+    λ n. rw (none-row (takeRows s room (length t)) n) (took-taken s t),
+  )
 
   -- a refused call gives the session back as it was, and no byte of the buffer changes
   pub take-as-it-was : (buffer : List ℕ) (k : ℕ) → takeOf s (length buffer) t .outcome ≡ Outcome.Refused k → (takeOf s (length buffer) t .session ≡ s) × (bufferOf s buffer t ≡ buffer)
@@ -181,13 +182,15 @@ module _ (frame payload room : ℕ) where
   -- refused by k exactly when k is broken and none below it is
   pub open-refused-exactly : (k : ℕ) → (openOf frame payload room .start ≡ Start.Refused k) ↔ (Breaks k × ((j : ℕ) → j < k → Breaks j → ⊥))
   unfolding openOf
-  open-refused-exactly k =
-      (λ e. broken k (open-to (firstFrom 45 (openingFlags frame payload room)) k e),
-      λ p. open-from (firstFrom 45 (openingFlags frame payload room)) k
-      (up-first 45 (openingFlags frame payload room) k (p .0) (p .1), omega (arith, up-above 45 (openingFlags frame payload room) k (p .0))))
+  open-refused-exactly k = (
+    λ e. broken k (open-to (firstFrom 45 (openingFlags frame payload room)) k e),
+    λ p. open-from (firstFrom 45 (openingFlags frame payload room)) k
+        (up-first 45 (openingFlags frame payload room) k (p .0) (p .1), omega (arith, up-above 45 (openingFlags frame payload room) k (p .0))),
+  )
 
   pub open-open-exactly : (openOf frame payload room .start ≡ Start.Open) ↔ ((k : ℕ) → Breaks k → ⊥)
   unfolding openOf
-  open-open-exactly =
-      (λ e. none-up 45 (openingFlags frame payload room) (omega arith) (open-open (firstFrom 45 (openingFlags frame payload room)) e),
-      λ h. rw (none-first 45 (openingFlags frame payload room) h))
+  open-open-exactly = (
+    λ e. none-up 45 (openingFlags frame payload room) (omega arith) (open-open (firstFrom 45 (openingFlags frame payload room)) e),
+    λ h. rw (none-first 45 (openingFlags frame payload room) h),
+  )

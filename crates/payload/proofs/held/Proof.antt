@@ -1,4 +1,3 @@
-use mathlib.Core.Path.{_≡_}
 use borrow.Author.Needs.{needs}
 use Rattle.rules.specs.Pick.{picks}
 use Rattle.payload.proofs.held.Statement.{statement}
