@@ -44,7 +44,8 @@ module _ (o : Opening) (r : Run) (h : Header) (n : ℕ) where
   -- a frame without fault had none before, and is no longer than the frame size
   pub sound-before : faultOf o r h n ≡ Sound → (r .fault ≡ Sound) × (r .bytes + n ≤ o .frame)
   sound-before e =
-      let l = first-sound (firstOf (firstOf (r .fault) (h .error) Error) (clashOf (r .stamp) (h .stamp)) Clock) (ltb (o .frame) (r .bytes + n)) Long e in
+      let l = first-sound (firstOf (firstOf (r .fault) (h .error) Error) (clashOf (r .stamp) (h .stamp)) Clock)
+      (ltb (o .frame) (r .bytes + n)) Long e in
       let k = first-sound (firstOf (r .fault) (h .error) Error) (clashOf (r .stamp) (h .stamp)) Clock (l .0) in
       (first-sound (r .fault) (h .error) Error (k .0) .0, ltb-false (o .frame) (r .bytes + n) (l .1))
 
@@ -110,7 +111,8 @@ no-more Sound n = omega arith
 no-more (Bad w) n = omega arith
 
 module _ (o : Opening) (h : Header) (n : ℕ) where
-  joins : (p : Phase) (r : Run) (e : Ended) (gone : ℕ) → Filled o r → r .bytes ≤ underBytes p → gone ≤ underBytes p → Sits o p n (joinTurn o r h n e gone)
+  joins : (p : Phase) (r : Run) (e : Ended) (gone : ℕ) → Filled o r → r .bytes ≤ underBytes p → gone ≤ underBytes p →
+      Sits o p n (joinTurn o r h n e gone)
   joins p r e gone q l g =
       record {
         short = no-more (faultOf o r h n) n;
@@ -132,7 +134,8 @@ module _ (o : Opening) (h : Header) (n : ℕ) where
   sits (Under r) gap q =
       pick-all (Sits o (Under r) n) (sameOf (r .fid) (h .fid)) _ _ (joins (Under r) r Nothing 0 q (omega arith) (omega arith))
       (begins (Under r) gap (Frame (whyOf (r .fault) Cut)) (r .bytes) (omega arith))
-  sits (Past fid) gap q = pick-all (Sits o (Past fid) n) (sameOf fid (h .fid)) _ _ (strays (Past fid) fid) (begins (Past fid) gap Nothing 0 (omega arith))
+  sits (Past fid) gap q = pick-all (Sits o (Past fid) n) (sameOf fid (h .fid)) _ _ (strays (Past fid) fid)
+      (begins (Past fid) gap Nothing 0 (omega arith))
 
   pub turn-sits : (t : Track) → FilledBy o (t .phase) → Sits o (t .phase) n (turnOf o t h n)
   unfolding turnOf

@@ -29,7 +29,8 @@ module _ (o : Opening) (t : Track) (h : Header) (n : ℕ) (x : Turn) where
   turn-fresh b p e q = rw p (rw e at q)
 
   -- the frame goes on
-  pub turn-on : (r : Run) (s : Bool) → t .phase ≡ Under r → s ≡ sameOf (r .fid) (h .fid) → s ≡ true → x ≡ joinTurn o r h n Nothing 0 → x ≡ turnOf o t h n
+  pub turn-on : (r : Run) (s : Bool) → t .phase ≡ Under r → s ≡ sameOf (r .fid) (h .fid) → s ≡ true → x ≡ joinTurn o r h n Nothing 0 →
+      x ≡ turnOf o t h n
   unfolding turnOf
   turn-on r s p e y q = rw p (said-yes s (sameOf (r .fid) (h .fid)) x _ _ e y q)
 
@@ -44,7 +45,8 @@ module _ (o : Opening) (t : Track) (h : Header) (n : ℕ) (x : Turn) where
   unfolding turnOf
   turn-stray fid s p e y q = rw p (said-yes s (sameOf fid (h .fid)) x _ _ e y q)
 
-  pub turn-past : (fid s : Bool) (b : Run) → t .phase ≡ Past fid → s ≡ sameOf fid (h .fid) → s ≡ false → b ≡ begunOf (t .gap) (h .fid) → x ≡ joinTurn o b h n Nothing 0 → x ≡ turnOf o t h n
+  pub turn-past : (fid s : Bool) (b : Run) → t .phase ≡ Past fid → s ≡ sameOf fid (h .fid) → s ≡ false → b ≡ begunOf (t .gap) (h .fid) →
+      x ≡ joinTurn o b h n Nothing 0 → x ≡ turnOf o t h n
   unfolding turnOf
   turn-past fid s b p e y g q = rw p (said-no s (sameOf fid (h .fid)) x _ _ e y (rw g at q))
 
@@ -60,10 +62,12 @@ module _ (f : Fault) (n : ℕ) (s : Stamp) where
   complete-whole e z = rw e (no (eqb n 0) _ _ _ (ne-eqb n 0 z) refl)
 
 -- ---- close
-closed-by-fresh : (p : Phase) (gap : Bool) → p ≡ Fresh → record { track = record { phase = p; gap = gap }; ended = Nothing; gone = 0 } ≡ closedBy p gap
+closed-by-fresh : (p : Phase) (gap : Bool) → p ≡ Fresh →
+    record { track = record { phase = p; gap = gap }; ended = Nothing; gone = 0 } ≡ closedBy p gap
 closed-by-fresh p gap e = rw e
 
-closed-by-past : (p : Phase) (gap fid : Bool) → p ≡ Past fid → record { track = record { phase = p; gap = gap }; ended = Nothing; gone = 0 } ≡ closedBy p gap
+closed-by-past : (p : Phase) (gap fid : Bool) → p ≡ Past fid →
+    record { track = record { phase = p; gap = gap }; ended = Nothing; gone = 0 } ≡ closedBy p gap
 closed-by-past p gap fid e = rw e
 
 pub closed-fresh : (t : Track) → t .phase ≡ Fresh → record { track = t; ended = Nothing; gone = 0 } ≡ closedOf t

@@ -90,7 +90,8 @@ room-timed b m l s r h = room-timed-by (l .last) b m l s r h
 pub room-post : (b m : ℕ) (l : Ledger) (e : Entry) → Room b l → entryBytes e ≤ 2 ^ 50 → b + 2 ^ 51 ≤ m → Room m (postOf l e)
 unfolding postOf
 room-post b m l (Entry.Delivered d) r n h =
-    room-timed (b + 1 + d .len) m (enteredOf l Account.Delivered (d .len)) (d .stamp) (room-entered b (b + 1 + d .len) l Account.Delivered (d .len) r (omega arith)) (omega arith)
+    room-timed (b + 1 + d .len) m (enteredOf l Account.Delivered (d .len)) (d .stamp)
+    (room-entered b (b + 1 + d .len) l Account.Delivered (d .len) r (omega arith)) (omega arith)
 room-post b m l (Entry.Dropped why k) r n h = room-entered b m l (accountFor why) k r (omega arith)
 room-post b m l (Entry.UnderWay k) r n h = room-entered b m l Account.UnderWay k r (omega arith)
 room-post b m l (Entry.Stray k) r n h = room-entered b m l Account.Stray k r (omega arith)
@@ -118,7 +119,8 @@ place-below Account.Unreadable = omega arith
 place-below Account.Headers = omega arith
 
 -- an account other than the one under way has room
-pub entering : (b c : ℕ) (l : Ledger) (a : Account) (n : ℕ) → Room b l → (placeOf a ≡ placeOf Account.UnderWay → ⊥) → n ≤ c → Spare b l (placeOf a) × (n ≤ c)
+pub entering : (b c : ℕ) (l : Ledger) (a : Account) (n : ℕ) → Room b l → (placeOf a ≡ placeOf Account.UnderWay → ⊥) → n ≤ c →
+    Spare b l (placeOf a) × (n ≤ c)
 entering b c l a n r p h = (r .accounts (placeOf a) (place-below a) p, h)
 
 pub not-under-way : (why : Reason) → placeOf (accountFor why) ≡ placeOf Account.UnderWay → ⊥
@@ -133,11 +135,13 @@ pub adding : (b : ℕ) (l : Ledger) (i n : ℕ) → Room b l → lostAt ≤ i �
 adding b l i n r p q h = (omega arith, omega (arith, r .others i p q))
 
 -- an account's count, and then its bytes
-pub entering-count : (b : ℕ) (l : Ledger) (a : Account) (k : ℕ) → (k ≡ placeOf a) × (k < 11) → Spare b l (placeOf a) → b + 1 < 2 ^ 64 → (countAt k < 27) × (getD (l .numbers) (countAt k) 0 + 1 < 2 ^ 64)
+pub entering-count : (b : ℕ) (l : Ledger) (a : Account) (k : ℕ) → (k ≡ placeOf a) × (k < 11) → Spare b l (placeOf a) → b + 1 < 2 ^ 64 →
+    (countAt k < 27) × (getD (l .numbers) (countAt k) 0 + 1 < 2 ^ 64)
 entering-count b l a k e s h = (omega arith, let q : getD (l .numbers) (countAt k) 0 ≤ b = rw (e .0) (s .count) in omega arith)
 
 pub entering-bytes :
-    (b : ℕ) (l m : Ledger) (a : Account) (k n : ℕ) → m ≡ plusOf l (countAt k) 1 → (k ≡ placeOf a) × (k < 11) → Spare b l (placeOf a) → b + n < 2 ^ 64 →
+    (b : ℕ) (l m : Ledger) (a : Account) (k n : ℕ) → m ≡ plusOf l (countAt k) 1 → (k ≡ placeOf a) × (k < 11) → Spare b l (placeOf a) →
+    b + n < 2 ^ 64 →
     (bytesAt k < 27) × (getD (m .numbers) (bytesAt k) 0 + n < 2 ^ 64)
 entering-bytes b l m a k n p e s h = (
   omega arith,

@@ -50,7 +50,8 @@ module _ (o : Opening) (t : List ℕ) where
   unreadable-here zero l e z = absurd (z refl)
   unreadable-here (suc n) l e z = rw (sorts o t (omega arith), ← e)
 
-  pub readable-here : (n : ℕ) (h : Header) → (length t ≡ 0 → ⊥) → n ≡ firstFrom 61 (transferFlags o t) → n ≡ 0 → h ≡ headerOf t → Readable h ≡ readingOf o t
+  pub readable-here : (n : ℕ) (h : Header) → (length t ≡ 0 → ⊥) → n ≡ firstFrom 61 (transferFlags o t) → n ≡ 0 → h ≡ headerOf t →
+      Readable h ≡ readingOf o t
   readable-here n h l e z g = rw (sorts o t (omega arith), ← e, z, g)
 
 -- ---- a transfer that breaks no rule
@@ -86,7 +87,8 @@ need-stamp flags p = rw p (go (pick (flagOf flags 3) 6 0))
     go : (n : ℕ) → 6 ≤ 2 + 4 + n
     go n = omega arith
 
-pub header-room : (o : Opening) (t : List ℕ) (n : ℕ) → n ≡ firstFrom 61 (transferFlags o t) → n ≡ 0 → (2 ≤ length t) × (flagOf (flagsAt t) 2 ≡ true → 6 ≤ length t)
+pub header-room : (o : Opening) (t : List ℕ) (n : ℕ) → n ≡ firstFrom 61 (transferFlags o t) → n ≡ 0 →
+    (2 ≤ length t) × (flagOf (flagsAt t) 2 ≡ true → 6 ≤ length t)
 header-room o t n e z =
     let f = fits o t (first-zero 61 _ (omega arith) (sym e ∙ z)) in
     (omega arith, λ p. let s = need-stamp (flagsAt t) p in omega arith)
@@ -113,7 +115,10 @@ is-header (suc n) t h e = let z : _≡_ {A = ℕ} 0 1 = cc in absurd (omega arit
 pub idle-exactly : (o : Opening) (t : List ℕ) → (readingOf o t ≡ Idle) ↔ (t ≡ [])
 unfolding readingOf
 idle-exactly o [] = (λ e. refl, λ e. refl)
-idle-exactly o (b ∷ t) = (λ e. absurd (not-idle (firstFrom 61 (transferFlags o (b ∷ t))) (b ∷ t) e), λ e. let z : _≡_ {A = ℕ} 0 1 = cc in absurd (omega arith))
+idle-exactly o (b ∷ t) = (
+  λ e. absurd (not-idle (firstFrom 61 (transferFlags o (b ∷ t))) (b ∷ t) e),
+  λ e. let z : _≡_ {A = ℕ} 0 1 = cc in absurd (omega arith),
+)
 
 module _ (o : Opening) where
   to-broken : (t : List ℕ) (k : ℕ) → readingOf o t ≡ Unreadable k → FirstBroken o t k

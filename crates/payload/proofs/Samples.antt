@@ -34,6 +34,7 @@ unfolding readingOf headerOf stampOf transferFlags needOf flagOf pick firstFrom
 header-short-of-clock a b c d e f g h i = refl
 
 -- 0C 8C and ten bytes: readable, with the stamp of its bytes 2 to 5
-pub header-with-clock : (a b c d e f g h i j : ℕ) → readingOf opening (0x0C ∷ 0x8C ∷ a ∷ b ∷ c ∷ d ∷ e ∷ f ∷ g ∷ h ∷ i ∷ j ∷ []) ≡ Readable (record { len = 12; fid = false; eof = false; error = false; stamp = At (a + b * 256 + (c + d * 256) * 65536) })
+pub header-with-clock : (a b c d e f g h i j : ℕ) → readingOf opening (0x0C ∷ 0x8C ∷ a ∷ b ∷ c ∷ d ∷ e ∷ f ∷ g ∷ h ∷ i ∷ j ∷ []) ≡ Readable
+    (record { len = 12; fid = false; eof = false; error = false; stamp = At (a + b * 256 + (c + d * 256) * 65536) })
 unfolding readingOf headerOf stampOf transferFlags needOf flagOf pick firstFrom
 header-with-clock a b c d e f g h i j = refl

@@ -72,7 +72,8 @@ module _ (frame payload room n : ℕ) (x : Session) (e : n ≡ firstFrom 45 (ope
       go zero h = absurd (h refl)
       go (suc m) h = refl
 
-  pub open-open : n ≡ 0 → x ≡ fresh (record { frame = frame; payload = payload }) → record { session = x; start = Start.Open } ≡ openOf frame payload room
+  pub open-open : n ≡ 0 → x ≡ fresh (record { frame = frame; payload = payload }) →
+      record { session = x; start = Start.Open } ≡ openOf frame payload room
   unfolding openOf
   open-open z q = rw (← e, z, q)
 
@@ -83,11 +84,13 @@ part-length t from k h = rw (add-sub-cancel-left from k) (length-take-le k (drop
 
 pub put-buffer :
     (x y : Turn) (from : ℕ) (buffer t : List ℕ) → x ≡ y → from + x .len ≤ length t →
-    paste buffer (x .at) (take (from + x .len - from) (drop from t)) (length (take (from + x .len - from) (drop from t))) ≡ paste buffer (y .at) (drop from t) (y .len)
+    paste buffer (x .at) (take (from + x .len - from) (drop from t)) (length (take (from + x .len - from) (drop from t))) ≡ paste buffer (y .at)
+    (drop from t) (y .len)
 put-buffer x y from buffer t e k = let q = part-length t from (x .len) k in rw (← e, take-length, q, add-sub-cancel-left)
 
 module _ (s : Session) (buffer t : List ℕ) where
-  pub took-idle : (r : Reading) (l : Ledger) (x : Session) → r ≡ readingOf (s .opening) t → r ≡ Idle → l ≡ postOf (s .ledger) Entry.Idle → x ≡ countedOf s (s .track) l →
+  pub took-idle : (r : Reading) (l : Ledger) (x : Session) → r ≡ readingOf (s .opening) t → r ≡ Idle → l ≡ postOf (s .ledger) Entry.Idle →
+      x ≡ countedOf s (s .track) l →
       (record { session = x; outcome = Outcome.Taken (plainly Fate.Idle) } ≡ tookOf s t) × (buffer ≡ tookBuffer s buffer t)
   unfolding tookOf tookBuffer
   took-idle r l x e i p q = (rw (← e, i, q, p), rw (← e, i))
@@ -107,7 +110,8 @@ module _ (s : Session) (buffer t : List ℕ) where
   header-within r h e i = readable-fits (s .opening) t h (sym e ∙ i) .inside
 
   module _ (n : ℕ) (e : n ≡ firstRow (takeRows s (length buffer) (length t))) where
-    pub take-refused : (n ≡ 0 → ⊥) → (record { session = s; outcome = Outcome.Refused n } ≡ takeOf s (length buffer) t) × (buffer ≡ bufferOf s buffer t)
+    pub take-refused : (n ≡ 0 → ⊥) → (record { session = s; outcome = Outcome.Refused n } ≡ takeOf s (length buffer) t) ×
+        (buffer ≡ bufferOf s buffer t)
     unfolding takeOf bufferOf
     take-refused h = rw (← e) (go n h)
       where
@@ -115,7 +119,8 @@ module _ (s : Session) (buffer t : List ℕ) where
         go zero h = absurd (h refl)
         go (suc m) h = (refl, refl)
 
-    pub take-taken : (x : Taken) (b : List ℕ) → n ≡ 0 → x ≡ tookOf s t → b ≡ tookBuffer s buffer t → (x ≡ takeOf s (length buffer) t) × (b ≡ bufferOf s buffer t)
+    pub take-taken : (x : Taken) (b : List ℕ) → n ≡ 0 → x ≡ tookOf s t → b ≡ tookBuffer s buffer t →
+        (x ≡ takeOf s (length buffer) t) × (b ≡ bufferOf s buffer t)
     unfolding takeOf bufferOf
     take-taken x b z p q = (rw (← e, z) p, rw (← e, z) q)
 
@@ -129,7 +134,8 @@ module _ (s : Session) (n : ℕ) (e : n ≡ firstRow (lostRows s)) where
       go zero h = absurd (h refl)
       go (suc m) h = refl
 
-  pub lost-noted : (l : Ledger) (w : Track) (x : Session) → n ≡ 0 → l ≡ postOf (s .ledger) Entry.Lost → w ≡ spoiltOf (s .track) → x ≡ countedOf s w l →
+  pub lost-noted : (l : Ledger) (w : Track) (x : Session) → n ≡ 0 → l ≡ postOf (s .ledger) Entry.Lost → w ≡ spoiltOf (s .track) →
+      x ≡ countedOf s w l →
       record { session = x; report = Report.Noted } ≡ lostOf s
   unfolding lostOf
   lost-noted l w x z p v q = rw (← e, z, q, p, v)
@@ -145,6 +151,9 @@ module _ (s : Session) (n : ℕ) (e : n ≡ firstRow (closeRows s)) where
       go (suc m) h = refl
 
   pub close-closed : (w : Shut) (l : Ledger) → n ≡ 0 → w ≡ closedOf (s .track) → l ≡ endedOf (s .ledger) (w .ended) (w .gone) →
-      record { session = record { opening = s .opening; closed = true; taken = s .taken; track = w .track; ledger = l }; closing = Closing.Closed (w .ended) } ≡ closeOf s
+      record {
+        session = record { opening = s .opening; closed = true; taken = s .taken; track = w .track; ledger = l };
+        closing = Closing.Closed (w .ended);
+      } ≡ closeOf s
   unfolding closeOf
   close-closed w l z p q = rw (← e, z, q, p)

@@ -44,7 +44,8 @@ pub fill-over : (p : Phase) (frame : ℕ) (r : Run) → p ≡ Under r → frame 
 unfolding fillBroken
 fill-over p frame r e h = rw e (or-yes _ _ (lt-ltb frame (r .fill) h))
 
-pub fill-within : (p : Phase) (frame : ℕ) (r : Run) (x : Bool) → p ≡ Under r → r .fill ≤ frame → x ≡ unequal (r .fault) (r .fill) (r .bytes) → x ≡ fillBroken p frame
+pub fill-within : (p : Phase) (frame : ℕ) (r : Run) (x : Bool) → p ≡ Under r → r .fill ≤ frame → x ≡ unequal (r .fault) (r .fill) (r .bytes) →
+    x ≡ fillBroken p frame
 unfolding fillBroken
 fill-within p frame r x e h q = rw e (or-no _ _ x (le-ltb frame (r .fill) h) q)
 
@@ -56,7 +57,8 @@ module _ (l : Ledger) (n k : ℕ) where
 
   pub bytes-over : k < 11 → countOf l k ≤ n → 65536 * n < bytesOf l k → true ≡ accountsBroken l n
   unfolding accountsBroken
-  bytes-over h p q = sym (any-some 11 (accountBroken l n) k h (sym (or-no _ _ true (le-ltb n (countOf l k) p) (sym (lt-ltb (65536 * n) (bytesOf l k) q)))))
+  bytes-over h p q = sym (any-some 11 (accountBroken l n) k h
+      (sym (or-no _ _ true (le-ltb n (countOf l k) p) (sym (lt-ltb (65536 * n) (bytesOf l k) q)))))
 
   pub account-within : countOf l k ≤ n → bytesOf l k ≤ 65536 * n → accountBroken l n k ≡ false
   account-within p q = sym (or-no _ _ false (le-ltb n (countOf l k) p) (sym (le-ltb (65536 * n) (bytesOf l k) q)))
@@ -151,8 +153,10 @@ module _ (s : Session) where
 
     pub take-55 : n ≡ 0 → s .opening .frame ≤ room → 65536 < len → 55 ≡ firstRow (takeRows s room len)
     take-55 z p h =
-        take-next 55 z (row-no (row51 s room) (row55 len ∷ []) 55 (le-ltb room (s .opening .frame) p) (row-yes (row55 len) [] 55 refl (lt-ltb 65536 len h)))
+        take-next 55 z (row-no (row51 s room) (row55 len ∷ []) 55 (le-ltb room (s .opening .frame) p)
+        (row-yes (row55 len) [] 55 refl (lt-ltb 65536 len h)))
 
     pub take-none : n ≡ 0 → s .opening .frame ≤ room → len ≤ 65536 → 0 ≡ firstRow (takeRows s room len)
     take-none z p h =
-        take-next 0 z (row-no (row51 s room) (row55 len ∷ []) 0 (le-ltb room (s .opening .frame) p) (row-no (row55 len) [] 0 (le-ltb 65536 len h) refl))
+        take-next 0 z (row-no (row51 s room) (row55 len ∷ []) 0 (le-ltb room (s .opening .frame) p)
+        (row-no (row55 len) [] 0 (le-ltb 65536 len h) refl))

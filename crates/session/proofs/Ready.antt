@@ -30,7 +30,8 @@ shown-other l p i a b =
 shown-under : (l : Ledger) (p : Phase) → length (l .numbers) ≡ 27 → getD (shownOf l p .numbers) 15 0 ≡ underBytes p
 unfolding shownOf
 shown-under l p e =
-    getD-set-same (set (l .numbers) 14 (underCount p)) 15 (underBytes p) 0 (let q : length (set (l .numbers) 14 (underCount p)) ≡ length (l .numbers) = length-set (l .numbers) 14 (underCount p) in omega arith)
+    getD-set-same (set (l .numbers) 14 (underCount p)) 15 (underBytes p) 0
+    (let q : length (set (l .numbers) 14 (underCount p)) ≡ length (l .numbers) = length-set (l .numbers) 14 (underCount p) in omega arith)
 
 among : (P : ℕ → Type 0) → P lostAt → P idleAt → P ticksAt → P backwardAt → P untimedAt → (i : ℕ) → lostAt ≤ i → i ≤ untimedAt → P i
 among P a b c d e i h q = go (ℕ-discrete i lostAt) (ℕ-discrete i idleAt) (ℕ-discrete i ticksAt) (ℕ-discrete i backwardAt)
@@ -65,7 +66,8 @@ module _ (s : Session) (keeps : Keeps s) (places : length (s .ledger .numbers) �
 
   other : (i : ℕ) → lostAt ≤ i → i ≤ untimedAt → getD (s .ledger .numbers) i 0 ≤ 2 ^ 63
   other i h q =
-      let w = among (λ (j : ℕ). getD (ledgerOf s .numbers) j 0 ≤ 2 ^ 63) (omega (arith, keeps .lost)) (omega (arith, keeps .idle)) (omega (arith, keeps .ticks))
+      let w = among (λ (j : ℕ). getD (ledgerOf s .numbers) j 0 ≤ 2 ^ 63) (omega (arith, keeps .lost)) (omega (arith, keeps .idle))
+      (omega (arith, keeps .ticks))
       (omega (arith, keeps .backward)) (omega (arith, keeps .untimed)) i h q in
       omega (arith, w, as-posted i h)
 

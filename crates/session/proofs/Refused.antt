@@ -86,7 +86,8 @@ module _ (s : Session) (t : List ℕ) where
   )
 
   -- a refused call gives the session back as it was, and no byte of the buffer changes
-  pub take-as-it-was : (buffer : List ℕ) (k : ℕ) → takeOf s (length buffer) t .outcome ≡ Outcome.Refused k → (takeOf s (length buffer) t .session ≡ s) × (bufferOf s buffer t ≡ buffer)
+  pub take-as-it-was : (buffer : List ℕ) (k : ℕ) → takeOf s (length buffer) t .outcome ≡ Outcome.Refused k →
+      (takeOf s (length buffer) t .session ≡ s) × (bufferOf s buffer t ≡ buffer)
   unfolding takeOf bufferOf
   take-as-it-was buffer k e = go (firstRow (takeRows s (length buffer) (length t))) e
     where
@@ -111,8 +112,10 @@ module _ (s : Session) where
   -- 50, 53, 52
   pub lost-refused-exactly : (k : ℕ) → (lostOf s .report ≡ Report.Refused k) ↔ Given (lostRows s) k
   unfolding lostOf
-  lost-refused-exactly k =
-      (λ e. to-given (lostRows s) k (lost-to (firstRow (lostRows s)) k e), λ g. lost-from (firstRow (lostRows s)) k (from-given (lostRows s) k (lost-numbered s) g))
+  lost-refused-exactly k = (
+    λ e. to-given (lostRows s) k (lost-to (firstRow (lostRows s)) k e),
+    λ g. lost-from (firstRow (lostRows s)) k (from-given (lostRows s) k (lost-numbered s) g),
+  )
 
   pub lost-noted-exactly : (lostOf s .report ≡ Report.Noted) ↔ NoneOf (lostRows s)
   unfolding lostOf
@@ -142,8 +145,10 @@ module _ (s : Session) where
   -- 50, 53
   pub close-refused-exactly : (k : ℕ) → (closeOf s .closing ≡ Closing.Refused k) ↔ Given (closeRows s) k
   unfolding closeOf
-  close-refused-exactly k =
-      (λ e. to-given (closeRows s) k (close-to (firstRow (closeRows s)) k e), λ g. close-from (firstRow (closeRows s)) k (from-given (closeRows s) k (close-numbered s) g))
+  close-refused-exactly k = (
+    λ e. to-given (closeRows s) k (close-to (firstRow (closeRows s)) k e),
+    λ g. close-from (firstRow (closeRows s)) k (from-given (closeRows s) k (close-numbered s) g),
+  )
 
   pub close-closed-exactly : ((e : Ended) × (closeOf s .closing ≡ Closing.Closed e)) ↔ NoneOf (closeRows s)
   unfolding closeOf

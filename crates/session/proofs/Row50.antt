@@ -76,8 +76,10 @@ module _ (l : Ledger) (n : ℕ) where
   account-kept : accountsBroken l n ≡ false → (k : ℕ) → k < 11 → (countOf l k ≤ n) × (bytesOf l k ≤ 65536 * n)
   unfolding accountsBroken
   account-kept e k h =
-      let q = none-any 11 (accountBroken l n) e k h in
-      (ltb-false n (countOf l k) (or-first _ (ltb (65536 * n) (bytesOf l k)) q), ltb-false (65536 * n) (bytesOf l k) (or-second (ltb n (countOf l k)) _ q))
+      let q = none-any 11 (accountBroken l n) e k h in (
+        ltb-false n (countOf l k) (or-first _ (ltb (65536 * n) (bytesOf l k)) q),
+        ltb-false (65536 * n) (bytesOf l k) (or-second (ltb n (countOf l k)) _ q),
+      )
 
   record Counts : Type 0 where
     ticks : getD (l .numbers) ticksAt 0 ≤ 2 ^ 31 * n
@@ -109,7 +111,8 @@ fill-clear : (o : Opening) (p : Phase) → FilledBy o p → fillBroken p (o .fra
 unfolding fillBroken
 fill-clear o Fresh f = refl
 fill-clear o (Past fid) f = refl
-fill-clear o (Under r) f = none (ltb (o .frame) (r .fill)) (unequal (r .fault) (r .fill) (r .bytes)) (le-ltb (o .frame) (r .fill) (f .within)) (unequal-clear (r .fault) (r .fill) (r .bytes) (f .whole))
+fill-clear o (Under r) f = none (ltb (o .frame) (r .fill)) (unequal (r .fault) (r .fill) (r .bytes)) (le-ltb (o .frame) (r .fill) (f .within))
+    (unequal-clear (r .fault) (r .fill) (r .bytes) (f .whole))
 
 counts-clear : (l : Ledger) (n : ℕ) → Counts l n → countsBroken l n ≡ false
 unfolding countsBroken
@@ -117,7 +120,8 @@ counts-clear l n c =
     none (ltb (2 ^ 31 * n) (getD (l .numbers) ticksAt 0)) _ (le-ltb (2 ^ 31 * n) (getD (l .numbers) ticksAt 0) (c .ticks))
     (none (ltb n (getD (l .numbers) lostAt 0)) _ (le-ltb n (getD (l .numbers) lostAt 0) (c .lost))
     (none (ltb n (getD (l .numbers) idleAt 0)) _ (le-ltb n (getD (l .numbers) idleAt 0) (c .idle))
-    (none (ltb n (getD (l .numbers) backwardAt 0)) _ (le-ltb n (getD (l .numbers) backwardAt 0) (c .backward)) (le-ltb n (getD (l .numbers) untimedAt 0) (c .untimed)))))
+    (none (ltb n (getD (l .numbers) backwardAt 0)) _ (le-ltb n (getD (l .numbers) backwardAt 0) (c .backward))
+    (le-ltb n (getD (l .numbers) untimedAt 0) (c .untimed)))))
 
 -- ---- the row
 module _ (s : Session) where
@@ -146,11 +150,19 @@ module _ (s : Session) where
   unfolding recordBroken sizesBroken
   clear k =
       none (sizesBroken (s .opening)) _
-      (none (frameSizeBroken (s .opening .frame)) (payloadSizeBroken (s .opening .payload)) (frame-clear (s .opening .frame) (k .frame)) (payload-clear (s .opening .payload) (k .payload)))
+      (none (frameSizeBroken (s .opening .frame)) (payloadSizeBroken (s .opening .payload)) (frame-clear (s .opening .frame) (k .frame))
+      (payload-clear (s .opening .payload) (k .payload)))
       (none (fillBroken (s .track .phase) (s .opening .frame)) _ (fill-clear (s .opening) (s .track .phase) (k .fill))
       (none (accountsBroken (ledgerOf s) (s .taken)) (countsBroken (ledgerOf s) (s .taken))
       (sym (accounts-within (ledgerOf s) (s .taken) (λ j h. account-within (ledgerOf s) (s .taken) j (k .counts j h) (k .bytes j h))))
-      (counts-clear (ledgerOf s) (s .taken) (record { ticks = k .ticks; lost = k .lost; idle = k .idle; backward = k .backward; untimed = k .untimed }))))
+      (counts-clear (ledgerOf s) (s .taken) (record {
+        ticks = k .ticks;
+        lost = k .lost;
+        idle = k .idle;
+        backward = k .backward;
+        untimed =
+            k .untimed;
+      }))))
 
   -- EXACTLY WHEN: 50 is not given where none of its conditions holds, and given where one does
   pub row-50 : (recordBroken s ≡ false) ↔ Keeps s

@@ -37,7 +37,8 @@ wrote old src at len f e =
       same-length = copied.same-length old src at len f e;
       written = copied.written old src at len f e;
       before = copied.before old src at len f e;
-      after = λ i h. subst (λ (k : ℕ). getD (paste old at src len) k 0 ≡ getD old k 0) (add-sub-of-le h) (copied.after old src at len f e (i - (at + len)));
+      after = λ i h. subst (λ (k : ℕ). getD (paste old at src len) k 0 ≡ getD old k 0) (add-sub-of-le h)
+          (copied.after old src at len f e (i - (at + len)));
     }
 
 module _ (s : Session) (buffer t : List ℕ) where
@@ -70,9 +71,11 @@ module _ (s : Session) (buffer t : List ℕ) where
     faulted-writes-nothing z = pasted ∙ rw z (sym (paste-zero buffer (turn .at) (drop (h .len) t)))
 
     -- a readable transfer: the data after its header
-    pub readable-writes : length (s .ledger .numbers) ≡ 27 → s .taken < 2 ^ 32 → Wrote buffer (bufferOf s buffer t) (drop (h .len) t) (turn .at) (turn .len)
+    pub readable-writes : length (s .ledger .numbers) ≡ 27 → s .taken < 2 ^ 32 →
+        Wrote buffer (bufferOf s buffer t) (drop (h .len) t) (turn .at) (turn .len)
     readable-writes places few =
         let f = take-ready s places few (length buffer) (length t) 0 (sym (none-row (takeRows s (length buffer) (length t)) o)) refl in
         let q = sits s (ready-able s (f .ready)) h (length t - h .len) turn refl in
         let l = readable-fits (s .opening) t h e in
-        rw pasted (wrote buffer (drop (h .len) t) (turn .at) (turn .len) (omega (arith, q .inside, f .whole)) (rw length-drop (omega (arith, q .short))))
+        rw pasted (wrote buffer (drop (h .len) t) (turn .at) (turn .len) (omega (arith, q .inside, f .whole))
+        (rw length-drop (omega (arith, q .short))))

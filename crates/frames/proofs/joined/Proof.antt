@@ -24,7 +24,14 @@ earlier-requires : tie.Need-earlier-requires
 earlier-requires c κs = search needs
 
 returns : tie.Need-returns
-returns c = simp (c .earlier .ensures, c .before .filled .ensures, c .before .before .first-of3 .ensures, c .before .before .before .first-of2 .ensures, c .before .before .before .before .clash .ensures, c .before .before .before .before .before .first-of .ensures)
+returns c = simp (
+  c .earlier .ensures,
+  c .before .filled .ensures,
+  c .before .before .first-of3 .ensures,
+  c .before .before .before .first-of2 .ensures,
+  c .before .before .before .before .clash .ensures,
+  c .before .before .before .before .before .first-of .ensures,
+)
 
 pub joined-spec : {M : Type 1} → statement M
 joined-spec =

@@ -26,7 +26,13 @@ stamp-of-requires c κs = search needs
 
 returns : tie.Need-returns
 unfolding headerOf
-returns c = simp (c .stamp-of .ensures, c .before .flag3 .ensures, c .before .before .flag2 .ensures, c .before .before .before .flag .ensures, c .before .before .before .before .before .wide .ensures .0)
+returns c = simp (
+  c .stamp-of .ensures,
+  c .before .flag3 .ensures,
+  c .before .before .flag2 .ensures,
+  c .before .before .before .flag .ensures,
+  c .before .before .before .before .before .wide .ensures .0,
+)
 
 pub header-of-spec : {M : Type 1} → statement M
 header-of-spec =

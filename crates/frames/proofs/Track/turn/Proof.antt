@@ -19,7 +19,8 @@ same-requires : tie.Need-same-requires
 same-requires c κs = search needs
 
 join-requires-2 : tie.Need-join-requires-2
-join-requires-2 c κs = under-room _ _ _ (c .before .before .before .phase .given .1) (c .before .before .before .before .before .pre .0) (c .before .before .before .before .before .pre .1)
+join-requires-2 c κs = under-room _ _ _ (c .before .before .before .phase .given .1) (c .before .before .before .before .before .pre .0)
+    (c .before .before .before .before .before .pre .1)
 
 returns : tie.Need-returns
 returns c = search turn-on
@@ -31,7 +32,8 @@ begun-requires-2 : tie.Need-begun-requires-2
 begun-requires-2 c κs = search needs
 
 join-requires-3 : tie.Need-join-requires-3
-join-requires-3 c κs = begun-room _ (c .before .before .before .before .before .before .before .args .self .gap) _ _ (c .begun2 .ensures) (c .before .before .before .before .before .before .before .pre .1)
+join-requires-3 c κs = begun-room _ (c .before .before .before .before .before .before .before .args .self .gap) _ _ (c .begun2 .ensures)
+    (c .before .before .before .before .before .before .before .pre .1)
 
 enum-known-phase-2 : tie.Need-enum-known-phase-2
 enum-known-phase-2 c = search needs
@@ -49,7 +51,8 @@ begun-requires-3 : tie.Need-begun-requires-3
 begun-requires-3 c κs = search needs
 
 join-requires-4 : tie.Need-join-requires-4
-join-requires-4 c κs = begun-room _ (c .before .before .before .before .before .before .args .self .gap) _ _ (c .begun3 .ensures) (c .before .before .before .before .before .before .pre .1)
+join-requires-4 c κs = begun-room _ (c .before .before .before .before .before .before .args .self .gap) _ _ (c .begun3 .ensures)
+    (c .before .before .before .before .before .before .pre .1)
 
 returns-3 : tie.Need-returns-3
 returns-3 c = search turn-fresh

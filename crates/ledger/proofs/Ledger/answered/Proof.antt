@@ -7,7 +7,11 @@ ended-requires : tie.Need-ended-requires
 ended-requires c κs = (room-up _ _ (c .args .self) (c .pre .0) (omega arith), c .pre .1)
 
 fated-requires : tie.Need-fated-requires
-fated-requires c κs = (rw (c .ended .ensures) (room-ended _ _ (c .before .args .self) (c .before .args .a .ended) _ (c .before .pre .0) (c .before .pre .1) (omega arith)), c .before .pre .2)
+fated-requires c κs = (
+  rw (c .ended .ensures) (room-ended _ _ (c .before .args .self) (c .before .args .a .ended) _ (c .before .pre .0)
+      (c .before .pre .1) (omega arith)),
+  c .before .pre .2,
+)
 
 returns : tie.Need-returns
 returns c = simp (c .fated .ensures, c .before .ended .ensures)

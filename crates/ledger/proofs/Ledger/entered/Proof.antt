@@ -17,7 +17,8 @@ add-plus : tie.Need-add-plus
 add-plus c = search needs
 
 plus-requires-2 : tie.Need-plus-requires-2
-plus-requires-2 c κs = entering-bytes _ _ _ (c .before .before .args .a) _ (c .before .before .args .n) (c .plus .ensures) (c .before .place .ensures) (c .before .before .pre .0) (omega arith)
+plus-requires-2 c κs = entering-bytes _ _ _ (c .before .before .args .a) _ (c .before .before .args .n) (c .plus .ensures) (c .before .place .ensures)
+    (c .before .before .pre .0) (omega arith)
 
 returns : tie.Need-returns
 returns c = simp (c .plus2 .ensures, c .before .plus .ensures, c .before .before .place .ensures .0)

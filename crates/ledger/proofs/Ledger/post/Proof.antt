@@ -10,10 +10,14 @@ enum-known-e : tie.Need-enum-known-e
 enum-known-e c = search needs
 
 entered-requires : tie.Need-entered-requires
-entered-requires c κs = entering _ _ _ Account.Delivered _ (c .before .before .before .pre .0) (λ e. omega arith) (rw (c .before .e .given .1) at (c .before .before .before .pre .2))
+entered-requires c κs = entering _ _ _ Account.Delivered _ (c .before .before .before .pre .0) (λ e. omega arith)
+    (rw (c .before .e .given .1) at (c .before .before .before .pre .2))
 
 timed-requires : tie.Need-timed-requires
-timed-requires c κs = rw (c .entered .ensures) (room-entered _ _ (c .before .before .before .before .args .self) Account.Delivered _ (c .before .before .before .before .pre .0) (let n = rw (c .before .before .e .given .1) at (c .before .before .before .before .pre .2) in omega arith))
+timed-requires c κs =
+    let s = c .before .before .before .before in
+    let n = rw (c .before .before .e .given .1) at (s .pre .2) in
+    rw (c .entered .ensures) (room-entered _ _ (s .args .self) Account.Delivered _ (s .pre .0) (omega arith))
 
 enum-known-e-2 : tie.Need-enum-known-e-2
 enum-known-e-2 c = search needs
@@ -22,31 +26,39 @@ account-for-requires : tie.Need-account-for-requires
 account-for-requires c κs = search needs
 
 entered-requires-2 : tie.Need-entered-requires-2
-entered-requires-2 c κs = rw (c .account-for .ensures) (entering _ _ _ (accountFor (c .before .before .e2 .given .0 .0)) _ (c .before .before .before .before .pre .0) (not-under-way (c .before .before .e2 .given .0 .0)) (rw (c .before .before .e2 .given .1) at (c .before .before .before .before .pre .2)))
+entered-requires-2 c κs = rw (c .account-for .ensures)
+    (entering _ _ _ (accountFor (c .before .before .e2 .given .0 .0)) _ (c .before .before .before .before .pre .0)
+    (not-under-way (c .before .before .e2 .given .0 .0)) (rw (c .before .before .e2 .given .1) at (c .before .before .before .before .pre .2)))
 
 enum-known-e-3 : tie.Need-enum-known-e-3
 enum-known-e-3 c = search needs
 
 entered-requires-3 : tie.Need-entered-requires-3
-entered-requires-3 c κs = (rw (c .before .e3 .given .1) at (c .before .before .before .pre .1), rw (c .before .e3 .given .1) at (c .before .before .before .pre .2))
+entered-requires-3 c κs = (
+  rw (c .before .e3 .given .1) at (c .before .before .before .pre .1),
+  rw (c .before .e3 .given .1) at (c .before .before .before .pre .2),
+)
 
 enum-known-e-4 : tie.Need-enum-known-e-4
 enum-known-e-4 c = search needs
 
 entered-requires-4 : tie.Need-entered-requires-4
-entered-requires-4 c κs = entering _ _ _ Account.Stray _ (c .before .before .before .pre .0) (λ e. omega arith) (rw (c .before .e4 .given .1) at (c .before .before .before .pre .2))
+entered-requires-4 c κs = entering _ _ _ Account.Stray _ (c .before .before .before .pre .0) (λ e. omega arith)
+    (rw (c .before .e4 .given .1) at (c .before .before .before .pre .2))
 
 enum-known-e-5 : tie.Need-enum-known-e-5
 enum-known-e-5 c = search needs
 
 entered-requires-5 : tie.Need-entered-requires-5
-entered-requires-5 c κs = entering _ _ _ Account.Unreadable _ (c .before .before .before .pre .0) (λ e. omega arith) (rw (c .before .e5 .given .1) at (c .before .before .before .pre .2))
+entered-requires-5 c κs = entering _ _ _ Account.Unreadable _ (c .before .before .before .pre .0) (λ e. omega arith)
+    (rw (c .before .e5 .given .1) at (c .before .before .before .pre .2))
 
 enum-known-e-6 : tie.Need-enum-known-e-6
 enum-known-e-6 c = search needs
 
 entered-requires-6 : tie.Need-entered-requires-6
-entered-requires-6 c κs = entering _ _ _ Account.Headers _ (c .before .before .before .pre .0) (λ e. omega arith) (rw (c .before .e6 .given .1) at (c .before .before .before .pre .2))
+entered-requires-6 c κs = entering _ _ _ Account.Headers _ (c .before .before .before .pre .0) (λ e. omega arith)
+    (rw (c .before .e6 .given .1) at (c .before .before .before .pre .2))
 
 enum-told : tie.Need-enum-told
 enum-told c = search needs

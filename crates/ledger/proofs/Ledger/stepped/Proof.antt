@@ -11,7 +11,8 @@ cast-plus : tie.Need-cast-plus
 cast-plus c = search needs
 
 plus-requires : tie.Need-plus-requires
-plus-requires c κs = adding _ (c .before .before .before .args .self) 24 (c .before .s .given .0 .0) (c .before .before .before .pre) (omega arith) (omega arith) (omega arith)
+plus-requires c κs = adding _ (c .before .before .before .args .self) 24 (c .before .s .given .0 .0) (c .before .before .before .pre) (omega arith)
+    (omega arith) (omega arith)
 
 enum-told : tie.Need-enum-told
 enum-told c = search needs

@@ -36,7 +36,12 @@ returns-2 c = simp (c .before .before .before .before .s .given .1, c .before .e
 
 returns-3 : tie.Need-returns-3
 unfolding timedOf
-returns-3 c = simp (c .before .before .before .before .before .before .before .s .given .1, c .before .before .before .before .last .given .1, c .before .stepped .ensures, c .before .before .step-between .ensures)
+returns-3 c = simp (
+  c .before .before .before .before .before .before .before .s .given .1,
+  c .before .before .before .before .last .given .1,
+  c .before .stepped .ensures,
+  c .before .before .step-between .ensures,
+)
 
 pub timed-spec : {M : Type 1} → statement M
 timed-spec =

@@ -17,7 +17,13 @@ shut-requires : tie.Need-shut-requires
 shut-requires c κs = search needs
 
 ended-requires : tie.Need-ended-requires
-ended-requires c κs = let s = c .before .before .before .before .before in let a = able (s .args .self) (close-sound (s .args .self) _ (c .before .before .before .before .close-refusal .ensures) (omega arith)) (search needs) (search needs) in (room-up _ _ (s .args .self .ledger) (a .room) (omega arith), rw (c .before .shut .ensures) (omega (arith, closed-gone (s .args .self .track), a .under)))
+ended-requires c κs =
+    let s = c .before .before .before .before .before in
+    let a = able (s .args .self) (close-sound (s .args .self) _ (c .before .before .before .before .close-refusal .ensures) (omega arith))
+    (search needs) (search needs) in (
+      room-up _ _ (s .args .self .ledger) (a .room) (omega arith),
+      rw (c .before .shut .ensures) (omega (arith, closed-gone (s .args .self .track), a .under)),
+    )
 
 returns-2 : tie.Need-returns-2
 returns-2 c = search close-closed

@@ -13,13 +13,22 @@ returns : tie.Need-returns
 returns c = search lost-refused
 
 post-requires : tie.Need-post-requires
-post-requires c κs = let s = c .before .before .before .before in (room-up _ _ (s .args .self .ledger) (ready-able (s .args .self) (lost-ready (s .args .self) (search needs) (search needs) _ (c .before .before .before .lost-refusal .ensures) (omega arith)) .room) (omega arith), tt, omega arith)
+post-requires c κs =
+    let s = c .before .before .before .before in (
+      room-up _ _ (s .args .self .ledger) (ready-able (s .args .self)
+          (lost-ready (s .args .self) (search needs) (search needs) _ (c .before .before .before .lost-refusal .ensures) (omega arith)) .room)
+          (omega arith),
+      tt,
+      omega arith,
+    )
 
 spoilt-requires : tie.Need-spoilt-requires
 spoilt-requires c κs = search needs
 
 counted-requires : tie.Need-counted-requires
-counted-requires c κs = let s = c .before .before .before .before .before .before in lost-ready (s .args .self) (search needs) (search needs) _ (c .before .before .before .before .before .lost-refusal .ensures) (omega arith) .more
+counted-requires c κs =
+    let s = c .before .before .before .before .before .before in
+    lost-ready (s .args .self) (search needs) (search needs) _ (c .before .before .before .before .before .lost-refusal .ensures) (omega arith) .more
 
 returns-2 : tie.Need-returns-2
 returns-2 c = search lost-noted

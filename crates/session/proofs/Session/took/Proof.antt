@@ -15,7 +15,9 @@ enum-told : tie.Need-enum-told
 enum-told c = search needs
 
 post-requires : tie.Need-post-requires
-post-requires c κs = let s = c .before .before .before .before .before .before .before .before in (room-up _ _ (s .args .self .ledger) (ready-able (s .args .self) (s .pre .0) .room) (omega arith), tt, omega arith)
+post-requires c κs =
+    let s = c .before .before .before .before .before .before .before .before in
+    (room-up _ _ (s .args .self .ledger) (ready-able (s .args .self) (s .pre .0) .room) (omega arith), tt, omega arith)
 
 counted-requires : tie.Need-counted-requires
 counted-requires c κs = search needs
@@ -24,7 +26,9 @@ enum-known-reading : tie.Need-enum-known-reading
 enum-known-reading c = search needs
 
 post-requires-2 : tie.Need-post-requires-2
-post-requires-2 c κs = let s = c .before .before .before .before .before .before .before .before .before in (room-up _ _ (s .args .self .ledger) (ready-able (s .args .self) (s .pre .0) .room) (omega arith), tt, omega (arith, s .pre .2))
+post-requires-2 c κs =
+    let s = c .before .before .before .before .before .before .before .before .before in
+    (room-up _ _ (s .args .self .ledger) (ready-able (s .args .self) (s .pre .0) .room) (omega arith), tt, omega (arith, s .pre .2))
 
 spoilt-requires : tie.Need-spoilt-requires
 spoilt-requires c κs = search needs
@@ -36,19 +40,37 @@ enum-known-reading-2 : tie.Need-enum-known-reading-2
 enum-known-reading-2 c = search needs
 
 read-requires-2 : tie.Need-read-requires-2
-read-requires-2 c κs = let s = c .before .before .before .before .before .before .before .before .before .before in (s .pre .0, s .pre .1, s .pre .2, header-within (s .args .self) [] (now (s .args .t)) _ _ (c .before .before .before .before .read .ensures) (c .before .before .reading2 .given .1))
+read-requires-2 c κs =
+    let s = c .before .before .before .before .before .before .before .before .before .before in (
+      s .pre .0,
+      s .pre .1,
+      s .pre .2,
+      header-within (s .args .self) [] (now (s .args .t)) _ _ (c .before .before .before .before .read .ensures)
+          (c .before .before .reading2 .given .1),
+    )
 
 returns : tie.Need-returns
-returns c = let s = c .before .before .before .before .before .before .before .before .before .before in took-idle (s .args .self) (now (s .args .buffer)) (now (s .args .t)) _ _ _ (c .before .before .before .before .read .ensures) (c .before .before .enum-told .given .1) (c .before .post .ensures) (c .counted .ensures)
+returns c =
+    let s = c .before .before .before .before .before .before .before .before .before .before in
+    took-idle (s .args .self) (now (s .args .buffer)) (now (s .args .t)) _ _ _ (c .before .before .before .before .read .ensures)
+    (c .before .before .enum-told .given .1) (c .before .post .ensures) (c .counted .ensures)
 
 returns-2 : tie.Need-returns-2
-returns-2 c = let s = c .before .before .before .before .before .before .before .before .before .before .before .before in took-unreadable (s .args .self) (now (s .args .buffer)) (now (s .args .t)) _ _ _ _ _ (c .before .before .before .before .before .before .read .ensures) (c .before .before .before .before .reading .given .1) (c .before .before .post2 .ensures) (c .before .spoilt .ensures) (c .counted2 .ensures)
+returns-2 c =
+    let s = c .before .before .before .before .before .before .before .before .before .before .before .before in
+    took-unreadable (s .args .self) (now (s .args .buffer)) (now (s .args .t)) _ _ _ _ _
+    (c .before .before .before .before .before .before .read .ensures) (c .before .before .before .before .reading .given .1)
+    (c .before .before .post2 .ensures) (c .before .spoilt .ensures) (c .counted2 .ensures)
 
 same-length : tie.Need-same-length
 same-length c = search needs
 
 returns-3 : tie.Need-returns-3
-returns-3 c = let s = c .before .before .before .before .before .before .before .before .before .before .before .before .before in took-readable (s .args .self) (now (s .args .buffer)) (now (s .args .t)) _ _ _ _ (c .before .before .before .before .before .before .before .read .ensures) (c .before .before .before .before .before .reading2 .given .1) (c .before .before .read2 .ensures .0) (c .before .before .read2 .ensures .1)
+returns-3 c =
+    let s = c .before .before .before .before .before .before .before .before .before .before .before .before .before in
+    took-readable (s .args .self) (now (s .args .buffer)) (now (s .args .t)) _ _ _ _
+    (c .before .before .before .before .before .before .before .read .ensures) (c .before .before .before .before .before .reading2 .given .1)
+    (c .before .before .read2 .ensures .0) (c .before .before .read2 .ensures .1)
 
 pub took-spec : {M : Type 1} → statement M
 took-spec =

@@ -52,7 +52,13 @@ loop-less : tie.Need-loop-less Inv-loop μ-loop
 loop-less c = search needs
 
 loop-again : tie.Need-loop-again Inv-loop μ-loop
-loop-again c = (omega arith, refl, below-more _ _ (c .before .before .before .before .before .loop .inv .2) (account-within (c .before .before .before .before .before .before .args .t1) (c .before .before .before .before .before .before .args .n) (c .before .before .before .before .before .loop .k) (omega arith) (omega arith)))
+loop-again c = (
+  omega arith,
+  refl,
+  below-more _ _ (c .before .before .before .before .before .loop .inv .2)
+      (account-within (c .before .before .before .before .before .before .args .t1) (c .before .before .before .before .before .before .args .n)
+      (c .before .before .before .before .before .loop .k) (omega arith) (omega arith)),
+)
 
 returns-3 : tie.Need-returns-3 Inv-loop μ-loop
 returns-3 c = accounts-within _ _ (λ k h. c .before .loop .inv .2 k (omega arith))
