@@ -63,6 +63,12 @@ impl Ledger {
 
     pub const TICKS: u64 = 2147483648;
 
+    // Stamps are taken modulo 2^32.
+    pub const STAMPS: u64 = 4294967296;
+
+    // How many accounts there are.
+    pub const ACCOUNTS: usize = 11;
+
     // The place of the account of the frame under way, and those of the counts that are no accounts.
     pub const UNDER_WAY: usize = 14;
 
@@ -284,10 +290,10 @@ fn account_for(why: Reason) -> Account
 pub fn step_between(earlier: u32, later: u32) -> Step
     ensures { λ r. ⌜ r ≡ stepOf earlier later ⌝ }
 {
-    let ahead = (later as u64 + 4294967296 - earlier as u64) % 4294967296;
+    let ahead = (later as u64 + Ledger::STAMPS - earlier as u64) % Ledger::STAMPS;
     if ahead < Ledger::TICKS {
         Step::Forward(ahead as u32)
     } else {
-        Step::Backward((4294967296 - ahead) as u32)
+        Step::Backward((Ledger::STAMPS - ahead) as u32)
     }
 }

@@ -8,6 +8,26 @@ ghost use Rattle.rules.specs.Pick.{pick};
 ghost use Rattle.rules.specs.Numbered.{firstFrom};
 ghost use Rattle.payload.specs.Transfer.{flagOf, needOf, stampOf, headerOf, transferFlags, readingOf};
 
+// The bits of byte 1 that are read; D5, still, is ignored.
+const FID: u8 = 0;
+
+const EOF: u8 = 1;
+
+const PTS: u8 = 2;
+
+const SCR: u8 = 3;
+
+const ERROR: u8 = 6;
+
+const END: u8 = 7;
+
+// The bytes of a header with neither, of a PTS and of an SCR.
+const BARE: usize = 2;
+
+const PTS_BYTES: usize = 4;
+
+const SCR_BYTES: usize = 6;
+
 // What a session is opened with, passed whole: the negotiated frame size and payload size.
 pub struct Opening {
     pub frame: usize,
@@ -55,9 +75,9 @@ fn held(there: bool, n: usize) -> usize
 fn need_of(flags: u8) -> usize
     ensures { λ r. ⌜ r ≡ needOf flags ⌝ }
 {
-    let pts = held(flag(flags, 2), 4);
-    let scr = held(flag(flags, 3), 6);
-    2 + pts + scr
+    let pts = held(flag(flags, PTS), PTS_BYTES);
+    let scr = held(flag(flags, SCR), SCR_BYTES);
+    BARE + pts + scr
 }
 
 // 65.
@@ -80,7 +100,7 @@ fn unreadable_by(o: Opening, t: &[u8]) -> u8
         return 62;
     }
     let len = t[0] as usize;
-    if len < 2 {
+    if len < BARE {
         return 63;
     }
     if n < len {
@@ -90,7 +110,7 @@ fn unreadable_by(o: Opening, t: &[u8]) -> u8
     if too_short(len, flags) {
         return 65;
     }
-    if flag(flags, 7) {
+    if flag(flags, END) {
         return 0;
     }
     66
@@ -101,8 +121,8 @@ fn stamp_of(t: &[u8], flags: u8) -> Stamp
     requires { ⌜ (flagOf flags 2 ≡ true → 6 ≤ length (now t)) ⌝ }
     ensures { λ r. ⌜ r ≡ stampOf (now (t .entry)) flags ⌝ }
 {
-    if flag(flags, 2) {
-        Stamp::At(le::le32(t, 2))
+    if flag(flags, PTS) {
+        Stamp::At(le::le32(t, BARE))
     } else {
         Stamp::Absent
     }
@@ -114,9 +134,9 @@ fn header_of(t: &[u8]) -> Header
 {
     let len = le::wide(t[0]);
     let flags = t[1];
-    let fid = flag(flags, 0);
-    let eof = flag(flags, 1);
-    let error = flag(flags, 6);
+    let fid = flag(flags, FID);
+    let eof = flag(flags, EOF);
+    let error = flag(flags, ERROR);
     let stamp = stamp_of(t, flags);
     Header {
         len,

@@ -16,6 +16,13 @@ use Rattle.ledger.specs.declared.Ledger.{Ledger}
 use Rattle.ledger.specs.Ledger.{countOf, bytesOf, lostAt, idleAt, ticksAt, backwardAt, untimedAt, shownOf}
 use Rattle.session.specs.declared.Session.{Session}
 
+-- the most bytes of a transfer, and the most transfers taken
+abbrev pub transferMost : ℕ
+transferMost = 65_536
+
+abbrev pub takenMost : ℕ
+takenMost = 4_294_967_295
+
 -- 45, 46 and 47, in this order
 unfoldable pub openingFlags : ℕ → ℕ → ℕ → List Bool
 openingFlags frame payload room = frameSizeBroken frame ∷ payloadSizeBroken payload ∷ ltb room frame ∷ []
@@ -41,7 +48,7 @@ fillBroken (Under r) frame = ltb frame (r .fill) || unequal (r .fault) (r .fill)
 
 -- of the eleven accounts: a count above the transfers taken, or a byte account over 65,536 times them
 abbrev pub accountBroken : Ledger → ℕ → ℕ → Bool
-accountBroken l n k = ltb n (countOf l k) || ltb (65536 * n) (bytesOf l k)
+accountBroken l n k = ltb n (countOf l k) || ltb (transferMost * n) (bytesOf l k)
 
 unfoldable pub accountsBroken : Ledger → ℕ → Bool
 accountsBroken l n = anyBelow 11 (accountBroken l n)
@@ -67,17 +74,17 @@ abbrev pub closeRows : Session → List Row
 closeRows s = record { number = 50; broken = recordBroken s } ∷ record { number = 53; broken = s .closed } ∷ []
 
 abbrev pub lostRows : Session → List Row
-lostRows s = closeRows s ++ (record { number = 52; broken = eqb (s .taken) 4294967295 } ∷ [])
+lostRows s = closeRows s ++ (record { number = 52; broken = eqb (s .taken) takenMost } ∷ [])
 
 abbrev pub takeRows : Session → ℕ → ℕ → List Row
 takeRows s room n =
     lostRows s
     ++ (record { number = 51; broken = ltb room (s .opening .frame) }
-    ∷ record { number = 55; broken = ltb 65536 n }
+    ∷ record { number = 55; broken = ltb transferMost n }
     ∷ [])
 
 -- what a session that is not refused by 50, 53 or 52 gives: no sum can wrap, and the data goes within the frame
 pub record Ready (s : Session) : Type 0 where
   pub sound : recordBroken s ≡ false
-  pub more : s .taken < 4294967295
+  pub more : s .taken < takenMost
   pub places : length (s .ledger .numbers) ≡ 27

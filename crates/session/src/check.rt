@@ -69,7 +69,7 @@ fn accounts_broken(l: Ledger, n: u64) -> bool
 {
     let most = Ledger::BYTES * n;
     let mut k: usize = 0;
-    while k < 11 {
+    while k < Ledger::ACCOUNTS {
         let at = 2 * k;
         if n < l.numbers[at] {
             return true;

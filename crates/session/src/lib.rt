@@ -6,7 +6,7 @@ ghost use Prim.Native.Nat.{_-_, _+_, _<_, _≤_};
 ghost use lib.ListN.{length};
 ghost use Rattle.payload.specs.Transfer.{readingOf};
 ghost use Rattle.session.specs.Session.{openOf, newSession, countedOf, readOf, readBuffer, tookOf, tookBuffer, takeOf, bufferOf, lostOf, closeOf};
-ghost use Rattle.session.specs.Refusals.{Ready, ledgerOf};
+ghost use Rattle.session.specs.Refusals.{transferMost, takenMost, Ready, ledgerOf};
 use frames::Answer;
 use frames::Ended;
 use frames::Fate;
@@ -127,7 +127,7 @@ impl Session {
 
     // One more taken, with this track and ledger.
     fn counted(self, track: Track, ledger: Ledger) -> Session
-        requires { ⌜ self .taken < 4294967295 ⌝ }
+        requires { ⌜ self .taken < takenMost ⌝ }
         ensures { λ r. ⌜ r ≡ countedOf self track ledger ⌝ }
     {
         let opening = self.opening;
@@ -142,7 +142,7 @@ impl Session {
 
     // A readable transfer: its data goes straight after the frame's earlier data.
     fn read(self, buffer: &mut [u8], t: &[u8], h: Header) -> Taken
-        requires { ⌜ (Ready self) × (self .opening .frame ≤ length (now buffer)) × (length (now t) ≤ 65536) × (h .len ≤ length (now t)) ⌝ }
+        requires { ⌜ (Ready self) × (self .opening .frame ≤ length (now buffer)) × (length (now t) ≤ transferMost) × (h .len ≤ length (now t)) ⌝ }
         ensures { λ r. ⌜ r ≡ readOf self h (length (now (t .entry)) - h .len) ⌝ }
         ensures { λ _. ⌜ now (buffer .exit) ≡ readBuffer self h (now (buffer .entry)) (now (t .entry)) ⌝ }
     {
@@ -167,7 +167,7 @@ impl Session {
 
     // A transfer that nothing refuses.
     fn took(self, buffer: &mut [u8], t: &[u8]) -> Taken
-        requires { ⌜ (Ready self) × (self .opening .frame ≤ length (now buffer)) × (length (now t) ≤ 65536) ⌝ }
+        requires { ⌜ (Ready self) × (self .opening .frame ≤ length (now buffer)) × (length (now t) ≤ transferMost) ⌝ }
         ensures { λ r. ⌜ r ≡ tookOf self (now (t .entry)) ⌝ }
         ensures { λ _. ⌜ now (buffer .exit) ≡ tookBuffer self (now (buffer .entry)) (now (t .entry)) ⌝ }
     {
