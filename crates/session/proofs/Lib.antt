@@ -6,3 +6,4 @@ pub mod Calls
 pub mod Refused
 pub mod Writes
 pub mod Unique
+pub mod Samples
