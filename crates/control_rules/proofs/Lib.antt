@@ -1,0 +1,6 @@
+-- The laws that belong to no one function.
+pub mod Shortest
+pub mod Shapes
+pub mod Subtypes
+pub mod Ladder
+pub mod Unique
