@@ -66,6 +66,14 @@ found-first l id = go (findFrom 0 l id) (sought l id 0)
     go r (hit j h f) = let z : 0 + j ≡ j = omega arith in rw z f
     go r (missed f) = f
 
+-- a place that is found is one of the list's
+pub found-within : (l : List Entity) (id j : ℕ) → findFrom 0 l id ≡ At j → j < length l
+found-within l id j e = go (findFrom 0 l id) (sought l id 0) e
+  where
+    go : (r : Found) → Sought l id 0 r → r ≡ At j → j < length l
+    go r (hit k h f) q = let z : 0 + k ≡ j = cc in omega arith
+    go r (missed f) q = absurd (let z : _≡_ {A = ℕ} 0 1 = cc in omega arith)
+
 -- ---- the search in a table, place by place
 pub length-of : (X Y : Type 0) (f : X → Y) (l : List X) (n : ℕ) → length (map f l) ≡ n → length l ≡ n
 length-of X Y f l n e = sym (length-map l f) ∙ e

@@ -23,7 +23,7 @@ pub fn judge(s: &[u8], t: Table) -> Verdict
     let mut i: usize = 0;
     while i < n {
         let e = t.entities[i];
-        let l = links::links(s, t, e);
+        let l = links::gather(s, t, e);
         if l.lost {
             return Verdict::Refused {
                 number: 13,

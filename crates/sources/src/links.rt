@@ -21,7 +21,7 @@ pub struct Links {
     pub row: u32,
 }
 
-pub fn links(s: &[u8], t: Table, e: Entity) -> Links
+pub fn gather(s: &[u8], t: Table, e: Entity) -> Links
     requires { ⌜ t .count ≤ 32 ⌝ }
     ensures { λ r. ⌜ LinksOf (now (s .entry)) (used t) e (r .lost) (r .output) (r .row) ⌝ }
 {
@@ -66,8 +66,8 @@ fn names_output(t: Table, f: Found) -> bool
 }
 
 fn place_bit(f: Found) -> u32
-    requires { ⌜ (j : ℕ) → f ≡ At j → j < 32 ⌝ }
-    ensures { λ r. ⌜ (j : ℕ) → Bit r j ↔ (f ≡ At j) ⌝ }
+    requires { ⌜ ((j : ℕ) → f ≡ At j → j < 32) ⌝ }
+    ensures { λ r. ⌜ ((j : ℕ) → Bit r j ↔ (f ≡ At j)) ⌝ }
 {
     match f {
         Found::Nothing => 0,

@@ -1,0 +1,168 @@
+use borrow.Author.Needs.{needs}
+use Rattle.control.proofs.walk.Statement.{statement}
+use Rattle.control.proofs.walk.Tie as tie
+use Rattle.control.proofs.walk.Reads as reads
+use Rattle.control.proofs.walk.Lts as lts
+use Rattle.control.proofs.refused.Reads as refused-reads
+use Rattle.control_rules.proofs.entity_at.Reads as entity-at-reads
+use Rattle.control_rules.proofs.is_entity.Reads as is-entity-reads
+use Rattle.control_rules.proofs.rule_at.Reads as rule-at-reads
+use Rattle.entities.proofs.no_table.Reads as no-table-reads
+use Rattle.le.proofs.le32.Reads as le32-reads
+use Rattle.le.proofs.wide.Reads as wide-reads
+use Rattle.marks.proofs.none.Reads as none-reads
+use Rattle.marks.proofs.with.Reads as with-reads
+use Rattle.sources.proofs.judge.Reads as judge-reads
+
+abbrev Inv-loop : tie.InvT-loop
+Inv-loop s table₀ marks₀ at₀ table marks at = ?
+
+abbrev μ-loop : tie.MeasureT-loop
+μ-loop s table₀ marks₀ at₀ table marks at = ?
+
+-- src/lib.rt:34:21
+no-table-requires : tie.Need-no-table-requires Inv-loop μ-loop
+no-table-requires c κs = search needs
+
+-- src/lib.rt:35:21
+none-requires : tie.Need-none-requires Inv-loop μ-loop
+none-requires c κs = search needs
+
+-- src/lib.rt:37:5
+loop-holds : tie.Need-loop-holds Inv-loop μ-loop
+loop-holds c = ?
+
+-- src/lib.rt:39:13
+rule-at-requires : tie.Need-rule-at-requires Inv-loop μ-loop
+rule-at-requires c κs = search needs
+
+-- src/lib.rt:41:13
+refused-requires : tie.Need-refused-requires Inv-loop μ-loop
+refused-requires c κs = search needs
+
+-- src/lib.rt:41:13
+returns : tie.Need-returns Inv-loop μ-loop
+returns c = ?
+
+-- src/lib.rt:43:39
+add-is-entity : tie.Need-add-is-entity Inv-loop μ-loop
+add-is-entity c = search needs
+
+-- src/lib.rt:43:37
+shared-slice-read-is-entity : tie.Need-shared-slice-read-is-entity Inv-loop μ-loop
+shared-slice-read-is-entity c = search needs
+
+-- src/lib.rt:43:12
+is-entity-requires : tie.Need-is-entity-requires Inv-loop μ-loop
+is-entity-requires c κs = search needs
+
+-- src/lib.rt:44:39
+add-with : tie.Need-add-with Inv-loop μ-loop
+add-with c = search needs
+
+-- src/lib.rt:44:37
+shared-slice-read-with : tie.Need-shared-slice-read-with Inv-loop μ-loop
+shared-slice-read-with c = search needs
+
+-- src/lib.rt:44:13
+with-requires : tie.Need-with-requires Inv-loop μ-loop
+with-requires c κs = search needs
+
+-- src/lib.rt:45:37
+entity-at-requires : tie.Need-entity-at-requires Inv-loop μ-loop
+entity-at-requires c κs = search needs
+
+-- src/lib.rt:45:13
+mul-t19 : tie.Need-mul-t19 Inv-loop μ-loop
+mul-t19 c = search needs
+
+-- src/lib.rt:45:13
+element-set-from-table : tie.Need-element-set-from-table Inv-loop μ-loop
+element-set-from-table c = search needs
+
+-- src/lib.rt:46:27
+add-table : tie.Need-add-table Inv-loop μ-loop
+add-table c = search needs
+
+-- src/lib.rt:48:28
+shared-slice-read-wide : tie.Need-shared-slice-read-wide Inv-loop μ-loop
+shared-slice-read-wide c = search needs
+
+-- src/lib.rt:48:19
+wide-requires : tie.Need-wide-requires Inv-loop μ-loop
+wide-requires c κs = search needs
+
+-- src/lib.rt:48:14
+add-at : tie.Need-add-at Inv-loop μ-loop
+add-at c = search needs
+
+-- src/lib.rt:37:5
+loop-less : tie.Need-loop-less Inv-loop μ-loop
+loop-less c = search needs
+
+-- src/lib.rt:37:5
+loop-again : tie.Need-loop-again Inv-loop μ-loop
+loop-again c = ?
+
+-- src/lib.rt:50:11
+judge-requires : tie.Need-judge-requires Inv-loop μ-loop
+judge-requires c κs = search needs
+
+-- src/lib.rt:52:27
+enum-told : tie.Need-enum-told Inv-loop μ-loop
+enum-told c = search needs
+
+-- src/lib.rt:52:27
+le32-requires : tie.Need-le32-requires Inv-loop μ-loop
+le32-requires c κs = search needs
+
+-- src/lib.rt:58:28
+enum-known-number : tie.Need-enum-known-number Inv-loop μ-loop
+enum-known-number c = search needs
+
+-- src/lib.rt:58:48
+refused-requires-2 : tie.Need-refused-requires-2 Inv-loop μ-loop
+refused-requires-2 c κs = search needs
+
+-- src/lib.rt:30:1
+returns-2 : tie.Need-returns-2 Inv-loop μ-loop
+returns-2 c = ?
+
+-- src/lib.rt:30:1
+returns-3 : tie.Need-returns-3 Inv-loop μ-loop
+returns-3 c = ?
+
+pub walk-spec : {M : Type 1} → statement M
+walk-spec =
+    tie.close
+    (tie.spec
+    Inv-loop
+    μ-loop
+    no-table-requires
+    none-requires
+    loop-holds
+    rule-at-requires
+    refused-requires
+    returns
+    add-is-entity
+    shared-slice-read-is-entity
+    is-entity-requires
+    add-with
+    shared-slice-read-with
+    with-requires
+    entity-at-requires
+    mul-t19
+    element-set-from-table
+    add-table
+    shared-slice-read-wide
+    wide-requires
+    add-at
+    loop-less
+    loop-again
+    judge-requires
+    enum-told
+    le32-requires
+    enum-known-number
+    refused-requires-2
+    returns-2
+    returns-3)
