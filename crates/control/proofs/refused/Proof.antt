@@ -11,7 +11,7 @@ no-table-requires c κs = search needs
 
 -- src/lib.rt:62:1
 returns : tie.Need-returns
-returns c = ?
+returns c = rw (c .no-table .ensures)
 
 pub refused-spec : {M : Type 1} → statement M
 refused-spec = tie.close (tie.spec no-table-requires returns)

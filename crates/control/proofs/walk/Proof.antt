@@ -1,3 +1,12 @@
+use lib.ListN.{set}
+use Prim.Native.Nat.{ℕ, _-_, _+_, _<_}
+use lib.ListN.{length}
+use native.Mathlib.Omega.{arith}
+use mathlib.Core.Path.{_≡_, refl, sym, ap, _∙_}
+use mathlib.Core.Logic.{⊎-elim}
+use Rattle.le.specs.Le.{byte}
+use Rattle.marks.specs.Marks.{marked}
+use Rattle.control.proofs.Walking.{Reading, Turn, Fine, begins, ruleHere, refuses, fine-here, has-sub, has-id, has-place, stays, gains, head-sizes, few-entities, accepts, rejects}
 use borrow.Author.Needs.{needs}
 use Rattle.control.proofs.walk.Statement.{statement}
 use Rattle.control.proofs.walk.Tie as tie
@@ -15,10 +24,26 @@ use Rattle.marks.proofs.with.Reads as with-reads
 use Rattle.sources.proofs.judge.Reads as judge-reads
 
 abbrev Inv-loop : tie.InvT-loop
-Inv-loop s table₀ marks₀ at₀ table marks at = ?
+Inv-loop s table₀ marks₀ at₀ table marks at = Reading s table marks at
 
 abbrev μ-loop : tie.MeasureT-loop
-μ-loop s table₀ marks₀ at₀ table marks at = ?
+μ-loop s table₀ marks₀ at₀ table marks at = length s - at
+
+-- what is known after the call of `rule_at`, and where it found nothing
+abbrev Ruled : Type 0
+Ruled = tie.After-rule-at Inv-loop μ-loop
+
+abbrev Passed : Type 0
+Passed = tie.Else1 Inv-loop μ-loop
+
+turn : (a : Ruled) → Turn (a .before .before .before .before .before .before .before .args .s .now) (a .before .before .before .loop .table) (a .before .before .before .loop .marks) (a .before .before .before .loop .at)
+turn a = record { reading = a .before .before .before .loop .inv; small = omega (arith, a .before .before .before .before .before .before .shared-slice-known .given (a .before .before .before .loop .at + 3)); inside = a .before .before .loop-test .taken }
+
+none : (c : Passed) → ruleHere (c .before .before .before .before .before .before .before .before .args .s .now) (c .before .before .before .before .loop .table) (c .before .before .before .before .loop .marks) (c .before .before .before .before .loop .at) ≡ 0
+none c = sym (c .before .rule-at .ensures) ∙ c .if1 .left
+
+fits : (c : Passed) → Fine (c .before .before .before .before .before .before .before .before .args .s .now) (c .before .before .before .before .loop .at) (marked (c .before .before .before .before .loop .marks) (byte (c .before .before .before .before .before .before .before .before .args .s .now) (c .before .before .before .before .loop .at) 3)) (c .before .before .before .before .loop .table .count)
+fits c = fine-here _ _ _ _ (turn (c .before)) (none c)
 
 -- src/lib.rt:34:21
 no-table-requires : tie.Need-no-table-requires Inv-loop μ-loop
@@ -30,7 +55,7 @@ none-requires c κs = search needs
 
 -- src/lib.rt:37:5
 loop-holds : tie.Need-loop-holds Inv-loop μ-loop
-loop-holds c = ?
+loop-holds c = rw (c .before .no-table .ensures, c .none .ensures) (begins _)
 
 -- src/lib.rt:39:13
 rule-at-requires : tie.Need-rule-at-requires Inv-loop μ-loop
@@ -42,7 +67,7 @@ refused-requires c κs = search needs
 
 -- src/lib.rt:41:13
 returns : tie.Need-returns Inv-loop μ-loop
-returns c = ?
+returns c = refuses _ (c .before .before .before .before .before .loop .table) _ _ (turn (c .before .before)) _ _ (c .before .before .before .before .before .before .before .before .before .pre) (c .before .before .rule-at .ensures) (c .before .if1 .taken) (c .refused .ensures)
 
 -- src/lib.rt:43:39
 add-is-entity : tie.Need-add-is-entity Inv-loop μ-loop
@@ -50,7 +75,7 @@ add-is-entity c = search needs
 
 -- src/lib.rt:43:37
 shared-slice-read-is-entity : tie.Need-shared-slice-read-is-entity Inv-loop μ-loop
-shared-slice-read-is-entity c = search needs
+shared-slice-read-is-entity c = has-sub _ (c .before .before .before .before .before .loop .table) _ _ (turn (c .before .before)) (none (c .before))
 
 -- src/lib.rt:43:12
 is-entity-requires : tie.Need-is-entity-requires Inv-loop μ-loop
@@ -62,7 +87,7 @@ add-with c = search needs
 
 -- src/lib.rt:44:37
 shared-slice-read-with : tie.Need-shared-slice-read-with Inv-loop μ-loop
-shared-slice-read-with c = search needs
+shared-slice-read-with c = has-id _ (c .before .before .before .before .before .before .before .before .before .loop .table) _ _ (turn (c .before .before .before .before .before .before)) (none (c .before .before .before .before .before)) (sym (c .before .before .before .is-entity .ensures) ∙ c .before .before .if2 .taken)
 
 -- src/lib.rt:44:13
 with-requires : tie.Need-with-requires Inv-loop μ-loop
@@ -70,7 +95,7 @@ with-requires c κs = search needs
 
 -- src/lib.rt:45:37
 entity-at-requires : tie.Need-entity-at-requires Inv-loop μ-loop
-entity-at-requires c κs = search needs
+entity-at-requires c κs = ((let h = head-sizes _ (c .before .before .before .before .before .before .before .before .before .before .before .before .before .before .pre) in omega arith, fits (c .before .before .before .before .before .before) .shaped), (sym (c .before .before .before .before .is-entity .ensures) ∙ c .before .before .before .if2 .taken))
 
 -- src/lib.rt:45:13
 mul-t19 : tie.Need-mul-t19 Inv-loop μ-loop
@@ -78,7 +103,7 @@ mul-t19 c = search needs
 
 -- src/lib.rt:45:13
 element-set-from-table : tie.Need-element-set-from-table Inv-loop μ-loop
-element-set-from-table c = search needs
+element-set-from-table c = has-place _ (c .before .before .before .before .before .before .before .before .before .before .before .loop .table) _ _ (turn (c .before .before .before .before .before .before .before .before)) (none (c .before .before .before .before .before .before .before)) (sym (c .before .before .before .before .before .is-entity .ensures) ∙ c .before .before .before .before .if2 .taken)
 
 -- src/lib.rt:46:27
 add-table : tie.Need-add-table Inv-loop μ-loop
@@ -94,19 +119,25 @@ wide-requires c κs = search needs
 
 -- src/lib.rt:48:14
 add-at : tie.Need-add-at Inv-loop μ-loop
-add-at c = search needs
+add-at c = let f = fits (c .before .before .before .before .before) .shaped in omega arith
 
 -- src/lib.rt:37:5
 loop-less : tie.Need-loop-less Inv-loop μ-loop
-loop-less c = search needs
+loop-less c = let f = fits (c .before .before .before .before .before) .shaped in omega arith
 
 -- src/lib.rt:37:5
 loop-again : tie.Need-loop-again Inv-loop μ-loop
-loop-again c = ?
+loop-again c = 
+    let t = c .before .before .before .before .before .before .before .before .before .loop .table in
+    rw (c .wide .ensures .0)
+    (⊎-elim
+    (λ w. rw (w .5, w .6) (gains _ t _ _ (turn (c .before .before .before .before .before .before)) (none (c .before .before .before .before .before)) (sym (c .before .before .before .is-entity .ensures) ∙ w .0 .taken) _ _ refl (ap (set (t .entities) (t .count)) (w .4 .ensures)) (w .3 .ensures)))
+    (λ w. rw (w .1, w .2) (stays _ t _ _ (turn (c .before .before .before .before .before .before)) (none (c .before .before .before .before .before)) (sym (c .before .before .before .is-entity .ensures) ∙ w .0 .left)))
+    (c .before .before .if2 .came))
 
 -- src/lib.rt:50:11
 judge-requires : tie.Need-judge-requires Inv-loop μ-loop
-judge-requires c κs = search needs
+judge-requires c κs = few-entities _ _ _ _ (c .before .loop .inv)
 
 -- src/lib.rt:52:27
 enum-told : tie.Need-enum-told Inv-loop μ-loop
@@ -114,7 +145,7 @@ enum-told c = search needs
 
 -- src/lib.rt:52:27
 le32-requires : tie.Need-le32-requires Inv-loop μ-loop
-le32-requires c κs = search needs
+le32-requires c κs = let h = head-sizes _ (c .before .before .before .before .before .before .before .before .pre) in omega arith
 
 -- src/lib.rt:58:28
 enum-known-number : tie.Need-enum-known-number Inv-loop μ-loop
@@ -126,11 +157,11 @@ refused-requires-2 c κs = search needs
 
 -- src/lib.rt:30:1
 returns-2 : tie.Need-returns-2 Inv-loop μ-loop
-returns-2 c = ?
+returns-2 c = accepts _ (c .before .before .before .before .before .loop .table) _ _ (c .before .before .before .before .before .loop .inv) (c .before .before .before .before .before .before .before .before .before .pre) (omega arith) _ (c .before .before .before .judge .ensures) _ (c .before .enum-told .given .1) (c .le32 .ensures)
 
 -- src/lib.rt:30:1
 returns-3 : tie.Need-returns-3 Inv-loop μ-loop
-returns-3 c = ?
+returns-3 c = rejects _ (c .before .before .before .before .before .before .loop .table) _ _ (c .before .before .before .before .before .before .loop .inv) (c .before .before .before .before .before .before .before .before .before .before .pre) (omega arith) _ (c .before .before .before .before .judge .ensures) _ _ _ (c .before .before .number .given .1) (c .refused2 .ensures)
 
 pub walk-spec : {M : Type 1} → statement M
 walk-spec =
