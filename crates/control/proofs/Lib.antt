@@ -1,2 +1,5 @@
 -- The laws that belong to no one function.
 pub mod Walking
+pub mod Unique
+pub mod ExactlyWhen
+pub mod Samples

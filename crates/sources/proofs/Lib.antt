@@ -3,4 +3,5 @@ pub mod Places
 pub mod Found
 pub mod Linking
 pub mod Judging
+pub mod Loops
 pub mod Unique
