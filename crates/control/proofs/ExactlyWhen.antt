@@ -105,7 +105,7 @@ module _ (s : List ℕ) where
   at-place : (k : ℕ) (l : List Entity) (P : ℕ → Type 0) (o : ℕ) (e : FirstEntity l P o) → Judged s l (Refused k (entityAt l (e .place) .offset)) → Judged s l (Refused k o)
   at-place k l P o e j = rw (e .at) at j
 
-  from-first : {k o : ℕ} → FirstBroken s k o → ControlIs s (refusedBy k o)
+  pub from-first : {k o : ℕ} → FirstBroken s k o → ControlIs s (refusedBy k o)
   from-first (by-block zero b l) = absurd (omega (arith, up-above 1 (headFlags s) zero b))
   from-first (by-block (suc k) b l) = block k (up-first 1 (headFlags s) (suc k) b l)
   from-first (by-descriptor k o z f) = descriptor k o (unbroken z) (walk-stop (course s) (steady s) k o .1 f)
@@ -133,11 +133,11 @@ module _ (s : List ℕ) where
     pub plain : Kept seen (Breaks14 s seen)
     pub loop : FirstEntity seen (Breaks15 s seen) o
 
-  few-head : (k : ℕ) → BlockBreaks s k → k < 5
+  pub few-head : (k : ℕ) → BlockBreaks s k → k < 5
   unfolding headFlags
   few-head k u = up-below 1 (headFlags s) k u
 
-  few-flags : {k o : ℕ} → FirstBreak (course s) k o → k < 13
+  pub few-flags : {k o : ℕ} → FirstBreak (course s) k o → k < 13
   unfolding flags entityFlags
   few-flags {k} {o} f = up-below 5 (course s .flags (f .seen) o) k (f .broken)
 
@@ -182,6 +182,7 @@ module _ (s : List ℕ) where
     where
       d : Kept l (Breaks13 s l) × Kept l (Breaks14 s l) × Kept l (Breaks15 s l)
       d = to-sound r a .sources l m
+
       go : (f : Found) → findFrom 0 l (sourceAt s (entityAt l i) q) ≡ f → Named l (entityAt l i) q
       go Nothing e = absurd (d .0 i h (q, b, e))
       go (At j) e = record { place = j; inside = found-within l (sourceAt s (entityAt l i) q) j e; found = e; plain = λ k. d .1 i h (q, b, (j, e, k)) }

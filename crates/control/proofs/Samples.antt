@@ -88,14 +88,14 @@ unfolding firstFrom headFlags flags lengthBroken typeBroken shape countedAt fixe
 samples = record {
   header-alone = sound [] refl refl (orderly-fine (header 0x0C) [] (orderly-is (header 0x0C) [] refl));
   names-itself = source (at-twelve ∷ []) 15 12 refl refl
-    (fifteen 0 (omega arith) (plain-found (header 0x13 ++ selector 5 5) (at-twelve ∷ []) refl) (plain-kept (header 0x13 ++ selector 5 5) (at-twelve ∷ []) refl)
-    (first-here (at-twelve ∷ []) (Breaks15 (header 0x13 ++ selector 5 5) (at-twelve ∷ []))
-    (feeds-itself (header 0x13 ++ selector 5 5) (at-twelve ∷ []) 0 (omega arith, (0, omega arith, refl)))));
+      (fifteen 0 (omega arith) (plain-found (header 0x13 ++ selector 5 5) (at-twelve ∷ []) refl) (plain-kept (header 0x13 ++ selector 5 5) (at-twelve ∷ []) refl)
+      (first-here (at-twelve ∷ []) (Breaks15 (header 0x13 ++ selector 5 5) (at-twelve ∷ []))
+      (feeds-itself (header 0x13 ++ selector 5 5) (at-twelve ∷ []) 0 (omega arith, (0, omega arith, refl)))));
   names-nothing = source (at-twelve ∷ []) 13 12 refl refl
-    (thirteen 0 (omega arith) (first-here (at-twelve ∷ []) (Breaks13 (header 0x13 ++ selector 5 6) (at-twelve ∷ [])) (0, omega arith, refl)));
+      (thirteen 0 (omega arith) (first-here (at-twelve ∷ []) (Breaks13 (header 0x13 ++ selector 5 6) (at-twelve ∷ [])) (0, omega arith, refl)));
   two-paths-accepted = sound two-path-entities refl refl (orderly-fine two-paths two-path-entities (orderly-is two-paths two-path-entities refl));
   unreached-loop = source apart-entities 15 12 refl refl
-    (fifteen 0 (omega arith) (plain-found apart apart-entities refl) (plain-kept apart apart-entities refl)
-    (first-here apart-entities (Breaks15 apart apart-entities)
-    (feed-each-other apart apart-entities 0 1 (omega arith, (0, omega arith, refl)) (omega arith, (0, omega arith, refl)))));
+      (fifteen 0 (omega arith) (plain-found apart apart-entities refl) (plain-kept apart apart-entities refl)
+      (first-here apart-entities (Breaks15 apart apart-entities)
+      (feed-each-other apart apart-entities 0 1 (omega arith, (0, omega arith, refl)) (omega arith, (0, omega arith, refl)))));
 }

@@ -30,11 +30,11 @@ use Rattle.sources.specs.Sources.{Judged}
 use Rattle.control.specs.Reading.{usedBefore, course, refusedBy, ControlIs, ControlIs.block, ControlIs.descriptor, ControlIs.source, ControlIs.sound}
 use Rattle.control.specs.declared.Control.{Control}
 
-or-left : (a b : Bool) → (a || b) ≡ false → a ≡ false
+pub or-left : (a b : Bool) → (a || b) ≡ false → a ≡ false
 or-left true b h = h
 or-left false b h = refl
 
-or-right : (a b : Bool) → (a || b) ≡ false → b ≡ false
+pub or-right : (a b : Bool) → (a || b) ≡ false → b ≡ false
 or-right true b h = absurd (true≢false h)
 or-right false b h = h
 

@@ -5,7 +5,6 @@ ghost use lib.ListN.{length};
 ghost use Rattle.rules.specs.Numbered.{firstFrom};
 ghost use Rattle.control_rules.specs.Rules.{headFlags};
 ghost use Rattle.control.specs.Reading.{ControlIs, refusedBy};
-
 use entities::Table;
 use rules::Verdict;
 

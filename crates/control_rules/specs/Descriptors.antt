@@ -104,6 +104,17 @@ sourcePlace extension = 22
 sourcePlace encoding = 4
 sourcePlace unknown = 0
 
+-- ---- controls: where the three bytes stand, by the kind and the terminal type; 0 where there are none
+unfoldable pub controlsPlace : Kind → ℕ → ℕ
+controlsPlace header t = 0
+controlsPlace input t = pick (eqb t camera) 15 0
+controlsPlace output t = 0
+controlsPlace selector t = 0
+controlsPlace processing t = 8
+controlsPlace extension t = 0
+controlsPlace encoding t = 0
+controlsPlace unknown t = 0
+
 -- ---- a descriptor that lies in the block and has its kind's length and control size
 pub record Shaped (k : Kind) (s : List ℕ) (o : ℕ) : Type 0 where
   pub long : 3 ≤ lenAt s o

@@ -1,5 +1,6 @@
 // The descriptors of a VideoControl block: rules 1 to 4 of the block, rules 5 to 12 of one descriptor, and the entity that it is.
 mod shape;
+
 ghost use mathlib.Core.Path.{_≡_};
 ghost use Prim.Native.Nat.{_<_, _≤_};
 ghost use lib.ListN.{length};
@@ -10,7 +11,6 @@ ghost use Rattle.rules.specs.Numbered.{firstFrom};
 ghost use Rattle.marks.specs.Marks.{marked};
 ghost use Rattle.control_rules.specs.Descriptors.{kindOf, isEntity, terminalOf, Shaped};
 ghost use Rattle.control_rules.specs.Rules.{headFlags, flags, entityFlags, revisionRight, pinCount, pinsRight, entityOf};
-
 use entities::Entity;
 use marks::Marks;
 

@@ -71,6 +71,7 @@ one-bit-only k j h =
         let e : k ≡ suc (k - suc j) + j = omega arith in
         let p : 2 ^ k / 2 ^ j ≡ 2 ^ suc (k - suc j) = ap (λ (x : ℕ). 2 ^ x / 2 ^ j) e ∙ ap (λ (x : ℕ). x / 2 ^ j) (pow-add 2 (suc (k - suc j)) j) ∙ shl-shr (2 ^ suc (k - suc j)) j in
         omega (arith, sym h ∙ ap (λ (x : ℕ). x % 2) p ∙ pow-even (k - suc j))
+
     more : k < j → ⊥
     more l = omega (arith, sym h ∙ bit-high j (2 ^ k) j (pow-lt l) (omega arith))
 
@@ -91,4 +92,3 @@ mark-kept w x k j h = or-l x _ j h
 
 pub mark-made : (w x k : ℕ) → k < w → Bit (bitOr x ((1 * 2 ^ k) % 2 ^ w)) k
 mark-made w x k l = rw (shl-one w k l) (or-r x (2 ^ k) k (one-bit k))
-

@@ -41,6 +41,7 @@ module _ (E : ℕ → ℕ → Type 0) where
           ⊎-elim
           (λ w. inr (straight (subst (E i) q e), subst (λ (n : ℕ). Via E k n j) q w))
           (λ w. inr (straight (subst (E i) q e), w .1)) s
+
       go : Via E k m j ⊎ (Via E k m k × Via E k k j) → (m < k) ⊎ (m ≡ k) → Via E k i j ⊎ (Via E k i k × Via E k k j)
       go (inl w) (inl h) = inl (over e h w)
       go (inr w) (inl h) = inr (over e h (w .0), w .1)
@@ -71,7 +72,7 @@ edge-from m i j e n l = ⊎-elim (λ h. h) (λ h. absurd (no h)) (lt-or-ge i n)
   where
     no : n ≤ i → ⊥
     no h = let z : getD m i 0 ≡ 0 = List·getD-eq-default m 0 (omega arith) in
-      omega (arith, bit-zero j, sym (ap (λ (x : ℕ). bitOf x j) z) ∙ e)
+        omega (arith, bit-zero j, sym (ap (λ (x : ℕ). bitOf x j) z) ∙ e)
 
 -- the rows stand for the chains through nodes below k
 abbrev pub Stands : (ℕ → ℕ → Type 0) → ℕ → List ℕ → Type 0
@@ -112,8 +113,10 @@ module _ (m₀ : List ℕ) (k : ℕ) (m : List ℕ) (i : ℕ) (w : Rounding m₀
         λ e. ⊎-elim (λ p. inl (row-i j .0 p)) (λ p. inr (row-i k .0 (p .0), row-k j .0 (p .1))) (here j .0 e),
         λ t. here j .1 (⊎-elim (λ p. inl (row-i j .1 p)) (λ p. inr (row-i k .1 (p .0), row-k j .1 (p .1))) t),
       )
+
       before : (a : ℕ) → a < i → (j : ℕ) → Edge m′ a j ↔ Through (Edge m₀) k a j
       before a h = let q : getD m′ a 0 ≡ getD m a 0 = other a (λ e. omega arith) in rw q (w .done a h)
+
       done : (a : ℕ) → a < i + 1 → (j : ℕ) → Edge m′ a j ↔ Through (Edge m₀) k a j
       done = below-more (λ (a : ℕ). (j : ℕ) → Edge m′ a j ↔ Through (Edge m₀) k a j) i before at-i
 
@@ -124,8 +127,10 @@ module _ (m₀ : List ℕ) (k : ℕ) (m : List ℕ) (i : ℕ) (w : Rounding m₀
     where
       x : ℕ
       x = getD m i 0
+
       y : ℕ
       y = getD m k 0
+
       here : (j : ℕ) → Edge (set m i (bitOr x y)) i j ↔ Through (Edge m) k i j
       here j =
           let q : getD (set m i (bitOr x y)) i 0 ≡ bitOr x y = getD-set-same m i (bitOr x y) 0 (rw (w .size) l) in

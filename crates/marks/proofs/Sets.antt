@@ -31,6 +31,7 @@ with-marked m i j g h _ = go (eqb i j) refl
   where
     within : i < length m
     within = rw g h
+
     go : (b : Bool) → eqb i j ≡ b → eqb (getD (set m i 1) j 0) 1 ≡ (eqb (getD m j 0) 1 || eqb i j)
     go true e = rw (e, ← eqb-true i j e, getD-set-same m i 1 0 within, or-true)
     go false e = rw (e, getD-set-other m i j 1 0 (λ q. eqb-false i j e (sym q)), or-false)

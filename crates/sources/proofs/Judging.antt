@@ -57,16 +57,16 @@ module _ (R : ℕ → ℕ → Type 0) where
   filled-more : (rows : List ℕ) (i v : ℕ) → i < length rows → Filled R rows i → ((j : ℕ) → Bit v j ↔ R i j) → Filled R (set rows i v) (i + 1)
   filled-more rows i v l f h = record {
     done = below-more (λ (k : ℕ). (j : ℕ) → Bit (getD (set rows i v) k 0) j ↔ R k j) i
-      (λ k kl. rw (getD-set-other rows i k v 0 (λ q. omega arith)) (f .done k kl))
-      (rw (getD-set-same rows i v 0 l) h);
+        (λ k kl. rw (getD-set-other rows i k v 0 (λ q. omega arith)) (f .done k kl))
+        (rw (getD-set-same rows i v 0 l) h);
     rest = λ k kl. getD-set-other rows i k v 0 (λ q. omega arith) ∙ f .rest k (omega arith);
   }
 
   filled-all : (rows : List ℕ) (n : ℕ) → Filled R rows n → (k j : ℕ) → Edge rows k j ↔ ((k < n) × R k j)
   filled-all rows n f k j = (
     λ e. ⊎-elim (λ l. (l, f .done k l j .0 e))
-      (λ l. absurd (omega (arith, bit-zero j, sym e ∙ ap (λ (x : ℕ). bitOf x j) (f .rest k l))))
-      (lt-or-ge k n),
+        (λ l. absurd (omega (arith, bit-zero j, sym e ∙ ap (λ (x : ℕ). bitOf x j) (f .rest k l))))
+        (lt-or-ge k n),
     λ x. f .done k (x .0) j .1 (x .1),
   )
 

@@ -48,6 +48,7 @@ orderly-fine s l o =
   where
     lost : (i : ℕ) → i < length l → Breaks13 s l i → ⊥
     lost i h x = let e = o i h (x .0) (x .1) in let n = e .found in let p = x .2 in let z : _≡_ {A = ℕ} 0 1 = cc in omega arith
+
     output : (i : ℕ) → i < length l → Breaks14 s l i → ⊥
     output i h x =
         let e = o i h (x .0) (x .1) in
@@ -55,6 +56,7 @@ orderly-fine s l o =
         let p = x .2 .1 in
         let z : x .2 .0 ≡ e .place = cc in
         e .plain (rw z at (x .2 .2))
+
     down : (i j : ℕ) → Feeds s l i j → j < i
     down i j x =
         let e = o i (x .0) (x .1 .0) (x .1 .1) in

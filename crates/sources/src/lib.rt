@@ -1,5 +1,6 @@
 // Rules 13 to 15: what the sources of a block's entities name.
 mod links;
+
 ghost use mathlib.Core.Path.{_≡_};
 ghost use mathlib.Core.Bool.{_&&_, not};
 ghost use Prim.Native.Nat.{_+_, _≤_};
@@ -7,7 +8,6 @@ ghost use lib.Dec.{eqb};
 ghost use Rattle.rules.specs.Pick.{pick};
 ghost use Rattle.entities.specs.Table.{used};
 ghost use Rattle.sources.specs.Sources.{Judged};
-
 use entities::Table;
 use rules::Verdict;
 

@@ -3,13 +3,11 @@ ghost use mathlib.Core.Path.{_≡_};
 ghost use mathlib.Core.Bool.{true};
 ghost use mathlib.Core.Logic.{_↔_};
 ghost use Prim.Native.Nat.{ℕ, _<_, _≤_};
-ghost use lib.ListN.{getD};
 ghost use Rattle.graph.specs.Rows.{Bit};
 ghost use Rattle.entities.specs.Table.{used, entityAt};
 ghost use Rattle.entities.specs.declared.Found.the-variants.{At, Nothing};
 ghost use Rattle.control_rules.specs.Descriptors.{kindOf, sourceCount, sourcePlace};
 ghost use Rattle.sources.specs.Sources.{LinksOf};
-
 use entities::Entity;
 use entities::Found;
 use entities::Table;
@@ -34,7 +32,7 @@ pub fn gather(s: &[u8], t: Table, e: Entity) -> Links
     let mut row: u32 = 0;
     let mut q: usize = 0;
     while q < count {
-        let f = entities::find(t, byte_at(s, place + q));
+        let f = entities::find(t, le::byte_at(s, place + q));
         lost = lost | names_nothing(f);
         output = output | names_output(t, f);
         row = row | place_bit(f);
@@ -82,9 +80,9 @@ fn source_count(s: &[u8], at: usize, kind: u8) -> usize
 {
     match kind {
         3 => 1,
-        4 => le::wide(byte_at(s, at + 4)),
+        4 => le::wide(le::byte_at(s, at + 4)),
         5 => 1,
-        6 => le::wide(byte_at(s, at + 21)),
+        6 => le::wide(le::byte_at(s, at + 21)),
         7 => 1,
         _ => 0,
     }
@@ -102,14 +100,4 @@ fn source_place(kind: u8) -> usize
         7 => 4,
         _ => 0,
     }
-}
-
-// The byte at `at`, or 0 past the end.
-fn byte_at(s: &[u8], at: usize) -> u8
-    ensures { λ r. ⌜ r ≡ getD (now (s .entry)) at 0 ⌝ }
-{
-    if at < s.len() {
-        return s[at];
-    }
-    0
 }

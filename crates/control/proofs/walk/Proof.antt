@@ -127,7 +127,7 @@ loop-less c = let f = fits (c .before .before .before .before .before) .shaped i
 
 -- src/lib.rt:37:5
 loop-again : tie.Need-loop-again Inv-loop μ-loop
-loop-again c = 
+loop-again c =
     let t = c .before .before .before .before .before .before .before .before .before .loop .table in
     rw (c .wide .ensures .0)
     (⊎-elim

@@ -33,19 +33,24 @@ loop-less c = search needs
 loop-again : tie.Need-loop-again Inv-loop μ-loop
 loop-again c =
     let m = c .before .before .before .before .args .m .now in
-    let l = c .before .before .before .loop in
-    (omega arith, c .round .ensures .0,
+    let l = c .before .before .before .loop in (
+      omega arith,
+      c .round .ensures .0,
       round-stands (Edge m) (l .k) (l .m) (c .round .last .0) (l .inv .2)
-        (c .round .ensures .1))
+          (c .round .ensures .1),
+    )
 
 returns : tie.Need-returns Inv-loop μ-loop
 returns c =
     let m = c .before .before .args .m .now in
     let l = c .before .loop in
-    let full : l .k ≡ 32 = omega arith in
-    (l .inv .1, λ i j.
-      ( (λ e. via-chain (Edge m) (l .inv .2 i j .0 e))
-      , (λ ch. l .inv .2 i j .1 (rw full (chain-via (Edge m) 32 (λ a b e. edge-from m a b e 32 (c .before .before .pre)) ch)))))
+    let full : l .k ≡ 32 = omega arith in (
+      l .inv .1,
+      λ i j. (
+        (λ e. via-chain (Edge m) (l .inv .2 i j .0 e)),
+        (λ ch. l .inv .2 i j .1 (rw full (chain-via (Edge m) 32 (λ a b e. edge-from m a b e 32 (c .before .before .pre)) ch))),
+      ),
+    )
 
 pub close-spec : {M : Type 1} → statement M
 close-spec =

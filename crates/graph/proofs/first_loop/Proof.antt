@@ -54,9 +54,11 @@ loop-less c = search needs
 loop-again : tie.Need-loop-again Inv-loop μ-loop
 loop-again c =
     let l = c .before .before .before .loop in
-    let m = c .before .before .before .before .close .last .0 in
-    (omega arith, below-more (λ (a : ℕ). Edge m a a → ⊥) (l .i) (l .inv .1)
-      (eqb-false (bitOf (getD m (l .i) 0) (l .i)) 1 (sym (c .before .bit .ensures) ∙ c .if1 .left)))
+    let m = c .before .before .before .before .close .last .0 in (
+      omega arith,
+      below-more (λ (a : ℕ). Edge m a a → ⊥) (l .i) (l .inv .1)
+          (eqb-false (bitOf (getD m (l .i) 0) (l .i)) 1 (sym (c .before .bit .ensures) ∙ c .if1 .left)),
+    )
 
 returns-2 : tie.Need-returns-2 Inv-loop μ-loop
 returns-2 c =

@@ -40,7 +40,7 @@ cast-t19 c = search needs
 
 -- src/lib.rt:28:13
 returns : tie.Need-returns Inv-loop μ-loop
-returns c = 
+returns c =
     let l = c .before .before .before .before .before .loop in
     judged-13 _ (c .before .before .before .before .before .before .before .args .t2) _ _ _ (c .before .before .before .before .before .before .before .pre) (l .inv .0) (omega arith) _ _ _ (c .before .before .gather .ensures) (c .before .if1 .taken)
 
@@ -66,7 +66,7 @@ loop-less c = search needs
 
 -- src/lib.rt:24:5
 loop-again : tie.Need-loop-again Inv-loop μ-loop
-loop-again c = 
+loop-again c =
     let l = c .before .before .before .before .before .loop in
     (rw (c .first-of .ensures) (judge-more _ (c .before .before .before .before .before .before .before .args .t2) _ _ _ (c .before .before .before .before .before .before .before .pre) (l .inv .0) (omega arith) _ _ _ (c .before .before .gather .ensures) (c .before .if1 .left)), refl)
 
@@ -84,7 +84,7 @@ cast-t23 c = search needs
 
 -- src/lib.rt:39:9
 returns-2 : tie.Need-returns-2 Inv-loop μ-loop
-returns-2 c = 
+returns-2 c =
     let l = c .before .before .before .before .loop in
     judged-14 _ (c .before .before .before .before .before .before .args .t2) _ _ _ (c .before .before .before .before .before .before .pre) (l .inv .0) (omega arith) (omega arith)
 
@@ -106,13 +106,13 @@ cast-t28 c = search needs
 
 -- src/lib.rt:47:9
 returns-3 : tie.Need-returns-3 Inv-loop μ-loop
-returns-3 c = 
+returns-3 c =
     let l = c .before .before .before .before .before .before .loop in
     judged-15 _ (c .before .before .before .before .before .before .before .before .args .t2) _ _ _ (c .before .before .before .before .before .before .before .before .pre) (l .inv .0) (omega arith) (omega arith) _ (c .before .before .before .first-loop .ensures) (omega arith)
 
 -- src/lib.rt:16:1
 returns-4 : tie.Need-returns-4 Inv-loop μ-loop
-returns-4 c = 
+returns-4 c =
     let l = c .before .before .before .before .loop in
     judged-fine _ (c .before .before .before .before .before .before .args .t2) _ _ _ (c .before .before .before .before .before .before .pre) (l .inv .0) (omega arith) (omega arith) _ (c .before .first-loop .ensures) (omega arith)
 

@@ -9,7 +9,7 @@ use Rattle.sources.proofs.links.gather.Tie as tie
 use Rattle.sources.proofs.links.gather.Reads as reads
 use Rattle.sources.proofs.links.gather.Lts as lts
 use Rattle.entities.proofs.find.Reads as find-reads
-use Rattle.sources.proofs.links.byte_at.Reads as byte-at-reads
+use Rattle.le.proofs.byte_at.Reads as byte-at-reads
 use Rattle.sources.proofs.links.names_nothing.Reads as names-nothing-reads
 use Rattle.sources.proofs.links.names_output.Reads as names-output-reads
 use Rattle.sources.proofs.links.place_bit.Reads as place-bit-reads
@@ -76,7 +76,7 @@ loop-less c = search needs
 
 -- src/links.rt:36:5
 loop-again : tie.Need-loop-again Inv-loop μ-loop
-loop-again c = 
+loop-again c =
     let k = c .before .before .before in
     let l = k .before .before .before .loop in
     let t = k .before .before .before .before .before .before .before .before .args .t in
@@ -84,7 +84,7 @@ loop-again c =
 
 -- src/links.rt:24:1
 returns : tie.Need-returns Inv-loop μ-loop
-returns c = 
+returns c =
     let l = c .before .loop in
     let q : l .q ≡ c .before .before .before .source-count .result = omega arith in
     linked _ _ _ _ _ _ _ _ (c .before .before .source-place .ensures .0) (q ∙ c .before .before .before .source-count .ensures .0) (l .inv .1)

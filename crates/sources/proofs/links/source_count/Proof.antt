@@ -7,7 +7,7 @@ use Rattle.sources.proofs.links.source_count.Tie as tie
 use Rattle.sources.proofs.links.source_count.Reads as reads
 use Rattle.sources.proofs.links.source_count.Lts as lts
 use Rattle.le.proofs.wide.Reads as wide-reads
-use Rattle.sources.proofs.links.byte_at.Reads as byte-at-reads
+use Rattle.le.proofs.byte_at.Reads as byte-at-reads
 
 -- src/links.rt:85:34
 add-byte-at : tie.Need-add-byte-at

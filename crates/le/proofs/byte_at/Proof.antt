@@ -2,10 +2,10 @@ use denote.Ref.{now}
 use mathlib.Core.Path.{sym}
 use lib.ListN.{List·getD-eq-default}
 use borrow.Author.Needs.{needs}
-use Rattle.sources.proofs.links.byte_at.Statement.{statement}
-use Rattle.sources.proofs.links.byte_at.Tie as tie
-use Rattle.sources.proofs.links.byte_at.Reads as reads
-use Rattle.sources.proofs.links.byte_at.Lts as lts
+use Rattle.le.proofs.byte_at.Statement.{statement}
+use Rattle.le.proofs.byte_at.Tie as tie
+use Rattle.le.proofs.byte_at.Reads as reads
+use Rattle.le.proofs.byte_at.Lts as lts
 
 -- src/links.rt:112:16
 shared-slice-read-result : tie.Need-shared-slice-read-result
