@@ -40,7 +40,7 @@ fn find_controls(s: &[u8], table: Table, id: u8) -> Map
     requires { ⌜ ControlIs (now s) (record { verdict = Accepted; table = table }) ⌝ }
     ensures { λ r. ⌜ MapIs (now (s .entry)) id r ⌝ }
 {
-    match entities::find(table, id) {
+    match entities::find_lent(table, id) {
         Found::Nothing => Map::Refused {
             number: 16,
             offset: 0,

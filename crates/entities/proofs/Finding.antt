@@ -74,6 +74,41 @@ found-within l id j e = go (findFrom 0 l id) (sought l id 0) e
     go r (hit k h f) q = let z : 0 + k ≡ j = cc in omega arith
     go r (missed f) q = absurd (let z : _≡_ {A = ℕ} 0 1 = cc in omega arith)
 
+-- the place that a scan of a list finds is the one that the search finds
+pub absent : (l : List Entity) (id : ℕ) → ((i : ℕ) → i < length l → Carries l id i → ⊥) → Nothing ≡ findFrom 0 l id
+absent l id h = go (findFrom 0 l id) refl
+  where
+    go : (f : Found) → findFrom 0 l id ≡ f → Nothing ≡ f
+    go Nothing e = refl
+    go (At j) e = let w = found-within l id j e in absurd (h j w ((rw e at (found-first l id)) .here w))
+
+pub present : (l : List Entity) (id r : ℕ) → r < length l → First (Carries l id) (length l) r → At r ≡ findFrom 0 l id
+present l id r h w = go (findFrom 0 l id) refl
+  where
+    go : (f : Found) → findFrom 0 l id ≡ f → At r ≡ f
+    go Nothing e = absurd ((rw e at (found-first l id)) .before r h (w .here h))
+    go (At j) e = ap At (first-unique (Carries l id) (length l) r j w (rw e at (found-first l id)))
+
+-- ---- the scan of all the places, used and unused
+module _ (t : Table) (id r : ℕ) (size : length (t .entities) ≡ 32) (w : First (Carries (t .entities) id) (length (t .entities)) r) where
+  used-carries : (i : ℕ) → i < length (used t) → Carries (used t) id i → Carries (t .entities) id i
+  used-carries i h e = let k : i < t .count = omega (arith, simp length-take at h) in rw getD-take at e
+
+  pub lent-none : t .count ≤ r → Nothing ≡ foundIn t id
+  lent-none h = absent (used t) id (λ i k e. w .before i (omega (arith, simp length-take at k)) (used-carries i k e))
+
+  pub lent-more : 32 ≤ r → Nothing ≡ foundIn t id
+  lent-more h = absent (used t) id (λ i k e. w .before i (omega (arith, simp length-take at k)) (used-carries i k e))
+
+  pub lent-at : r < t .count → r < 32 → At r ≡ foundIn t id
+  lent-at h b =
+      present (used t) id r (simp length-take (omega arith))
+      (record {
+        within = simp length-take (omega arith);
+        before = λ i k e. w .before i k (used-carries i (simp length-take (omega arith)) e);
+        here = λ k. rw getD-take (w .here (omega arith));
+      })
+
 -- ---- the search in a table, place by place
 pub length-of : (X Y : Type 0) (f : X → Y) (l : List X) (n : ℕ) → length (map f l) ≡ n → length l ≡ n
 length-of X Y f l n e = sym (length-map l f) ∙ e

@@ -8,11 +8,11 @@ use Rattle.control_map.proofs.find_controls.Tie as tie
 use Rattle.control_map.proofs.find_controls.Reads as reads
 use Rattle.control_map.proofs.find_controls.Lts as lts
 use Rattle.control_map.proofs.controls_of.Reads as controls-of-reads
-use Rattle.entities.proofs.find.Reads as find-reads
+use Rattle.entities.proofs.find_lent.Reads as find-lent-reads
 
 -- src/lib.rt:44:11
-find-requires : tie.Need-find-requires
-find-requires c κs = search needs
+find-lent-requires : tie.Need-find-lent-requires
+find-lent-requires c κs = search needs
 
 -- src/lib.rt:45:27
 enum-told : tie.Need-enum-told
@@ -24,11 +24,11 @@ enum-known-i c = search needs
 
 -- src/lib.rt:50:21
 mul-e : tie.Need-mul-e
-mul-e c = omega (arith, in-table (c .before .before .before .before .before .args .t2) _ _ _ (search length-of) (c .before .before .before .find .ensures) (c .before .i .given .1))
+mul-e c = omega (arith, in-table (c .before .before .before .before .before .args .t2) _ _ _ (search length-of) (c .before .before .before .find-lent .ensures) (c .before .i .given .1))
 
 -- src/lib.rt:50:21
 element-copy-out-e : tie.Need-element-copy-out-e
-element-copy-out-e c = in-table (c .before .before .before .before .before .args .t2) _ _ _ (search length-of) (c .before .before .before .find .ensures) (c .before .i .given .1)
+element-copy-out-e c = in-table (c .before .before .before .before .before .args .t2) _ _ _ (search length-of) (c .before .before .before .find-lent .ensures) (c .before .i .given .1)
 
 -- src/lib.rt:51:13
 controls-of-requires : tie.Need-controls-of-requires
@@ -36,17 +36,17 @@ controls-of-requires c κs = search needs
 
 -- src/lib.rt:40:1
 returns : tie.Need-returns
-returns c = map-nothing _ _ (c .before .before .before .before .pre) _ _ (c .before .before .find .ensures) _ (c .enum-told .given .1) refl
+returns c = map-nothing _ _ (c .before .before .before .before .pre) _ _ (c .before .before .find-lent .ensures) _ (c .enum-told .given .1) refl
 
 -- src/lib.rt:40:1
 returns-2 : tie.Need-returns-2
-returns-2 c = map-at _ _ (c .before .before .before .before .before .before .before .pre) _ _ (c .before .before .before .before .before .find .ensures) _ (c .before .before .before .i .given .1) _ (c .controls-of .ensures)
+returns-2 c = map-at _ _ (c .before .before .before .before .before .before .before .pre) _ _ (c .before .before .before .before .before .find-lent .ensures) _ (c .before .before .before .i .given .1) _ (c .controls-of .ensures)
 
 pub find-controls-spec : {M : Type 1} → statement M
 find-controls-spec =
     tie.close
     (tie.spec
-    find-requires
+    find-lent-requires
     enum-told
     enum-known-i
     mul-e
