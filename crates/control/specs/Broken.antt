@@ -30,7 +30,7 @@ pub record Sound (s : List ℕ) : Type 0 where
   pub descriptors : Clean (course s)
   pub sources : (seen : List Entity) → Entities s seen → Kept seen (Breaks13 s seen) × Kept seen (Breaks14 s seen) × Kept seen (Breaks15 s seen)
 
--- the block breaks none of 1 to 4; nor a descriptor any of 5 to 12
+-- the block breaks none of 1 to 4
 abbrev pub BlockRight : List ℕ → Type 0
 BlockRight s = (j : ℕ) → BlockBreaks s j → ⊥
 

@@ -1,20 +1,18 @@
 // The control-map reader: the three control bytes of a camera terminal or a processing unit.
 ghost use mathlib.Core.Path.{_≡_};
-ghost use mathlib.Core.Bool.{true};
-ghost use Prim.Native.Nat.{_<_, _≤_};
+ghost use Prim.Native.Nat.{_<_};
 ghost use Rattle.rules.specs.declared.Verdict.the-variants.{Accepted};
-ghost use Rattle.control_rules.specs.Descriptors.{kindOf, controlsPlace};
+ghost use Rattle.control_rules.specs.Descriptors.{kindOf, controlsPlace, camera};
 ghost use Rattle.control.specs.Reading.{ControlIs};
 ghost use Rattle.control_map.specs.Map.{MapIs, placeOf, controlsOf};
 ghost use Rattle.rules.specs.Pick.{pick};
 ghost use lib.Dec.{eqb};
 ghost use Rattle.control_map.specs.declared.Map.the-variants.{Refused};
+use control_rules::CAMERA;
 use entities::Entity;
 use entities::Found;
 use entities::Table;
 use rules::Verdict;
-
-const CAMERA: u16 = 0x0201;
 
 pub enum Map {
     Controls(u8, u8, u8),
@@ -83,7 +81,7 @@ fn controls_place(kind: u8, terminal: u16) -> usize
 }
 
 fn camera_place(terminal: u16) -> usize
-    ensures { λ r. ⌜ (r ≡ pick (eqb terminal 0x0201) 15 0) × (r < 16) ⌝ }
+    ensures { λ r. ⌜ (r ≡ pick (eqb terminal camera) 15 0) × (r < 16) ⌝ }
 {
     if terminal == CAMERA {
         return 15;

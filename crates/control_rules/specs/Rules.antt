@@ -9,12 +9,16 @@ use Rattle.rules.specs.Pick.{pick}
 use Rattle.entities.specs.declared.Entity.{Entity}
 use Rattle.control_rules.specs.Descriptors.{Kind, header, input, output, selector, processing, extension, encoding, unknown, lenAt, kindAt, shape, isEntity, terminalOf}
 
+-- CS_INTERFACE, the type of every descriptor of the block
+abbrev pub descriptorType : ℕ
+descriptorType = 0x24
+
 -- 1, 2: under 12 bytes; over 4,096. 3: bytes 1, 2 are not 0x24, 1. 4: wTotalLength is not the block's length
 unfoldable pub headFlags : List ℕ → List Bool
 headFlags s =
     ltb (length s) 12
     ∷ ltb 4096 (length s)
-    ∷ not (eqb (getD s 1 0) 0x24 && eqb (getD s 2 0) 1)
+    ∷ not (eqb (getD s 1 0) descriptorType && eqb (getD s 2 0) 1)
     ∷ not (eqb (le16At s 5) (length s))
     ∷ []
 
@@ -24,7 +28,7 @@ lengthBroken s o = ltb (lenAt s o) 3 || ltb (length s) (o + lenAt s o)
 
 -- 6: type not 0x24, or a second header
 unfoldable pub typeBroken : List ℕ → ℕ → Bool
-typeBroken s o = not (eqb (byte s o 1) 0x24) || (eqb (byte s o 2) 1 && not (eqb o 0))
+typeBroken s o = not (eqb (byte s o 1) descriptorType) || (eqb (byte s o 2) 1 && not (eqb o 0))
 
 -- 8: bcdUVC not 0x0150
 unfoldable pub revisionRight : Kind → List ℕ → ℕ → Bool

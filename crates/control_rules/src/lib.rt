@@ -14,21 +14,37 @@ ghost use Rattle.control_rules.specs.Rules.{headFlags, flags, entityFlag
 use entities::Entity;
 use marks::Marks;
 
+const SHORTEST_BLOCK: usize = 12;
+
+const LONGEST_BLOCK: usize = 4096;
+
+const MOST_ENTITIES: usize = 32;
+
+const MOST_PINS: u8 = 16;
+// CS_INTERFACE, the type of every descriptor of the block.
+const DESCRIPTOR: u8 = 0x24;
+
+const HEADER: u8 = 1;
+
+const REVISION: u16 = 0x0150;
+// The terminal type of a camera.
+pub const CAMERA: u16 = 0x0201;
+
 // The first of rules 1 to 4 that the block breaks; 0 where none is broken.
 pub fn head_rule(s: &[u8]) -> u8
     ensures { λ r. ⌜ r ≡ firstFrom 1 (headFlags (now (s .entry))) ⌝ }
 {
     let n = s.len();
-    if n < 12 {
+    if n < SHORTEST_BLOCK {
         return 1;
     }
-    if 4096 < n {
+    if LONGEST_BLOCK < n {
         return 2;
     }
-    if s[1] != 0x24 {
+    if s[1] != DESCRIPTOR {
         return 3;
     }
-    if s[2] != 1 {
+    if s[2] != HEADER {
         return 3;
     }
     let total = le::le16(s, 5) as usize;
@@ -51,7 +67,7 @@ pub fn rule_at(s: &[u8], at: usize, count: usize, marks: &Marks) -> u8
     if s.len() - at < len {
         return 5;
     }
-    if s[at + 1] != 0x24 {
+    if s[at + 1] != DESCRIPTOR {
         return 6;
     }
     let sub = s[at + 2];
@@ -99,7 +115,7 @@ pub fn is_entity(sub: u8) -> bool
 fn second_header(sub: u8, at: usize) -> bool
     ensures { λ r. ⌜ r ≡ (eqb sub 1 && not (eqb at 0)) ⌝ }
 {
-    if sub != 1 {
+    if sub != HEADER {
         return false;
     }
     at != 0
@@ -111,7 +127,7 @@ fn revision_right(s: &[u8], at: usize, sub: u8) -> bool
     ensures { λ r. ⌜ r ≡ revisionRight (kindOf sub) (now (s .entry)) at ⌝ }
 {
     match sub {
-        1 => le::le16(s, at + 3) == 0x0150,
+        1 => le::le16(s, at + 3) == REVISION,
         _ => true,
     }
 }
@@ -132,7 +148,7 @@ fn entity_rule(s: &[u8], at: usize, sub: u8, count: usize, marks: &Marks) -> u8
     if marks::has(marks, id) {
         return 10;
     }
-    if 32 <= count {
+    if MOST_ENTITIES <= count {
         return 11;
     }
     if pins_right(s, at, sub) {
@@ -159,7 +175,7 @@ fn pin_count(p: u8) -> bool
     if p < 1 {
         return false;
     }
-    p <= 16
+    p <= MOST_PINS
 }
 
 // The terminal type, or 0.

@@ -3,10 +3,12 @@ ghost use mathlib.Core.Path.{_≡_};
 ghost use Prim.Native.Nat.{_+_, _<_, _≤_};
 ghost use lib.ListN.{length, getD};
 ghost use Rattle.control_rules.specs.Descriptors.{kindOf, fixedAt, countedAt, inputAt, extensionAt, shape};
+use crate::CAMERA;
 
-const CAMERA: u16 = 0x0201;
+// bControlSize of a camera, a processing unit and an encoding unit.
+const CONTROL_SIZE: u8 = 3;
 
-// `len` is bLength, and the descriptor lies in the block.
+// Inner: `len` is bLength, and the descriptor lies in the block.
 pub fn right(s: &[u8], at: usize, len: usize, sub: u8) -> bool
     requires { ⌜ (len ≡ getD (now s) at 0) × (at + len ≤ length (now s)) ⌝ }
     ensures { λ r. ⌜ r ≡ shape (kindOf sub) (now (s .entry)) at ⌝ }
@@ -32,7 +34,7 @@ fn fixed(s: &[u8], at: usize, len: usize, size: usize, k: usize) -> bool
     if len != size {
         return false;
     }
-    s[at + k] == 3
+    s[at + k] == CONTROL_SIZE
 }
 
 // The length is `base` and as many more as the byte at `k` says.

@@ -12,6 +12,8 @@ use entities::Entity;
 use entities::Found;
 use entities::Table;
 
+const OUTPUT_TERMINAL: u8 = 3;
+
 pub struct Links {
     pub lost: bool,
     pub output: bool,
@@ -19,6 +21,7 @@ pub struct Links {
     pub row: u32,
 }
 
+// Inner: the table says at most 32.
 pub fn gather(s: &[u8], t: Table, e: Entity) -> Links
     requires { ⌜ t .count ≤ 32 ⌝ }
     ensures { λ r. ⌜ LinksOf (now (s .entry)) (used t) e (r .lost) (r .output) (r .row) ⌝ }
@@ -58,7 +61,7 @@ fn names_output(t: Table, f: Found) -> bool
         Found::Nothing => false,
         Found::At(j) => {
             let e = t.entities[j];
-            e.kind == 3
+            e.kind == OUTPUT_TERMINAL
         }
     }
 }
