@@ -1,14 +1,14 @@
 -- A block is accepted exactly when no rule is broken; refused by k at o exactly when k is the first broken rule in the table's order, at the first place that
 -- breaks it. An accepted table lists the block's entities, and every source names one that is no output terminal.
-use Prim.Native.Nat.{ℕ, zero, suc, _+_, _≤_, _<_}
+use Prim.Native.Nat.{ℕ, zero, suc, _<_}
 use mathlib.Core.Path.{_≡_, refl, sym, ap, _∙_}
 use mathlib.Core.List.{List}
-use mathlib.Core.Logic.{_⊎_, inl, inr, ⊎-elim, _↔_}
+use mathlib.Core.Logic.{_↔_}
 use lib.ListN.{length}
 use native.Mathlib.Omega.{arith}
-use Rattle.rules.specs.Numbered.{firstFrom, Up}
+use Rattle.rules.specs.Numbered.{firstFrom}
 use Rattle.rules.specs.First.{First}
-use Rattle.rules.specs.Walk.{Outcome, Outcome.done, Outcome.stop, walk, Clean, FirstBreak}
+use Rattle.rules.specs.Walk.{Outcome.done, walk, Clean, FirstBreak}
 use Rattle.rules.specs.declared.Verdict.{Verdict}
 use Rattle.rules.specs.declared.Verdict.the-variants.{Accepted, Refused}
 use Rattle.rules.proofs.Numbered.{none-up, none-first, first-up, first-low, up-first, up-above, up-below}

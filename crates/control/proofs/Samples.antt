@@ -1,6 +1,6 @@
 -- Document 01's samples of the control block, over the definition that `read` promises; and a block with two paths to one source, and one with a loop that no
 -- output terminal reaches.
-use Prim.Native.Nat.{ℕ, _≤_, _<_}
+use Prim.Native.Nat.{ℕ}
 use mathlib.Core.Path.{refl}
 use mathlib.Core.List.{List, [], _∷_, _++_}
 use lib.ListN.{length}
@@ -8,18 +8,16 @@ use native.Mathlib.Omega.{arith}
 use Rattle.rules.specs.Pick.{pick}
 use Rattle.rules.specs.Numbered.{firstFrom}
 use Rattle.rules.specs.First.{First}
-use Rattle.rules.specs.Chain.{Chain.one, Chain.more}
-use Rattle.rules.specs.Walk.{Outcome.done, walkFrom, walk}
-use Rattle.rules.specs.declared.Verdict.the-variants.{Accepted, Refused}
-use Rattle.entities.specs.Table.{noEntity, noTable, entityAt, findFrom}
+use Rattle.rules.specs.Chain.{Chain.one}
+use Rattle.rules.specs.Walk.{walkFrom, walk}
+use Rattle.rules.specs.declared.Verdict.the-variants.{Accepted}
+use Rattle.entities.specs.Table.{noTable, findFrom}
 use Rattle.entities.specs.declared.Entity.{Entity}
-use Rattle.entities.specs.declared.Found.{Found}
-use Rattle.entities.specs.declared.Found.the-variants.{At, Nothing}
-use Rattle.control_rules.specs.Descriptors.{kindOf, fixedAt, countedAt, inputAt, extensionAt, shape, isEntity, terminalOf, sourceCount, sourcePlace}
+use Rattle.control_rules.specs.Descriptors.{kindOf, fixedAt, countedAt, inputAt, shape, isEntity, terminalOf, sourceCount, sourcePlace}
 use Rattle.control_rules.specs.Rules.{headFlags, lengthBroken, typeBroken, revisionRight, pinCount, pinsRight, entityFlags, flags, entitiesAt}
 use Rattle.sources.specs.Sources.{Breaks13, Breaks15, Judged.thirteen, Judged.fifteen}
 use Rattle.sources.proofs.Loops.{allBelow, earlier, orderly, orderly-is, orderly-fine, plain, allPlain, plain-found, plain-kept, feed-each-other, feeds-itself}
-use Rattle.control.specs.Reading.{usedBefore, course, refusedBy, acceptedWith, ControlIs, ControlIs.source, ControlIs.sound}
+use Rattle.control.specs.Reading.{usedBefore, refusedBy, acceptedWith, ControlIs, ControlIs.source, ControlIs.sound}
 
 -- a header of 12 bytes in a block of n, at 48,000,000 Hz
 abbrev pub header : ℕ → List ℕ

@@ -2,17 +2,17 @@
 use Prim.Native.Nat.{ℕ, zero, suc, _+_, _-_, _≤_, _<_}
 use mathlib.Core.Path.{_≡_, refl, sym, ap, _∙_}
 use mathlib.Core.List.{List, [], _∷_, _++_, append-nil}
-use mathlib.Core.Bool.{Bool, true, false, not, _&&_, _||_, or-assoc, or-false, true≢false}
+use mathlib.Core.Bool.{Bool, true, false, _||_, or-assoc, or-false, true≢false}
 use lib.ListN.{length, set, replicate, length-append}
 use lib.Seq.{take-at}
-use lib.Dec.{ltb, leb, eqb}
+use lib.Dec.{ltb, eqb}
 use borrow.Author.Tests.{not-false, leb-false, ltb-false}
 use native.Mathlib.Omega.{arith}
 use Rattle.le.specs.Le.{byte, le32At}
 use Rattle.rules.specs.Pick.{pick}
 use Rattle.rules.specs.Pad.{pad}
 use Rattle.rules.specs.Numbered.{firstFrom, Down}
-use Rattle.rules.specs.Walk.{Course, Outcome.done, Outcome.stop, walk, brokenAt}
+use Rattle.rules.specs.Walk.{Outcome.done, walk, brokenAt}
 use Rattle.rules.proofs.Numbered.{first-zero}
 use Rattle.rules.proofs.Padded.{pad-set}
 use Rattle.rules.proofs.Walks.{Steady, Walking, starts, stops, ends, goes}
@@ -23,8 +23,8 @@ use Rattle.entities.specs.declared.Entity.{Entity}
 use Rattle.entities.specs.declared.Table.{Table}
 use Rattle.marks.specs.Marks.{noMarks, marked, withMark}
 use Rattle.marks.proofs.Sets.{Good, good-none, good-with, none-marked, with-marked}
-use Rattle.control_rules.specs.Descriptors.{lenAt, kindAt, shape, isEntity, Shaped}
-use Rattle.control_rules.specs.Rules.{headFlags, lengthBroken, typeBroken, entityFlags, flags, entityOf, entitiesAt, revisionRight, pinsRight}
+use Rattle.control_rules.specs.Descriptors.{lenAt, kindAt, isEntity, Shaped}
+use Rattle.control_rules.specs.Rules.{headFlags, lengthBroken, entityFlags, flags, entityOf, entitiesAt}
 use Rattle.control_rules.proofs.Shortest.{sub-room, id-room}
 use Rattle.sources.specs.Sources.{Judged}
 use Rattle.control.specs.Reading.{usedBefore, course, refusedBy, ControlIs, ControlIs.block, ControlIs.descriptor, ControlIs.source, ControlIs.sound}

@@ -4,7 +4,6 @@ use mathlib.Core.Path.{_≡_}
 use mathlib.Core.List.{List}
 use lib.ListN.{length}
 use Rattle.rules.specs.Numbered.{Up}
-use Rattle.rules.specs.First.{First}
 use Rattle.rules.specs.Walk.{Reached, Clean, FirstBreak}
 use Rattle.entities.specs.Table.{entityAt}
 use Rattle.entities.specs.declared.Entity.{Entity}

@@ -1,28 +1,26 @@
 -- The block's own refusal exactly when the block is refused; 16 at 0 exactly when it is accepted and no camera terminal or processing unit has the ID; else the
 -- three bytes at the place that the document names.
-use Prim.Native.Nat.{ℕ, _+_, _<_}
-use mathlib.Core.Path.{_≡_, refl, sym, ap, _∙_}
+use Prim.Native.Nat.{ℕ, _<_}
+use mathlib.Core.Path.{_≡_, refl, sym, _∙_}
 use mathlib.Core.List.{List}
 use mathlib.Core.Logic.{_↔_}
 use lib.ListN.{length}
-use lib.Dec.{eqb}
-use borrow.Author.Tests.{eq-eqb, ne-eqb}
+use borrow.Author.Tests.{ne-eqb}
 use native.Mathlib.Omega.{arith}
 use Rattle.le.specs.Le.{byte}
 use Rattle.rules.specs.Pick.{pick}
-use Rattle.rules.specs.declared.Verdict.the-variants as verdicts
 use Rattle.entities.specs.Table.{entityAt}
 use Rattle.entities.specs.declared.Entity.{Entity}
 use Rattle.control_rules.specs.Descriptors.{kindOf, controlsPlace, camera}
-use Rattle.control.specs.Reading.{refusedBy, acceptedWith, ControlIs}
-use Rattle.control.specs.Broken.{Entities, Sound, FirstBroken, FirstBroken.by-block, FirstBroken.by-descriptor, FirstBroken.by-13, FirstBroken.by-14, FirstBroken.by-15}
+use Rattle.control.specs.Reading.{refusedBy, ControlIs}
+use Rattle.control.specs.Broken.{FirstBroken, FirstBroken.by-block, FirstBroken.by-descriptor, FirstBroken.by-13, FirstBroken.by-14, FirstBroken.by-15}
 use Rattle.control.proofs.Ids.{ids-nonzero}
 use Rattle.control.proofs.ExactlyWhen.{accepted, refused, from-first, few-head, few-flags}
 use Rattle.control_map.specs.Map.{placeOf, AcceptedWith, Mapped, controlsOf, MapIs, MapIs.own, MapIs.given, MapIs.sixteen}
 use Rattle.control_map.specs.declared.Map.{Map}
 use Rattle.control_map.specs.declared.Map.the-variants.{Controls, Refused}
 use Rattle.control_map.proofs.Mapping.{clean, mapped-once, place-else}
-use Rattle.control_map.proofs.Unique.{controls-unique, same-list}
+use Rattle.control_map.proofs.Unique.{controls-unique}
 
 apart : (a b c k o : ℕ) → Controls a b c ≡ Refused k o → ⊥
 apart a b c k o e = let z : _≡_ {A = ℕ} 0 1 = cc in omega arith

@@ -1,6 +1,6 @@
 -- What finding an ID in an accepted block's table says of its controls.
 use Prim.Native.Nat.{ℕ, zero, suc, _-_, _≤_, _<_}
-use mathlib.Core.Path.{_≡_, refl, sym, ap, _∙_}
+use mathlib.Core.Path.{_≡_, refl, sym, _∙_}
 use mathlib.Core.List.{List}
 use mathlib.Core.Bool.{Bool, true, false}
 use lib.ListN.{length, replicate, length-take}
@@ -21,16 +21,15 @@ use Rattle.entities.specs.declared.Found.{Found}
 use Rattle.entities.specs.declared.Found.the-variants.{At, Nothing}
 use Rattle.entities.proofs.Finding.{Carries, found-first, found-within}
 use Rattle.entities.proofs.Finding as finding
-use Rattle.control_rules.specs.Descriptors.{kindOf, controlsPlace, camera}
+use Rattle.control_rules.specs.Descriptors.{kindOf, controlsPlace}
 use Rattle.control_rules.proofs.Shortest.{by-kind}
 use Rattle.control.specs.Reading.{course, tableOf, acceptedWith, ControlIs}
-use Rattle.control.specs.Broken.{Entities}
 use Rattle.control.specs.declared.Control.{Control}
 use Rattle.control.proofs.Ids.{Distinct, ids-differ}
 use Rattle.control.proofs.ExactlyWhen.{accepted, lists, zero-table}
 use Rattle.control_map.specs.Map.{placeOf, AcceptedWith, Mapped, controlsOf, MapIs, MapIs.own, MapIs.given, MapIs.sixteen}
 use Rattle.control_map.specs.declared.Map.{Map}
-use Rattle.control_map.specs.declared.Map.the-variants.{Controls, Refused}
+use Rattle.control_map.specs.declared.Map.the-variants.{Refused}
 
 -- ---- an accepted block has clean descriptors and entities with IDs of their own
 pub clean : (s : List ℕ) (l : List Entity) → AcceptedWith s l → Clean (course s)

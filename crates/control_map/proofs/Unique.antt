@@ -1,8 +1,7 @@
 -- The promise of `controls` leaves one answer.
 use Prim.Native.Nat.{ℕ}
-use mathlib.Core.Path.{_≡_, refl, sym, ap, _∙_}
+use mathlib.Core.Path.{_≡_, refl, ap}
 use mathlib.Core.List.{List}
-use Rattle.rules.specs.declared.Verdict.{Verdict}
 use Rattle.rules.specs.declared.Verdict.the-variants as verdicts
 use Rattle.entities.specs.Table.{entityAt}
 use Rattle.entities.specs.declared.Entity.{Entity}
@@ -12,7 +11,7 @@ use Rattle.control.proofs.Unique.{verdict-apart, read-unique}
 use Rattle.control.proofs.ExactlyWhen.{one-list}
 use Rattle.control_map.specs.Map.{AcceptedWith, Mapped, controlsOf, MapIs, MapIs.own, MapIs.given, MapIs.sixteen}
 use Rattle.control_map.specs.declared.Map.{Map}
-use Rattle.control_map.specs.declared.Map.the-variants.{Controls, Refused}
+use Rattle.control_map.specs.declared.Map.the-variants.{Refused}
 use Rattle.control_map.proofs.Mapping.{clean, mapped-once}
 
 verdicts-same : (a b : Control) → a ≡ b → a .verdict ≡ b .verdict

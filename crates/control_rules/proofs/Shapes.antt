@@ -9,7 +9,7 @@ use borrow.Author.Tests.{lt-leb, le-leb, eq-eqb, ne-eqb}
 use native.Mathlib.Omega.{arith}
 use Rattle.le.specs.Le.{byte, le16At}
 use Rattle.rules.specs.Pick.{pick}
-use Rattle.control_rules.specs.Descriptors.{Kind, unknown, kindOf, lenAt, camera, fixedAt, countedAt, inputAt, extensionAt}
+use Rattle.control_rules.specs.Descriptors.{unknown, kindOf, lenAt, camera, fixedAt, countedAt, inputAt, extensionAt}
 
 module _ (s : List ℕ) (o len : ℕ) (l : len ≡ lenAt s o) where
   pub fixed-no : (size k : ℕ) → (len ≡ size → ⊥) → false ≡ fixedAt s o size k

@@ -1,14 +1,14 @@
 -- What the arms and the defaults of the matches on a subtype number say of its kind.
-use Prim.Native.Nat.{ℕ, zero, suc, _+_, _≤_, _<_}
-use mathlib.Core.Path.{_≡_, refl, sym, ap}
+use Prim.Native.Nat.{ℕ, _+_, _≤_, _<_}
+use mathlib.Core.Path.{_≡_, refl}
 use mathlib.Core.List.{List}
-use mathlib.Core.Bool.{Bool, true, false}
+use mathlib.Core.Bool.{true, false}
 use lib.ListN.{length}
-use lib.Dec.{leb, eqb}
+use lib.Dec.{leb}
 use borrow.Author.Tests.{lt-leb, le-leb}
 use native.Mathlib.Omega.{arith}
 use Rattle.le.specs.Le.{le16At}
-use Rattle.control_rules.specs.Descriptors.{Kind, header, input, output, selector, processing, extension, encoding, unknown, kindOf, isEntity, terminalOf, Shaped}
+use Rattle.control_rules.specs.Descriptors.{kindOf, isEntity, terminalOf, Shaped}
 use Rattle.control_rules.specs.Rules.{pinsRight, revisionRight, pinCount}
 use Rattle.control_rules.proofs.Shortest.{by-kind, shortest, room}
 

@@ -1,7 +1,7 @@
 -- Document 01, "Numbers": rules 1 to 4 of a control block, and rules 5 to 12 of the descriptor at o. A flag is up where its rule is broken.
 use Prim.Native.Nat.{ℕ, _+_}
 use mathlib.Core.List.{List, [], _∷_}
-use mathlib.Core.Bool.{Bool, true, false, not, _&&_, _||_}
+use mathlib.Core.Bool.{Bool, true, not, _&&_, _||_}
 use lib.ListN.{length, getD}
 use lib.Dec.{ltb, leb, eqb}
 use Rattle.le.specs.Le.{byte, le16At}

@@ -3,9 +3,8 @@ use Prim.Native.Nat.{ℕ, zero, suc, _+_, _≤_, _<_}
 use mathlib.Core.Path.{_≡_, refl, sym, ap, _∙_}
 use mathlib.Core.Bool.{Bool, true, false}
 use mathlib.Core.List.{List, [], _∷_, map}
-use mathlib.Core.Logic.{_↔_}
 use lib.Dec.{eqb}
-use lib.ListN.{length, take, drop, getD, length-map, length-take, length-drop}
+use lib.ListN.{length, drop, getD, length-map, length-take, length-drop}
 use lib.Seq.{drop-cons, getD-take}
 use native.Mathlib.Numerals.{add-one}
 use native.Mathlib.Omega.{arith}
@@ -13,7 +12,7 @@ use borrow.Author.Tests.{eq-eqb, ne-eqb, eqb-true, eqb-false}
 use Rattle.rules.specs.Pick.{pick}
 use Rattle.rules.specs.First.{First}
 use Rattle.rules.proofs.Firsts.{first-unique}
-use Rattle.entities.specs.Table.{noEntity, entityAt, used, findFrom, foundIn}
+use Rattle.entities.specs.Table.{entityAt, used, findFrom, foundIn}
 use Rattle.entities.specs.declared.Entity.{Entity}
 use Rattle.entities.specs.declared.Table.{Table}
 use Rattle.entities.specs.declared.Found.{Found}

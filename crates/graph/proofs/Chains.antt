@@ -1,11 +1,10 @@
 -- Chains whose inner nodes are below k, and how one round takes k to k + 1.
-use Prim.Native.Nat.{ℕ, suc, _+_, _≤_, _<_}
+use Prim.Native.Nat.{ℕ, _+_, _≤_, _<_}
 use mathlib.Core.Path.{_≡_, refl, sym, ap, _∙_, subst}
 use mathlib.Core.Logic.{_⊎_, inl, inr, ⊎-elim, _↔_, _≢_}
 use mathlib.Core.List.{List}
 use native.Mathlib.Omega.{arith}
 use native.Mathlib.Nat.{eq-or-lt-of-le}
-use native.Mathlib.Numerals.{add-one}
 use lib.ListN.{length, getD, set, length-set, List·getD-eq-default}
 use lib.Seq.{getD-set-same, getD-set-other}
 use lib.Bits.{bitOr}
@@ -13,7 +12,7 @@ use borrow.Author.Count.{below-more}
 use Rattle.rules.specs.Chain.{Chain, Chain.one, Chain.more}
 use Rattle.rules.proofs.Firsts.{lt-or-ge}
 use Rattle.graph.specs.Rows.{bitOf, Bit, Edge, Through}
-use Rattle.graph.proofs.Bits.{bit-zero, bit-dec, or-cases, or-l, or-r}
+use Rattle.graph.proofs.Bits.{bit-zero, or-cases, or-l, or-r}
 
 pub data Via (E : ℕ → ℕ → Type 0) (k : ℕ) : ℕ → ℕ → Type 0 where
   straight : {i j : ℕ} → E i j → Via E k i j

@@ -1,18 +1,15 @@
 -- What an answer of the lookup says: nothing, an output terminal, or a place as one bit.
 use Prim.Native.Nat.{ℕ, _*_, _%_, _^_, _<_}
-use mathlib.Core.Path.{_≡_, refl, sym, _∙_}
-use mathlib.Core.List.{List}
-use mathlib.Core.Bool.{Bool, true, false, true≢false}
+use mathlib.Core.Path.{_≡_, sym, _∙_}
+use mathlib.Core.Bool.{true, false, true≢false}
 use mathlib.Core.Logic.{_↔_}
 use lib.Dec.{eqb}
-use lib.ListN.{getD}
 use lib.Seq.{getD-take}
 use borrow.Author.Tests.{eq-eqb, eqb-true}
 use native.Mathlib.Omega.{arith}
 use Rattle.graph.specs.Rows.{Bit}
 use Rattle.graph.proofs.Bits.{bit-zero, one-bit, one-bit-only, shl-one}
-use Rattle.entities.specs.Table.{entityAt, noEntity, used}
-use Rattle.entities.specs.declared.Entity.{Entity}
+use Rattle.entities.specs.Table.{entityAt, used}
 use Rattle.entities.specs.declared.Table.{Table}
 use Rattle.entities.specs.declared.Found.{Found}
 use Rattle.entities.specs.declared.Found.the-variants.{At, Nothing}

@@ -1,10 +1,10 @@
 -- The entities are judged one by one: none so far has a source that names nothing, the first that names an output terminal is known, and the rows show what the
 -- sources name.
-use Prim.Native.Nat.{ℕ, zero, suc, _+_, _≤_, _<_}
+use Prim.Native.Nat.{ℕ, zero, _+_, _≤_, _<_}
 use mathlib.Core.Path.{_≡_, refl, sym, ap, _∙_, subst}
 use mathlib.Core.List.{List}
 use mathlib.Core.Bool.{Bool, true, false, not, _&&_, true≢false}
-use mathlib.Core.Logic.{_⊎_, inl, inr, ⊎-elim, _↔_}
+use mathlib.Core.Logic.{_⊎_, ⊎-elim, _↔_}
 use lib.ListN.{length, getD, set, replicate, length-take, length-set, length-replicate, getD-replicate, List·getD-eq-default}
 use lib.Seq.{getD-take, getD-set-same, getD-set-other}
 use lib.Dec.{eqb}
@@ -18,10 +18,9 @@ use Rattle.rules.specs.declared.Verdict.the-variants.{Accepted, Refused}
 use Rattle.rules.proofs.Firsts.{lt-or-ge}
 use Rattle.graph.specs.Rows.{bitOf, Bit, Edge}
 use Rattle.graph.proofs.Bits.{bit-zero}
-use Rattle.entities.specs.Table.{noEntity, entityAt, used}
-use Rattle.entities.specs.declared.Entity.{Entity}
+use Rattle.entities.specs.Table.{entityAt, used}
 use Rattle.entities.specs.declared.Table.{Table}
-use Rattle.sources.specs.Sources.{Lost, Names, ToOutput, LinksOf, Feeds, Breaks13, Breaks14, Breaks15, None, Judged, Judged.thirteen, Judged.fourteen, Judged.fifteen, Judged.fine}
+use Rattle.sources.specs.Sources.{Names, LinksOf, Feeds, Breaks13, Breaks14, None, Judged, Judged.thirteen, Judged.fourteen, Judged.fifteen, Judged.fine}
 
 -- ---- the first place of those up to and with i
 module _ (P : ℕ → Type 0) (i f : ℕ) (h : First P i f) where

@@ -1,6 +1,6 @@
 -- What the first q sources of an entity name, source by source.
-use Prim.Native.Nat.{ℕ, zero, suc, _+_, _≤_, _<_}
-use mathlib.Core.Path.{_≡_, refl, sym, ap, _∙_, subst}
+use Prim.Native.Nat.{ℕ, _+_, _≤_, _<_}
+use mathlib.Core.Path.{_≡_, refl, sym, _∙_, subst}
 use mathlib.Core.List.{List}
 use mathlib.Core.Bool.{Bool, true, false, _||_, true≢false}
 use mathlib.Core.Logic.{_⊎_, inl, inr, ⊎-elim, _↔_}
@@ -8,7 +8,7 @@ use lib.ListN.{length, getD, length-take}
 use lib.Bits.{bitOr}
 use native.Mathlib.Omega.{arith}
 use native.Mathlib.Nat.{eq-or-lt-of-le}
-use Rattle.graph.specs.Rows.{bitOf, Bit}
+use Rattle.graph.specs.Rows.{Bit}
 use Rattle.graph.proofs.Bits.{bit-zero, or-cases, or-l, or-r}
 use Rattle.entities.specs.Table.{entityAt, findFrom, used}
 use Rattle.entities.specs.declared.Table.{Table}
@@ -17,7 +17,7 @@ use Rattle.control_rules.specs.Descriptors.{kindOf, sourcePlace}
 use Rattle.entities.specs.declared.Entity.{Entity}
 use Rattle.entities.specs.declared.Found.{Found}
 use Rattle.entities.specs.declared.Found.the-variants.{At, Nothing}
-use Rattle.sources.specs.Sources.{sourcesOf, sourceAt, Some, Lost, Names, ToOutput, LinksOf}
+use Rattle.sources.specs.Sources.{sourcesOf, Some, LinksOf}
 
 -- ---- one of the first n, and of one more
 some-none : (P : ℕ → Type 0) → Some 0 P → ⊥

@@ -1,16 +1,15 @@
 -- What is a loop and what is none. Where every source names an earlier entity that is no output terminal, nothing is broken, however many paths lead from
 -- one entity to another; and entities that feed each other are on a loop, whether or not an output terminal leads there.
-use Prim.Native.Nat.{ℕ, zero, suc, _+_, _≤_, _<_}
-use mathlib.Core.Path.{_≡_, refl, sym, _∙_}
+use Prim.Native.Nat.{ℕ, zero, suc, _<_}
+use mathlib.Core.Path.{_≡_, refl, sym}
 use mathlib.Core.List.{List}
 use mathlib.Core.Bool.{Bool, true, false, not, _&&_, true≢false}
-use mathlib.Core.Logic.{_⊎_, inl, inr, ⊎-elim}
+use mathlib.Core.Logic.{_⊎_, ⊎-elim}
 use lib.ListN.{length}
 use lib.Dec.{ltb, eqb}
 use borrow.Author.Tests.{ltb-true, eqb-false, not-true}
 use native.Mathlib.Omega.{arith}
 use native.Mathlib.Nat.{eq-or-lt-of-le}
-use Rattle.rules.specs.First.{First}
 use Rattle.rules.specs.Chain.{Chain, Chain.one, Chain.more, OnLoop}
 use Rattle.rules.specs.declared.Verdict.the-variants.{Accepted}
 use Rattle.entities.specs.Table.{entityAt, findFrom}

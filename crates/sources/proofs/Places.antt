@@ -1,8 +1,7 @@
 -- How many sources a subtype has and where they stand: what the defaults of the matches say.
-use Prim.Native.Nat.{ℕ, zero, suc, _<_}
+use Prim.Native.Nat.{ℕ}
 use mathlib.Core.Path.{_≡_, refl}
 use mathlib.Core.List.{List}
-use native.Mathlib.Omega.{arith}
 use Rattle.control_rules.specs.Descriptors.{kindOf, sourceCount, sourcePlace}
 use Rattle.control_rules.proofs.Shortest.{by-kind}
 

@@ -3,15 +3,11 @@ use Rattle.rules.specs.Pick.{pick}
 use borrow.Author.Needs.{needs}
 use Rattle.control_map.proofs.camera_place.Statement.{statement}
 use Rattle.control_map.proofs.camera_place.Tie as tie
-use Rattle.control_map.proofs.camera_place.Reads as reads
-use Rattle.control_map.proofs.camera_place.Lts as lts
 
--- src/lib.rt:90:9
 returns : tie.Need-returns
 unfolding pick
 returns c = (rw (eq-eqb _ _ (c .if1 .taken)), search needs)
 
--- src/lib.rt:86:1
 returns-2 : tie.Need-returns-2
 unfolding pick
 returns-2 c = (rw (ne-eqb _ _ (c .if1 .left)), search needs)

@@ -2,32 +2,22 @@ use Rattle.control_map.proofs.Mapping.{accepted-table, map-own}
 use borrow.Author.Needs.{needs}
 use Rattle.control_map.proofs.controls.Statement.{statement}
 use Rattle.control_map.proofs.controls.Tie as tie
-use Rattle.control_map.proofs.controls.Reads as reads
-use Rattle.control_map.proofs.controls.Lts as lts
-use Rattle.control.proofs.read.Reads as read-reads
-use Rattle.control_map.proofs.find_controls.Reads as find-controls-reads
 
--- src/lib.rt:30:9
 read-requires : tie.Need-read-requires
 read-requires c κs = search needs
 
--- src/lib.rt:34:30
 enum-told : tie.Need-enum-told
 enum-told c = search needs
 
--- src/lib.rt:34:30
 find-controls-requires : tie.Need-find-controls-requires
 find-controls-requires c κs = accepted-table _ _ (c .before .before .before .read .ensures) (c .enum-told .given .1)
 
--- src/lib.rt:35:28
 enum-known-verdict : tie.Need-enum-known-verdict
 enum-known-verdict c = search needs
 
--- src/lib.rt:27:1
 returns : tie.Need-returns
 returns c = search needs
 
--- src/lib.rt:27:1
 returns-2 : tie.Need-returns-2
 returns-2 c = map-own _ _ _ (c .before .before .before .before .read .ensures) _ _ (c .before .verdict .given .1)
 

@@ -1,59 +1,43 @@
-use borrow.Author.Tests.{eq-eqb, ne-eqb}
+use borrow.Author.Tests.{ne-eqb}
 use Rattle.rules.specs.Pick.{pick}
 use borrow.Author.Needs.{needs}
 use Rattle.control_map.proofs.controls_of.Statement.{statement}
 use Rattle.control_map.proofs.controls_of.Tie as tie
-use Rattle.control_map.proofs.controls_of.Reads as reads
-use Rattle.control_map.proofs.controls_of.Lts as lts
-use Rattle.control_map.proofs.controls_place.Reads as controls-place-reads
-use Rattle.le.proofs.byte_at.Reads as byte-at-reads
 
--- src/lib.rt:60:9
 controls-place-requires : tie.Need-controls-place-requires
 controls-place-requires c κs = search needs
 
--- src/lib.rt:62:9
 returns : tie.Need-returns
 unfolding pick
 returns c = rw (← c .before .controls-place .ensures .0, c .if1 .taken)
 
--- src/lib.rt:67:14
 cast-at : tie.Need-cast-at
 cast-at c = search needs
 
--- src/lib.rt:69:24
 add-byte-at : tie.Need-add-byte-at
 add-byte-at c = search needs
 
--- src/lib.rt:69:9
 byte-at-requires : tie.Need-byte-at-requires
 byte-at-requires c κs = search needs
 
--- src/lib.rt:70:30
 add-byte-at-2 : tie.Need-add-byte-at-2
 add-byte-at-2 c = search needs
 
--- src/lib.rt:70:24
 add-byte-at-3 : tie.Need-add-byte-at-3
 add-byte-at-3 c = search needs
 
--- src/lib.rt:70:9
 byte-at-requires-2 : tie.Need-byte-at-requires-2
 byte-at-requires-2 c κs = search needs
 
--- src/lib.rt:71:30
 add-byte-at-4 : tie.Need-add-byte-at-4
 add-byte-at-4 c = search needs
 
--- src/lib.rt:71:24
 add-byte-at-5 : tie.Need-add-byte-at-5
 add-byte-at-5 c = search needs
 
--- src/lib.rt:71:9
 byte-at-requires-3 : tie.Need-byte-at-requires-3
 byte-at-requires-3 c κs = search needs
 
--- src/lib.rt:57:1
 returns-2 : tie.Need-returns-2
 unfolding pick
 returns-2 c = rw (← c .before .before .before .before .before .controls-place .ensures .0, ne-eqb _ _ (c .before .before .before .before .if1 .left), c .before .before .byte-at .ensures, c .before .byte-at2 .ensures, c .byte-at3 .ensures)

@@ -3,25 +3,18 @@ use Rattle.control_map.proofs.Mapping.{place-else}
 use borrow.Author.Needs.{needs}
 use Rattle.control_map.proofs.controls_place.Statement.{statement}
 use Rattle.control_map.proofs.controls_place.Tie as tie
-use Rattle.control_map.proofs.controls_place.Reads as reads
-use Rattle.control_map.proofs.controls_place.Lts as lts
-use Rattle.control_map.proofs.camera_place.Reads as camera-place-reads
 
--- src/lib.rt:80:14
 camera-place-requires : tie.Need-camera-place-requires
 camera-place-requires c κs = search needs
 
--- src/lib.rt:76:1
 returns : tie.Need-returns
 unfolding kindOf controlsPlace
 returns c = (rw (c .before .match .keys1) (c .camera-place .ensures .0), c .camera-place .ensures .1)
 
--- src/lib.rt:76:1
 returns-2 : tie.Need-returns-2
 unfolding kindOf controlsPlace
 returns-2 c = (rw (c .match .keys2), search needs)
 
--- src/lib.rt:76:1
 returns-3 : tie.Need-returns-3
 returns-3 c = (place-else _ _ (c .match .rest .0 .1) (c .match .rest .1), search needs)
 

@@ -5,40 +5,28 @@ use Rattle.control_map.proofs.Mapping.{in-table, map-nothing, map-at}
 use borrow.Author.Needs.{needs}
 use Rattle.control_map.proofs.find_controls.Statement.{statement}
 use Rattle.control_map.proofs.find_controls.Tie as tie
-use Rattle.control_map.proofs.find_controls.Reads as reads
-use Rattle.control_map.proofs.find_controls.Lts as lts
-use Rattle.control_map.proofs.controls_of.Reads as controls-of-reads
-use Rattle.entities.proofs.find_lent.Reads as find-lent-reads
 
--- src/lib.rt:44:11
 find-lent-requires : tie.Need-find-lent-requires
 find-lent-requires c κs = search needs
 
--- src/lib.rt:45:27
 enum-told : tie.Need-enum-told
 enum-told c = search needs
 
--- src/lib.rt:49:19
 enum-known-i : tie.Need-enum-known-i
 enum-known-i c = search needs
 
--- src/lib.rt:50:21
 mul-e : tie.Need-mul-e
 mul-e c = omega (arith, in-table (c .before .before .before .before .before .args .t2) _ _ _ (search length-of) (c .before .before .before .find-lent .ensures) (c .before .i .given .1))
 
--- src/lib.rt:50:21
 element-copy-out-e : tie.Need-element-copy-out-e
 element-copy-out-e c = in-table (c .before .before .before .before .before .args .t2) _ _ _ (search length-of) (c .before .before .before .find-lent .ensures) (c .before .i .given .1)
 
--- src/lib.rt:51:13
 controls-of-requires : tie.Need-controls-of-requires
 controls-of-requires c κs = search needs
 
--- src/lib.rt:40:1
 returns : tie.Need-returns
 returns c = map-nothing _ _ (c .before .before .before .before .pre) _ _ (c .before .before .find-lent .ensures) _ (c .enum-told .given .1) refl
 
--- src/lib.rt:40:1
 returns-2 : tie.Need-returns-2
 returns-2 c = map-at _ _ (c .before .before .before .before .before .before .before .pre) _ _ (c .before .before .before .before .before .find-lent .ensures) _ (c .before .before .before .i .given .1) _ (c .controls-of .ensures)
 

@@ -2,47 +2,34 @@ use Rattle.control_rules.proofs.Ladder.{rule-0, rule-1, rule-2, rule-3,
 use borrow.Author.Needs.{needs}
 use Rattle.control_rules.proofs.head_rule.Statement.{statement}
 use Rattle.control_rules.proofs.head_rule.Tie as tie
-use Rattle.control_rules.proofs.head_rule.Reads as reads
-use Rattle.control_rules.proofs.head_rule.Lts as lts
-use Rattle.le.proofs.le16.Reads as le16-reads
 
--- src/lib.rt:23:9
 returns : tie.Need-returns
 returns c = search rule-1
 
--- src/lib.rt:26:9
 returns-2 : tie.Need-returns-2
 returns-2 c = search rule-2
 
--- src/lib.rt:28:8
 shared-slice-read-if3 : tie.Need-shared-slice-read-if3
 shared-slice-read-if3 c = search needs
 
--- src/lib.rt:29:9
 returns-3 : tie.Need-returns-3
 returns-3 c = search rule-3
 
--- src/lib.rt:31:8
 shared-slice-read-if4 : tie.Need-shared-slice-read-if4
 shared-slice-read-if4 c = search needs
 
--- src/lib.rt:32:9
 returns-4 : tie.Need-returns-4
 returns-4 c = search rule-3′
 
--- src/lib.rt:34:17
 le16-requires : tie.Need-le16-requires
 le16-requires c κs = search needs
 
--- src/lib.rt:34:17
 cast-total : tie.Need-cast-total
 cast-total c = search needs
 
--- src/lib.rt:36:9
 returns-5 : tie.Need-returns-5
 returns-5 c = search rule-4
 
--- src/lib.rt:18:1
 returns-6 : tie.Need-returns-6
 returns-6 c = search rule-0
 

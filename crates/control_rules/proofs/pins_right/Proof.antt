@@ -6,47 +6,35 @@ use Rattle.control_rules.proofs.Subtypes.{pins-else}
 use borrow.Author.Needs.{needs}
 use Rattle.control_rules.proofs.pins_right.Statement.{statement}
 use Rattle.control_rules.proofs.pins_right.Tie as tie
-use Rattle.control_rules.proofs.pins_right.Reads as reads
-use Rattle.control_rules.proofs.pins_right.Lts as lts
-use Rattle.control_rules.proofs.pin_count.Reads as pin-count-reads
 
--- src/lib.rt:150:26
 add-pin-count : tie.Need-add-pin-count
 add-pin-count c = search needs
 
--- src/lib.rt:150:24
 shared-slice-read-pin-count : tie.Need-shared-slice-read-pin-count
 unfolding kindOf shortest
 shared-slice-read-pin-count c = omega (arith, rw (c .before .match .keys1) at (room _ _ _ (c .before .before .before .pre)))
 
--- src/lib.rt:150:14
 pin-count-requires : tie.Need-pin-count-requires
 pin-count-requires c κs = search needs
 
--- src/lib.rt:151:26
 add-pin-count-2 : tie.Need-add-pin-count-2
 add-pin-count-2 c = search needs
 
--- src/lib.rt:151:24
 shared-slice-read-pin-count-2 : tie.Need-shared-slice-read-pin-count-2
 unfolding kindOf shortest
 shared-slice-read-pin-count-2 c = omega (arith, rw (c .before .match .keys2) at (room _ _ _ (c .before .before .before .pre)))
 
--- src/lib.rt:151:14
 pin-count-requires-2 : tie.Need-pin-count-requires-2
 pin-count-requires-2 c κs = search needs
 
--- src/lib.rt:145:1
 returns : tie.Need-returns
 unfolding kindOf pinsRight
 returns c = rw (c .before .before .match .keys1) (c .pin-count .ensures)
 
--- src/lib.rt:145:1
 returns-2 : tie.Need-returns-2
 unfolding kindOf pinsRight
 returns-2 c = rw (c .before .before .match .keys2) (c .pin-count2 .ensures)
 
--- src/lib.rt:145:1
 returns-3 : tie.Need-returns-3
 returns-3 c = search pins-else
 

@@ -6,25 +6,18 @@ use Rattle.control_rules.proofs.Subtypes.{revision-else}
 use borrow.Author.Needs.{needs}
 use Rattle.control_rules.proofs.revision_right.Statement.{statement}
 use Rattle.control_rules.proofs.revision_right.Tie as tie
-use Rattle.control_rules.proofs.revision_right.Reads as reads
-use Rattle.control_rules.proofs.revision_right.Lts as lts
-use Rattle.le.proofs.le16.Reads as le16-reads
 
--- src/lib.rt:114:26
 add-le16 : tie.Need-add-le16
 add-le16 c = search needs
 
--- src/lib.rt:114:14
 le16-requires : tie.Need-le16-requires
 unfolding kindOf shortest
 le16-requires c κs = omega (arith, rw (c .match .keys1) at (room _ _ _ (c .before .before .pre)))
 
--- src/lib.rt:109:1
 returns : tie.Need-returns
 unfolding kindOf revisionRight
 returns c = rw (c .before .match .keys1, c .le16 .ensures)
 
--- src/lib.rt:109:1
 returns-2 : tie.Need-returns-2
 returns-2 c = revision-else _ _ _ (c .match .rest .1)
 

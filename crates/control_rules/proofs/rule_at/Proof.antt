@@ -2,83 +2,58 @@ use Rattle.control_rules.proofs.Ladder.{rule-5, rule-6, rule-7, rule-8,
 use borrow.Author.Needs.{needs}
 use Rattle.control_rules.proofs.rule_at.Statement.{statement}
 use Rattle.control_rules.proofs.rule_at.Tie as tie
-use Rattle.control_rules.proofs.rule_at.Reads as reads
-use Rattle.control_rules.proofs.rule_at.Lts as lts
-use Rattle.control_rules.proofs.entity_rule.Reads as entity-rule-reads
-use Rattle.control_rules.proofs.revision_right.Reads as revision-right-reads
-use Rattle.control_rules.proofs.second_header.Reads as second-header-reads
-use Rattle.control_rules.proofs.shape.right.Reads as right-reads
-use Rattle.le.proofs.wide.Reads as wide-reads
 
--- src/lib.rt:47:24
 shared-slice-read-wide : tie.Need-shared-slice-read-wide
 shared-slice-read-wide c = search needs
 
--- src/lib.rt:47:9
 wide-requires : tie.Need-wide-requires
 wide-requires c κs = search needs
 
--- src/lib.rt:49:9
 returns : tie.Need-returns
 returns c = search (rule-5, len-short)
 
--- src/lib.rt:51:8
 sub-if2 : tie.Need-sub-if2
 sub-if2 c = search needs
 
--- src/lib.rt:52:9
 returns-2 : tie.Need-returns-2
 returns-2 c = search (rule-5, len-past)
 
--- src/lib.rt:54:10
 add-if3 : tie.Need-add-if3
 add-if3 c = search needs
 
--- src/lib.rt:54:8
 shared-slice-read-if3 : tie.Need-shared-slice-read-if3
 shared-slice-read-if3 c = search needs
 
--- src/lib.rt:55:9
 returns-3 : tie.Need-returns-3
 returns-3 c = search (rule-6, len-good, type-bad)
 
--- src/lib.rt:57:17
 add-sub : tie.Need-add-sub
 add-sub c = search needs
 
--- src/lib.rt:57:15
 shared-slice-read-sub : tie.Need-shared-slice-read-sub
 shared-slice-read-sub c = search needs
 
--- src/lib.rt:58:8
 second-header-requires : tie.Need-second-header-requires
 second-header-requires c κs = search needs
 
--- src/lib.rt:59:9
 returns-4 : tie.Need-returns-4
 returns-4 c = search (rule-6, len-good, type-is)
 
--- src/lib.rt:61:9
 right-requires : tie.Need-right-requires
 right-requires c κs = search needs
 
--- src/lib.rt:63:9
 returns-5 : tie.Need-returns-5
 returns-5 c = search (rule-7, len-good, type-is)
 
--- src/lib.rt:65:9
 revision-right-requires : tie.Need-revision-right-requires
 revision-right-requires c κs = search shaped
 
--- src/lib.rt:67:9
 returns-6 : tie.Need-returns-6
 returns-6 c = search (rule-8, len-good, type-is)
 
--- src/lib.rt:69:5
 entity-rule-requires : tie.Need-entity-rule-requires
 entity-rule-requires c κs = search shaped
 
--- src/lib.rt:43:1
 returns-7 : tie.Need-returns-7
 returns-7 c = search (rule-on, len-good, type-is)
 

@@ -1,14 +1,10 @@
 use borrow.Author.Tests.{eq-eqb, ne-eqb}
 use Rattle.control_rules.proofs.second_header.Statement.{statement}
 use Rattle.control_rules.proofs.second_header.Tie as tie
-use Rattle.control_rules.proofs.second_header.Reads as reads
-use Rattle.control_rules.proofs.second_header.Lts as lts
 
--- src/lib.rt:103:9
 returns : tie.Need-returns
 returns c = rw (ne-eqb _ _ (c .if1 .taken))
 
--- src/lib.rt:99:1
 returns-2 : tie.Need-returns-2
 returns-2 c = rw (eq-eqb _ _ (c .if1 .left))
 

@@ -3,27 +3,19 @@ use Rattle.control_rules.proofs.Subtypes.{terminal-in, terminal-else, t
 use borrow.Author.Needs.{needs}
 use Rattle.control_rules.proofs.terminal_of.Statement.{statement}
 use Rattle.control_rules.proofs.terminal_of.Tie as tie
-use Rattle.control_rules.proofs.terminal_of.Reads as reads
-use Rattle.control_rules.proofs.terminal_of.Lts as lts
-use Rattle.le.proofs.le16.Reads as le16-reads
 
--- src/lib.rt:171:30
 add-le16 : tie.Need-add-le16
 add-le16 c = search needs
 
--- src/lib.rt:171:18
 le16-requires : tie.Need-le16-requires
 le16-requires c κs = terminal-room _ _ _ (omega arith) (omega arith) (c .before .before .before .pre)
 
--- src/lib.rt:166:1
 returns : tie.Need-returns
 returns c = terminal-in _ _ _ _ (omega arith) (omega arith) (c .le16 .ensures)
 
--- src/lib.rt:166:1
 returns-2 : tie.Need-returns-2
 returns-2 c = terminal-else _ _ _ (λ e. omega arith) (λ e. omega arith)
 
--- src/lib.rt:166:1
 returns-3 : tie.Need-returns-3
 returns-3 c = terminal-else _ _ _ (λ e. omega arith) (λ e. omega arith)
 

@@ -3,23 +3,16 @@ use Rattle.entities.proofs.Finding.{length-of, lent-more, lent-none, le
 use borrow.Author.Needs.{needs}
 use Rattle.entities.proofs.find_lent.Statement.{statement}
 use Rattle.entities.proofs.find_lent.Tie as tie
-use Rattle.entities.proofs.find_lent.Reads as reads
-use Rattle.entities.proofs.find_lent.Lts as lts
-use Rattle.entities.proofs.scan_all.Reads as scan-all-reads
 
--- src/lib.rt:69:9
 scan-all-requires : tie.Need-scan-all-requires
 scan-all-requires c κs = search needs
 
--- src/lib.rt:71:9
 returns : tie.Need-returns
 returns c = lent-more (c .before .before .before .args .t) _ _ (search length-of) (c .before .scan-all .ensures) (omega arith)
 
--- src/lib.rt:74:9
 returns-2 : tie.Need-returns-2
 returns-2 c = lent-none (c .before .before .before .before .args .t) _ _ (search length-of) (c .before .before .scan-all .ensures) (omega arith)
 
--- src/lib.rt:64:1
 returns-3 : tie.Need-returns-3
 returns-3 c = lent-at (c .before .before .before .before .args .t) _ _ (search length-of) (c .before .before .scan-all .ensures) (omega arith) (omega arith)
 

@@ -1,16 +1,12 @@
-use Prim.Native.Nat.{ℕ, _+_, _≤_, _<_, _-_}
-use mathlib.Core.Path.{_≡_, refl, sym, ap, _∙_, subst}
-use mathlib.Core.Logic.{⊎-elim}
+use Prim.Native.Nat.{_≤_, _-_}
+use mathlib.Core.Path.{_≡_}
 use native.Mathlib.Omega.{arith}
 use borrow.Author.Needs.{needs}
-use lib.ListN.{length, getD}
-use Rattle.graph.specs.Rows.{bitOf, Edge}
-use Rattle.graph.proofs.Chains.{Via, Via.straight, Stands, via-zero, via-chain, chain-via, edge-from, round-stands}
+use lib.ListN.{length}
+use Rattle.graph.specs.Rows.{Edge}
+use Rattle.graph.proofs.Chains.{Via.straight, Stands, via-zero, via-chain, chain-via, edge-from, round-stands}
 use Rattle.graph.proofs.close.Statement.{statement}
 use Rattle.graph.proofs.close.Tie as tie
-use Rattle.graph.proofs.close.Reads as reads
-use Rattle.graph.proofs.close.Lts as lts
-use Rattle.graph.proofs.round.Reads as round-reads
 
 abbrev Inv-loop : tie.InvT-loop
 Inv-loop m₀ k₀ m k = (k ≤ 32) × (length m ≡ 32) × Stands (Edge m₀) k m

@@ -1,17 +1,13 @@
-use Prim.Native.Nat.{ℕ, _+_, _≤_, _<_, _-_}
-use mathlib.Core.Path.{_≡_, refl, sym, ap, _∙_, subst}
+use Prim.Native.Nat.{ℕ, _≤_, _<_, _-_}
+use mathlib.Core.Path.{sym, _∙_}
 use native.Mathlib.Omega.{arith}
 use borrow.Author.Needs.{needs}
 use borrow.Author.Count.{below-more}
 use borrow.Author.Tests.{eqb-true, eqb-false}
-use lib.ListN.{length, getD}
+use lib.ListN.{getD}
 use Rattle.graph.specs.Rows.{bitOf, Edge}
 use Rattle.graph.proofs.first_loop.Statement.{statement}
 use Rattle.graph.proofs.first_loop.Tie as tie
-use Rattle.graph.proofs.first_loop.Reads as reads
-use Rattle.graph.proofs.first_loop.Lts as lts
-use Rattle.graph.proofs.bit.Reads as bit-reads
-use Rattle.graph.proofs.close.Reads as close-reads
 
 abbrev Inv-loop : tie.InvT-loop
 Inv-loop m i₀ i = (i ≤ 32) × ((a : ℕ) → a < i → Edge m a a → ⊥)

@@ -1,21 +1,14 @@
-use Prim.Native.Nat.{ℕ, _+_, _≤_, _<_, _-_}
-use mathlib.Core.Path.{_≡_, refl, sym, ap, ap₂, _∙_, subst}
-use mathlib.Core.Logic.{⊎-elim, _≢_}
-use mathlib.Core.List.{List}
+use Prim.Native.Nat.{_-_}
+use mathlib.Core.Path.{sym, _∙_}
+use mathlib.Core.Logic.{⊎-elim}
 use native.Mathlib.Omega.{arith}
 use borrow.Author.Needs.{needs}
-use lib.ListN.{length, getD, set, length-set}
-use lib.Seq.{getD-set-same, getD-set-other}
-use lib.Bits.{bitOr}
+use lib.ListN.{getD}
 use borrow.Author.Tests.{eqb-true, eqb-false}
-use borrow.Author.Count.{below-more}
 use Rattle.graph.specs.Rows.{bitOf}
 use Rattle.graph.proofs.Chains.{Rounding, rounding, taken-in, stays, rounded}
 use Rattle.graph.proofs.round.Statement.{statement}
 use Rattle.graph.proofs.round.Tie as tie
-use Rattle.graph.proofs.round.Reads as reads
-use Rattle.graph.proofs.round.Lts as lts
-use Rattle.graph.proofs.bit.Reads as bit-reads
 
 abbrev Inv-loop : tie.InvT-loop
 Inv-loop m₀ k i₀ m i = Rounding m₀ k m i

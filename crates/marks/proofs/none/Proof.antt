@@ -2,10 +2,7 @@ use Rattle.marks.specs.Marks.{noMarks}
 use mathlib.Core.Path.{refl}
 use Rattle.marks.proofs.none.Statement.{statement}
 use Rattle.marks.proofs.none.Tie as tie
-use Rattle.marks.proofs.none.Reads as reads
-use Rattle.marks.proofs.none.Lts as lts
 
--- src/lib.rt:8:1
 returns : tie.Need-returns
 unfolding noMarks
 returns c = refl

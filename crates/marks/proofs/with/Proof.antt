@@ -2,19 +2,13 @@ use Rattle.marks.specs.Marks.{withMark}
 use borrow.Author.Needs.{needs}
 use Rattle.marks.proofs.with.Statement.{statement}
 use Rattle.marks.proofs.with.Tie as tie
-use Rattle.marks.proofs.with.Reads as reads
-use Rattle.marks.proofs.with.Lts as lts
-use Rattle.le.proofs.wide.Reads as wide-reads
 
--- src/lib.rt:25:9
 wide-requires : tie.Need-wide-requires
 wide-requires c κs = search needs
 
--- src/lib.rt:26:5
 element-write-m : tie.Need-element-write-m
 element-write-m c = search needs
 
--- src/lib.rt:22:1
 returns : tie.Need-returns
 unfolding withMark
 returns c = rw (c .wide .ensures .0)

@@ -3,24 +3,18 @@ use Rattle.rules.specs.Pick.{pick}
 use borrow.Author.Needs.{needs}
 use Rattle.sources.proofs.first_of.Statement.{statement}
 use Rattle.sources.proofs.first_of.Tie as tie
-use Rattle.sources.proofs.first_of.Reads as reads
-use Rattle.sources.proofs.first_of.Lts as lts
 
--- src/lib.rt:61:9
 returns : tie.Need-returns
 unfolding pick
 returns c = rw (ne-eqb _ _ (c .if1 .taken))
 
--- src/lib.rt:64:9
 returns-2 : tie.Need-returns-2
 unfolding pick
 returns-2 c = rw (eq-eqb _ _ (c .before .if1 .left), c .if2 .taken)
 
--- src/lib.rt:66:5
 add-result : tie.Need-add-result
 add-result c = search needs
 
--- src/lib.rt:56:1
 returns-3 : tie.Need-returns-3
 unfolding pick
 returns-3 c = rw (eq-eqb _ _ (c .before .if1 .left), c .if2 .left)

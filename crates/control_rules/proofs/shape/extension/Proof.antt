@@ -4,59 +4,43 @@ use mathlib.Core.Path.{refl}
 use borrow.Author.Needs.{needs}
 use Rattle.control_rules.proofs.shape.extension.Statement.{statement}
 use Rattle.control_rules.proofs.shape.extension.Tie as tie
-use Rattle.control_rules.proofs.shape.extension.Reads as reads
-use Rattle.control_rules.proofs.shape.extension.Lts as lts
-use Rattle.le.proofs.wide.Reads as wide-reads
 
--- src/shape.rt:70:9
 returns : tie.Need-returns
 returns c = extension-no _ _ _ (c .before .before .pre .0) _ refl (omega arith)
 
--- src/shape.rt:72:24
 add-wide : tie.Need-add-wide
 add-wide c = search needs
 
--- src/shape.rt:72:22
 shared-slice-read-wide : tie.Need-shared-slice-read-wide
 shared-slice-read-wide c = search needs
 
--- src/shape.rt:72:9
 wide-requires : tie.Need-wide-requires
 wide-requires c κs = search needs
 
--- src/shape.rt:73:14
 add-if2 : tie.Need-add-if2
 add-if2 c = search needs
 
--- src/shape.rt:74:9
 returns-2 : tie.Need-returns-2
 returns-2 c = search extension-no
 
--- src/shape.rt:76:12
 add-result : tie.Need-add-result
 add-result c = search needs
 
--- src/shape.rt:76:32
 add-wide-2 : tie.Need-add-wide-2
 add-wide-2 c = search needs
 
--- src/shape.rt:76:32
 add-wide-3 : tie.Need-add-wide-3
 add-wide-3 c = search needs
 
--- src/shape.rt:76:30
 shared-slice-read-wide-2 : tie.Need-shared-slice-read-wide-2
 shared-slice-read-wide-2 c = search needs
 
--- src/shape.rt:76:21
 wide-requires-2 : tie.Need-wide-requires-2
 wide-requires-2 c κs = search needs
 
--- src/shape.rt:76:12
 add-result-2 : tie.Need-add-result-2
 add-result-2 c = search needs
 
--- src/shape.rt:65:1
 returns-3 : tie.Need-returns-3
 returns-3 c = search extension-is
 

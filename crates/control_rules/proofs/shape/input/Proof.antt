@@ -2,32 +2,22 @@ use Rattle.control_rules.proofs.Shapes.{input-no, input-plain, input-ca
 use borrow.Author.Needs.{needs}
 use Rattle.control_rules.proofs.shape.input.Statement.{statement}
 use Rattle.control_rules.proofs.shape.input.Tie as tie
-use Rattle.control_rules.proofs.shape.input.Reads as reads
-use Rattle.control_rules.proofs.shape.input.Lts as lts
-use Rattle.control_rules.proofs.shape.fixed.Reads as fixed-reads
-use Rattle.le.proofs.le16.Reads as le16-reads
 
--- src/shape.rt:56:9
 returns : tie.Need-returns
 returns c = search input-no
 
--- src/shape.rt:58:20
 add-le16 : tie.Need-add-le16
 add-le16 c = search needs
 
--- src/shape.rt:58:8
 le16-requires : tie.Need-le16-requires
 le16-requires c κs = search needs
 
--- src/shape.rt:59:9
 returns-2 : tie.Need-returns-2
 returns-2 c = search input-plain
 
--- src/shape.rt:61:5
 fixed-requires : tie.Need-fixed-requires
 fixed-requires c κs = search needs
 
--- src/shape.rt:51:1
 returns-3 : tie.Need-returns-3
 returns-3 c = search input-camera
 

@@ -3,73 +3,53 @@ use Rattle.control_rules.proofs.Shapes.{kind-unknown}
 use borrow.Author.Needs.{needs}
 use Rattle.control_rules.proofs.shape.right.Statement.{statement}
 use Rattle.control_rules.proofs.shape.right.Tie as tie
-use Rattle.control_rules.proofs.shape.right.Reads as reads
-use Rattle.control_rules.proofs.shape.right.Lts as lts
-use Rattle.control_rules.proofs.shape.counted.Reads as counted-reads
-use Rattle.control_rules.proofs.shape.extension.Reads as extension-reads
-use Rattle.control_rules.proofs.shape.fixed.Reads as fixed-reads
-use Rattle.control_rules.proofs.shape.input.Reads as input-reads
 
--- src/shape.rt:15:14
 counted-requires : tie.Need-counted-requires
 counted-requires c κs = search needs
 
--- src/shape.rt:16:14
 input-requires : tie.Need-input-requires
 input-requires c κs = search needs
 
--- src/shape.rt:18:14
 counted-requires-2 : tie.Need-counted-requires-2
 counted-requires-2 c κs = search needs
 
--- src/shape.rt:19:14
 fixed-requires : tie.Need-fixed-requires
 fixed-requires c κs = search needs
 
--- src/shape.rt:20:14
 extension-requires : tie.Need-extension-requires
 extension-requires c κs = search needs
 
--- src/shape.rt:21:14
 fixed-requires-2 : tie.Need-fixed-requires-2
 fixed-requires-2 c κs = search needs
 
--- src/shape.rt:10:1
 returns : tie.Need-returns
 unfolding kindOf shape
 returns c = rw (c .before .match .keys1) (c .counted .ensures)
 
--- src/shape.rt:10:1
 returns-2 : tie.Need-returns-2
 unfolding kindOf shape
 returns-2 c = rw (c .before .match .keys2) (c .input .ensures)
 
--- src/shape.rt:10:1
 returns-3 : tie.Need-returns-3
 unfolding kindOf shape
 returns-3 c = rw (c .match .keys3, c .before .before .pre .0)
 
--- src/shape.rt:10:1
 returns-4 : tie.Need-returns-4
 unfolding kindOf shape
 returns-4 c = rw (c .before .match .keys4) (c .counted2 .ensures)
 
--- src/shape.rt:10:1
 returns-5 : tie.Need-returns-5
 unfolding kindOf shape
 returns-5 c = rw (c .before .match .keys5) (c .fixed .ensures)
 
--- src/shape.rt:10:1
 returns-6 : tie.Need-returns-6
 unfolding kindOf shape
 returns-6 c = rw (c .before .match .keys6) (c .extension .ensures)
 
--- src/shape.rt:10:1
 returns-7 : tie.Need-returns-7
 unfolding kindOf shape
 returns-7 c = rw (c .before .match .keys7) (c .fixed2 .ensures)
 
--- src/shape.rt:10:1
 returns-8 : tie.Need-returns-8
 unfolding kindOf shape
 returns-8 c = let r = c .match .rest in rw (kind-unknown _ (r .0 .0 .0 .0 .0 .0 .1) (r .0 .0 .0 .0 .0 .1) (r .0 .0 .0 .0 .1) (r .0 .0 .0 .1) (r .0 .0 .1) (r .0 .1) (r .1))

@@ -1,13 +1,8 @@
 use native.Mathlib.Omega.{arith}
-use Prim.Native.Nat.{ℕ, _-_, _≤_}
+use Prim.Native.Nat.{_-_, _≤_}
 use borrow.Author.Needs.{needs}
 use Rattle.describe.proofs.control_block.accepted.Statement.{statement}
 use Rattle.describe.proofs.control_block.accepted.Tie as tie
-use Rattle.describe.proofs.control_block.accepted.Reads as reads
-use Rattle.describe.proofs.control_block.accepted.Lts as lts
-use Rattle.describe.proofs.control_block.entity.Reads as entity-reads
-use Rattle.describe.proofs.print.field.Reads as field-reads
-use Rattle.describe.proofs.print.text.Reads as text-reads
 
 abbrev Inv-loop : tie.InvT-loop
 Inv-loop t n i₀ i = i ≤ 32
@@ -15,63 +10,48 @@ Inv-loop t n i₀ i = i ≤ 32
 abbrev μ-loop : tie.MeasureT-loop
 μ-loop t n i₀ i = 32 - i
 
--- src/control_block.rt:26:17
 slice-aggregate-text : tie.Need-slice-aggregate-text Inv-loop μ-loop
 slice-aggregate-text c = search needs
 
--- src/control_block.rt:26:5
 text-requires : tie.Need-text-requires Inv-loop μ-loop
 text-requires c κs = search needs
 
--- src/control_block.rt:27:18
 cast-field : tie.Need-cast-field Inv-loop μ-loop
 cast-field c = search needs
 
--- src/control_block.rt:27:5
 field-requires : tie.Need-field-requires Inv-loop μ-loop
 field-requires c κs = search needs
 
--- src/control_block.rt:28:17
 slice-aggregate-text-2 : tie.Need-slice-aggregate-text-2 Inv-loop μ-loop
 slice-aggregate-text-2 c = search needs
 
--- src/control_block.rt:28:5
 text-requires-2 : tie.Need-text-requires-2 Inv-loop μ-loop
 text-requires-2 c κs = search needs
 
--- src/control_block.rt:31:5
 loop-holds : tie.Need-loop-holds Inv-loop μ-loop
 loop-holds c = omega arith
 
--- src/control_block.rt:33:13
 returns : tie.Need-returns Inv-loop μ-loop
 returns c = tt
 
--- src/control_block.rt:35:17
 mul-e : tie.Need-mul-e Inv-loop μ-loop
 mul-e c = search needs
 
--- src/control_block.rt:35:17
 element-copy-out-e : tie.Need-element-copy-out-e Inv-loop μ-loop
 element-copy-out-e c = search needs
 
--- src/control_block.rt:36:9
 entity-requires : tie.Need-entity-requires Inv-loop μ-loop
 entity-requires c κs = search needs
 
--- src/control_block.rt:37:9
 add-i : tie.Need-add-i Inv-loop μ-loop
 add-i c = search needs
 
--- src/control_block.rt:31:5
 loop-less : tie.Need-loop-less Inv-loop μ-loop
 loop-less c = search needs
 
--- src/control_block.rt:31:5
 loop-again : tie.Need-loop-again Inv-loop μ-loop
 loop-again c = omega arith
 
--- src/control_block.rt:25:1
 returns-2 : tie.Need-returns-2 Inv-loop μ-loop
 returns-2 c = tt
 

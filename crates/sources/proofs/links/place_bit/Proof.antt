@@ -3,30 +3,22 @@ use Rattle.sources.proofs.Found.{no-bit, one-place}
 use borrow.Author.Needs.{needs}
 use Rattle.sources.proofs.links.place_bit.Statement.{statement}
 use Rattle.sources.proofs.links.place_bit.Tie as tie
-use Rattle.sources.proofs.links.place_bit.Reads as reads
-use Rattle.sources.proofs.links.place_bit.Lts as lts
 
--- src/links.rt:73:27
 enum-told : tie.Need-enum-told
 enum-told c = search needs
 
--- src/links.rt:74:19
 enum-known-f : tie.Need-enum-known-f
 enum-known-f c = search needs
 
--- src/links.rt:74:33
 cast-result : tie.Need-cast-result
 cast-result c = omega (arith, c .before .before .before .pre _ (c .before .f .given .1))
 
--- src/links.rt:74:25
 shl-result : tie.Need-shl-result
 shl-result c = omega (arith, c .before .before .before .pre _ (c .before .f .given .1))
 
--- src/links.rt:68:1
 returns : tie.Need-returns
 returns c = no-bit _ (c .enum-told .given .1)
 
--- src/links.rt:68:1
 returns-2 : tie.Need-returns-2
 returns-2 c = one-place _ _ (c .before .f .given .1) (c .before .before .before .pre _ (c .before .f .given .1))
 

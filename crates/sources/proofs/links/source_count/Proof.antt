@@ -4,61 +4,45 @@ use mathlib.Core.Path.{_∙_}
 use borrow.Author.Needs.{needs}
 use Rattle.sources.proofs.links.source_count.Statement.{statement}
 use Rattle.sources.proofs.links.source_count.Tie as tie
-use Rattle.sources.proofs.links.source_count.Reads as reads
-use Rattle.sources.proofs.links.source_count.Lts as lts
-use Rattle.le.proofs.wide.Reads as wide-reads
-use Rattle.le.proofs.byte_at.Reads as byte-at-reads
 
--- src/links.rt:85:34
 add-byte-at : tie.Need-add-byte-at
 add-byte-at c = search needs
 
--- src/links.rt:85:23
 byte-at-requires : tie.Need-byte-at-requires
 byte-at-requires c κs = search needs
 
--- src/links.rt:85:14
 wide-requires : tie.Need-wide-requires
 wide-requires c κs = search needs
 
--- src/links.rt:87:34
 add-byte-at-2 : tie.Need-add-byte-at-2
 add-byte-at-2 c = search needs
 
--- src/links.rt:87:23
 byte-at-requires-2 : tie.Need-byte-at-requires-2
 byte-at-requires-2 c κs = search needs
 
--- src/links.rt:87:14
 wide-requires-2 : tie.Need-wide-requires-2
 wide-requires-2 c κs = search needs
 
--- src/links.rt:79:1
 returns : tie.Need-returns
 unfolding kindOf sourceCount
 returns c = (rw (c .match .keys1), search needs)
 
--- src/links.rt:79:1
 returns-2 : tie.Need-returns-2
 unfolding kindOf sourceCount
 returns-2 c = (c .wide .ensures .0 ∙ (rw (c .before .before .match .keys2) (c .before .byte-at .ensures)), c .wide .ensures .1)
 
--- src/links.rt:79:1
 returns-3 : tie.Need-returns-3
 unfolding kindOf sourceCount
 returns-3 c = (rw (c .match .keys3), search needs)
 
--- src/links.rt:79:1
 returns-4 : tie.Need-returns-4
 unfolding kindOf sourceCount
 returns-4 c = (c .wide2 .ensures .0 ∙ (rw (c .before .before .match .keys4) (c .before .byte-at2 .ensures)), c .wide2 .ensures .1)
 
--- src/links.rt:79:1
 returns-5 : tie.Need-returns-5
 unfolding kindOf sourceCount
 returns-5 c = (rw (c .match .keys5), search needs)
 
--- src/links.rt:79:1
 returns-6 : tie.Need-returns-6
 returns-6 c = let r = c .match .rest in (count-else _ _ _ (r .0 .0 .0 .0 .1) (r .0 .0 .0 .1) (r .0 .0 .1) (r .0 .1) (r .1), search needs)
 

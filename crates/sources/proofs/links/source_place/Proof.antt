@@ -3,35 +3,27 @@ use Rattle.control_rules.specs.Descriptors.{kindOf, sourcePlace}
 use borrow.Author.Needs.{needs}
 use Rattle.sources.proofs.links.source_place.Statement.{statement}
 use Rattle.sources.proofs.links.source_place.Tie as tie
-use Rattle.sources.proofs.links.source_place.Reads as reads
-use Rattle.sources.proofs.links.source_place.Lts as lts
 
--- src/links.rt:94:1
 returns : tie.Need-returns
 unfolding kindOf sourcePlace
 returns c = (rw (c .match .keys1), search needs)
 
--- src/links.rt:94:1
 returns-2 : tie.Need-returns-2
 unfolding kindOf sourcePlace
 returns-2 c = (rw (c .match .keys2), search needs)
 
--- src/links.rt:94:1
 returns-3 : tie.Need-returns-3
 unfolding kindOf sourcePlace
 returns-3 c = (rw (c .match .keys3), search needs)
 
--- src/links.rt:94:1
 returns-4 : tie.Need-returns-4
 unfolding kindOf sourcePlace
 returns-4 c = (rw (c .match .keys4), search needs)
 
--- src/links.rt:94:1
 returns-5 : tie.Need-returns-5
 unfolding kindOf sourcePlace
 returns-5 c = (rw (c .match .keys5), search needs)
 
--- src/links.rt:94:1
 returns-6 : tie.Need-returns-6
 returns-6 c = let r = c .match .rest in (place-else _ (r .0 .0 .0 .0 .1) (r .0 .0 .0 .1) (r .0 .0 .1) (r .0 .1) (r .1), search needs)
 
