@@ -1,7 +1,7 @@
 -- The block's own refusal exactly when the block is refused; 16 at 0 exactly when it is accepted and no camera terminal or processing unit has the ID; else the
 -- three bytes at the place that the document names.
-use Prim.Native.Nat.{ℕ, _<_}
-use mathlib.Core.Path.{_≡_, refl, sym, _∙_}
+use Prim.Native.Nat.{ℕ, _+_, _≤_, _<_}
+use mathlib.Core.Path.{_≡_, refl, sym, _∙_, ap}
 use mathlib.Core.List.{List}
 use mathlib.Core.Logic.{_↔_}
 use lib.ListN.{length}
@@ -11,10 +11,11 @@ use Rattle.le.specs.Le.{byte}
 use Rattle.rules.specs.Pick.{pick}
 use Rattle.entities.specs.Table.{entityAt}
 use Rattle.entities.specs.declared.Entity.{Entity}
-use Rattle.control_rules.specs.Descriptors.{kindOf, controlsPlace, camera}
+use Rattle.control_rules.specs.Descriptors.{kindOf, kindAt, lenAt, terminalOf, controlsPlace, camera}
+use Rattle.control_rules.proofs.Within.{controls-within}
 use Rattle.control.specs.Reading.{refusedBy, ControlIs}
 use Rattle.control.specs.Broken.{FirstBroken, FirstBroken.by-block, FirstBroken.by-descriptor, FirstBroken.by-13, FirstBroken.by-14, FirstBroken.by-15}
-use Rattle.control.proofs.Ids.{ids-nonzero}
+use Rattle.control.proofs.Listed.{ids-nonzero, each-stands}
 use Rattle.control.proofs.ExactlyWhen.{accepted, refused, from-first, few-head, few-flags}
 use Rattle.control_map.specs.Map.{placeOf, AcceptedWith, Mapped, controlsOf, MapIs, MapIs.own, MapIs.given, MapIs.sixteen}
 use Rattle.control_map.specs.declared.Map.{Map}
@@ -114,3 +115,13 @@ pub zero-sixteen : (s : List ℕ) (r : Map) → MapIs s 0 r → (l : List Entity
 zero-sixteen s r m l a =
     sixteen-given s 0 r m .1
     (record { seen = l; with = a; none = λ j q. ids-nonzero s (clean s l a) (a .entities) j (q .inside) (q .named) })
+
+-- the three bytes lie within the entity's descriptor, and that within the block
+pub controls-inside : (s : List ℕ) (l : List Entity) → AcceptedWith s l → (i : ℕ) → i < length l
+    → (placeOf (entityAt l i) + 3 ≤ lenAt s (entityAt l i .offset)) × (entityAt l i .offset + lenAt s (entityAt l i .offset) ≤ length s)
+controls-inside s l a i h =
+    let w = each-stands s (clean s l a) (a .entities) i h in
+    let e = entityAt l i in
+    let k : e .kind ≡ byte s (e .offset) 2 = ap (λ (x : Entity). x .kind) (w .same) in
+    let t : e .terminal ≡ terminalOf (kindAt s (e .offset)) s (e .offset) = ap (λ (x : Entity). x .terminal) (w .same) in
+    (rw (k, t) (controls-within (kindAt s (e .offset)) s (e .offset) (w .shaped)), w .shaped .inside)

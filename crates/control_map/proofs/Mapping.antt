@@ -25,7 +25,7 @@ use Rattle.control_rules.specs.Descriptors.{kindOf, controlsPlace}
 use Rattle.control_rules.proofs.Shortest.{by-kind}
 use Rattle.control.specs.Reading.{course, tableOf, acceptedWith, ControlIs}
 use Rattle.control.specs.declared.Control.{Control}
-use Rattle.control.proofs.Ids.{Distinct, ids-differ}
+use Rattle.control.proofs.Listed.{Distinct, ids-differ}
 use Rattle.control.proofs.ExactlyWhen.{accepted, lists, zero-table}
 use Rattle.control_map.specs.Map.{placeOf, AcceptedWith, Mapped, controlsOf, MapIs, MapIs.own, MapIs.given, MapIs.sixteen}
 use Rattle.control_map.specs.declared.Map.{Map}

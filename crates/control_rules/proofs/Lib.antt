@@ -1,5 +1,6 @@
 -- The laws that belong to no one function.
 pub mod Shortest
+pub mod Within
 pub mod Shapes
 pub mod Subtypes
 pub mod Ladder

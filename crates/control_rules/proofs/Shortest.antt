@@ -31,7 +31,7 @@ shortest extension = 24
 shortest encoding = 13
 shortest unknown = 3
 
-and-left : (a b : Bool) → (a && b) ≡ true → a ≡ true
+pub and-left : (a b : Bool) → (a && b) ≡ true → a ≡ true
 and-left true b h = refl
 and-left false b h = h
 

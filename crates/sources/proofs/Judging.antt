@@ -20,7 +20,8 @@ use Rattle.graph.specs.Rows.{bitOf, Bit, Edge}
 use Rattle.graph.proofs.Bits.{bit-zero}
 use Rattle.entities.specs.Table.{entityAt, used}
 use Rattle.entities.specs.declared.Table.{Table}
-use Rattle.sources.specs.Sources.{Names, LinksOf, Feeds, Breaks13, Breaks14, None, Judged, Judged.thirteen, Judged.fourteen, Judged.fifteen, Judged.fine}
+use Rattle.sources.specs.Sources.{Names, Feeds, Breaks13, Breaks14, None, Judged, Judged.thirteen, Judged.fourteen, Judged.fifteen, Judged.fine}
+use Rattle.sources.specs.Links.{LinksOf}
 
 -- ---- the first place of those up to and with i
 module _ (P : ℕ → Type 0) (i f : ℕ) (h : First P i f) where

@@ -17,7 +17,8 @@ use Rattle.control_rules.specs.Descriptors.{kindOf, sourcePlace}
 use Rattle.entities.specs.declared.Entity.{Entity}
 use Rattle.entities.specs.declared.Found.{Found}
 use Rattle.entities.specs.declared.Found.the-variants.{At, Nothing}
-use Rattle.sources.specs.Sources.{sourcesOf, Some, LinksOf}
+use Rattle.sources.specs.Sources.{sourcesOf, Some}
+use Rattle.sources.specs.Links.{LinksOf}
 
 -- ---- one of the first n, and of one more
 some-none : (P : ℕ → Type 0) → Some 0 P → ⊥

@@ -2,8 +2,6 @@
 use Prim.Native.Nat.{ℕ, _+_, _<_}
 use mathlib.Core.Path.{_≡_}
 use mathlib.Core.List.{List}
-use mathlib.Core.Logic.{_↔_}
-use mathlib.Core.Bool.{Bool, true}
 use lib.ListN.{length, getD}
 use Rattle.rules.specs.First.{First}
 use Rattle.rules.specs.Chain.{OnLoop}
@@ -12,7 +10,6 @@ use Rattle.rules.specs.declared.Verdict.the-variants.{Accepted, Refused}
 use Rattle.entities.specs.Table.{entityAt, findFrom}
 use Rattle.entities.specs.declared.Entity.{Entity}
 use Rattle.entities.specs.declared.Found.the-variants.{At, Nothing}
-use Rattle.graph.specs.Rows.{Bit}
 use Rattle.control_rules.specs.Descriptors.{kindOf, sourceCount, sourcePlace}
 
 -- how many sources the entity has, and its source q, counted from 0
@@ -37,12 +34,6 @@ Names s l e j = Some (sourcesOf s e) (λ q. findFrom 0 l (sourceAt s e q) ≡ At
 -- a source of e names an output terminal, which has subtype 3
 abbrev pub ToOutput : List ℕ → List Entity → Entity → Type 0
 ToOutput s l e = Some (sourcesOf s e) (λ q. (j : ℕ) × (findFrom 0 l (sourceAt s e q) ≡ At j) × (entityAt l j .kind ≡ 3))
-
--- what the sources of e name: nothing, an output terminal, and the places that a row of bits shows
-pub record LinksOf (s : List ℕ) (l : List Entity) (e : Entity) (lost output : Bool) (row : ℕ) : Type 0 where
-  pub nothing : (lost ≡ true) ↔ Lost s l e
-  pub outputs : (output ≡ true) ↔ ToOutput s l e
-  pub places : (j : ℕ) → Bit row j ↔ Names s l e j
 
 -- the entity at i has a source that names the one at j
 abbrev pub Feeds : List ℕ → List Entity → ℕ → ℕ → Type 0

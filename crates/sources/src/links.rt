@@ -7,7 +7,7 @@ ghost use Rattle.graph.specs.Rows.{Bit};
 ghost use Rattle.entities.specs.Table.{used, entityAt};
 ghost use Rattle.entities.specs.declared.Found.the-variants.{At, Nothing};
 ghost use Rattle.control_rules.specs.Descriptors.{kindOf, sourceCount, sourcePlace};
-ghost use Rattle.sources.specs.Sources.{LinksOf};
+ghost use Rattle.sources.specs.Links.{LinksOf};
 use entities::Entity;
 use entities::Found;
 use entities::Table;

@@ -1,4 +1,4 @@
--- The entities of a block whose descriptors break no rule have IDs of their own, and none is 0.
+-- The entities of a block whose descriptors break no rule: each stands where it says, as its descriptor has it, has an ID of its own, and none has ID 0.
 use Prim.Native.Nat.{ℕ, zero, suc, _+_, _≤_, _<_}
 use mathlib.Core.Path.{_≡_, refl, sym, ap, _∙_}
 use mathlib.Core.List.{List, [], _∷_, _++_, append-nil}
@@ -16,7 +16,9 @@ use Rattle.rules.proofs.Firsts.{lt-or-ge}
 use Rattle.rules.proofs.Numbered.{none-first}
 use Rattle.entities.specs.Table.{noEntity, entityAt}
 use Rattle.entities.specs.declared.Entity.{Entity}
-use Rattle.control_rules.specs.Descriptors.{kindAt, isEntity}
+use Rattle.control_rules.specs.Descriptors.{kindOf, kindAt, lenAt, isEntity, sourcePlace, Shaped}
+use Rattle.control_rules.proofs.Within.{sources-within}
+use Rattle.sources.specs.Sources.{sourcesOf}
 use Rattle.control_rules.specs.Rules.{flags, entityOf, entitiesAt}
 use Rattle.control.specs.Reading.{usedBefore, course}
 use Rattle.control.proofs.Walking.{Fine, fine, or-left, or-right}
@@ -82,3 +84,22 @@ module _ (s : List ℕ) (clean : Clean (course s)) where
   ids-nonzero (next {a = l} {o = o} r h p q) =
       by-step (λ (m : List Entity). (i : ℕ) → i < length m → entityAt m i .id ≡ 0 → ⊥) l o (ids-nonzero r)
       (λ e. each-more l (entityOf s o) (λ (x : Entity). x .id ≡ 0 → ⊥) (ids-nonzero r) (eqb-false (byte s o 3) 0 (fine-at r h .nonzero e)))
+
+  -- the entity is what its descriptor says, and the descriptor has its kind's shape
+  pub record Stands (e : Entity) : Type 0 where
+    pub same : e ≡ entityOf s (e .offset)
+    pub shaped : Shaped (kindAt s (e .offset)) s (e .offset)
+
+  pub each-stands : {l : List Entity} {o : ℕ} → Reached (course s) l o → (i : ℕ) → i < length l → Stands (entityAt l i)
+  each-stands first = λ i h. absurd (omega arith)
+  each-stands (next {a = l} {o = o} r h p q) =
+      by-step (λ (m : List Entity). (i : ℕ) → i < length m → Stands (entityAt m i)) l o (each-stands r)
+      (λ e. each-more l (entityOf s o) Stands (each-stands r) (record { same = refl; shaped = fine-at r h .shaped }))
+
+  -- so its sources lie within its descriptor, and that within the block
+  pub sources-inside : {l : List Entity} {o : ℕ} → Reached (course s) l o → (i : ℕ) → i < length l
+      → (sourcePlace (kindOf (entityAt l i .kind)) + sourcesOf s (entityAt l i) ≤ lenAt s (entityAt l i .offset)) × (entityAt l i .offset + lenAt s (entityAt l i .offset) ≤ length s)
+  sources-inside {l} r i h =
+      let w = each-stands r i h in
+      let k : entityAt l i .kind ≡ byte s (entityAt l i .offset) 2 = ap (λ (x : Entity). x .kind) (w .same) in
+      (rw k (sources-within (kindAt s (entityAt l i .offset)) s (entityAt l i .offset) (w .shaped)), w .shaped .inside)
