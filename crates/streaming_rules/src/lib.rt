@@ -5,7 +5,7 @@ ghost use Prim.Native.Nat.{_+_, _≤_, _<_};
 ghost use lib.ListN.{length, getD, take, drop};
 ghost use Rattle.le.specs.Le.{byte};
 ghost use Rattle.rules.specs.Numbered.{firstFrom};
-ghost use Rattle.streaming_rules.specs.Descriptors.{kindOf, kindAt, lenAt, shape, frameLength, kAt, sortOf, guidAt, noFormat, formatAt, frameAt, isFormat, isFrame};
+ghost use Rattle.streaming_rules.specs.Descriptors.{kindOf, kindAt, lenAt, shape, frameLength, kAt, sortOf, guidAt, noFormat, noFrame, formatAt, frameAt, isFormat, isFrame};
 ghost use Rattle.streaming_rules.specs.Rules.{headRule, headerBroken, isUnread, misplaced, defaultOffered, kindFlags, ruleAt};
 
 pub const ENTITIES_MOST: usize = 32;
@@ -354,7 +354,7 @@ pub fn format_at(s: &[u8], at: usize, kind: Kind) -> Format
     }
 }
 
-fn no_format() -> Format
+pub fn no_format() -> Format
     ensures { λ r. ⌜ r ≡ noFormat ⌝ }
 {
     Format {
@@ -364,6 +364,20 @@ fn no_format() -> Format
         frames: 0,
         default: 0,
         offset: 0,
+    }
+}
+
+pub fn no_frame() -> Frame
+    ensures { λ r. ⌜ r ≡ noFrame ⌝ }
+{
+    Frame {
+        format: 0,
+        k: 0,
+        width: 0,
+        height: 0,
+        offset: 0,
+        size: 0,
+        interval: 0,
     }
 }
 
