@@ -46,3 +46,11 @@ module _ (g : ℕ → Format) (k : ℕ → ℕ) (n p i : ℕ) (a : i ≡ firstPl
       pub late-38 : (n ≡ q → ⊥) → Refused 38 0 ≡ lateBy g k n p
       unfolding lateBy pick
       late-38 h = rw (← a, le-ltb i n b, ← c, le-ltb j n d, ← e, ne-eqb n q h)
+
+-- formats and numbers of frames that agree have the same verdict
+pub late-same : (g h : ℕ → Format) (k m : ℕ → ℕ) (n p : ℕ) → ((i : ℕ) → g i ≡ h i) → ((i : ℕ) → i < n → k i ≡ m i) → lateBy g k n p ≡ lateBy h m n p
+unfolding lateBy
+late-same g h k m n p a b =
+    let x : firstPlace (λ i. countBroken (g i) (k i)) n ≡ firstPlace (λ i. countBroken (h i) (m i)) n = same-place (λ i. countBroken (g i) (k i)) (λ i. countBroken (h i) (m i)) n (λ j l. rw (a j, b j l)) in
+    let y : firstPlace (λ i. defaultBroken (g i)) n ≡ firstPlace (λ i. defaultBroken (h i)) n = same-place (λ i. defaultBroken (g i)) (λ i. defaultBroken (h i)) n (λ j l. rw (a j)) in
+    rw (x, y, a (firstPlace (λ i. countBroken (h i) (m i)) n), a (firstPlace (λ i. defaultBroken (h i)) n))

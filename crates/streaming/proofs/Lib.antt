@@ -1,3 +1,5 @@
 pub mod Links
 pub mod Places
 pub mod Late
+pub mod Going
+pub mod Heads

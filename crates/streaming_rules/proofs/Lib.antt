@@ -1,3 +1,4 @@
 pub mod Subtypes
 pub mod Guids
 pub mod Ladder
+pub mod Fine
