@@ -3,3 +3,5 @@ pub mod Places
 pub mod Late
 pub mod Going
 pub mod Heads
+pub mod Exactly
+pub mod Unique

@@ -2,3 +2,4 @@ pub mod Subtypes
 pub mod Guids
 pub mod Ladder
 pub mod Fine
+pub mod Unique
