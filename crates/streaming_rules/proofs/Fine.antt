@@ -36,7 +36,7 @@ pub record Fine (s : List ℕ) (o : ℕ) (a : Sofar) : Type 0 where
   pub fewer : isFormat (kindAt s o) ≡ true → a .formats < formatsMost
   pub placed : isFrame (kindAt s o) ≡ true → misplaced (formatOf (kindAt s o)) a ≡ false
   pub numbered : isFrame (kindAt s o) ≡ true → byte s o 3 ≡ a .numbered + 1
-  pub default : isFrame (kindAt s o) ≡ true → defaultOffered (formatOf (kindAt s o)) s o ≡ true
+  pub default : isFrame (kindAt s o) ≡ true → defaultOffered s o ≡ true
   pub few : isFrame (kindAt s o) ≡ true → a .frames < framesMost
 
 pub fine : (s : List ℕ) (o : ℕ) (a : Sofar) → ruleAt s o a ≡ 0 → Fine s o a

@@ -11,7 +11,7 @@ use Rattle.le.specs.Le.{byte, le16At, le32At}
 use Rattle.rules.specs.Numbered.{firstFrom}
 use Rattle.intervals.specs.Intervals.{offered, span}
 use Rattle.streaming_rules.specs.Descriptors.{kindOf, kindAt, lenAt, shape, frameLength, kAt, defaultAt, intervalsAt, isHeader, isFormat, isFrame}
-use Rattle.streaming_rules.specs.Rules.{headFlags, headRule, lengthBroken, headerBroken, typeBroken, isUnread, misplaced, defaultOffered, kindFlags, flags, ruleAt, blockMost, entitiesMost, formatsMost, framesMost}
+use Rattle.streaming_rules.specs.Rules.{headFlags, headRule, lengthBroken, headerBroken, typeBroken, isUnread, misplaced, offersAt, defaultOffered, kindFlags, flags, ruleAt, blockMost, entitiesMost, formatsMost, framesMost}
 use Rattle.streaming_rules.specs.declared.Kind.{Kind}
 use Rattle.streaming_rules.specs.declared.Kind.the-variants.{Header, OutputHeader, Uncompressed, Mjpeg, Frames, Unread, Other}
 use Rattle.streaming_rules.specs.declared.Sofar.{Sofar}
@@ -61,7 +61,7 @@ module _ (s : List ℕ) (o : ℕ) (a : Sofar) where
       unfolding firstFrom kindFlags
       rule-33 h = rw (← u, v, ← e, ← q, ne-eqb n (k + 1) h)
 
-      module _ (w : n ≡ k + 1) (d : Bool) (y : d ≡ defaultOffered f s o) where
+      module _ (w : n ≡ k + 1) (d : Bool) (y : d ≡ defaultOffered s o) where
         pub rule-34 : not d ≡ true → 34 ≡ firstFrom 29 (kindFlags (Frames f) s o a)
         unfolding firstFrom kindFlags
         rule-34 h = rw (← u, v, ← e, ← q, eq-eqb n (k + 1) w, ← y, h)
@@ -84,9 +84,12 @@ unfolding misplaced
 some-format f a h = rw (ne-eqb (a .formats) 0 h)
 
 -- ---- 34
-pub default-is : (s : List ℕ) (o f k x : ℕ) (r : Bool) → k ≡ byte s o (kAt f) → x ≡ le32At s (o + defaultAt f) → r ≡ offered s (o + intervalsAt) k x → r ≡ defaultOffered f s o
-unfolding defaultOffered
-default-is s o f k x r e d h = rw (← e, ← d) h
+pub offers-is : (s : List ℕ) (o k x : ℕ) (r : Bool) → k ≡ byte s o (kAt 0) → r ≡ offered s (o + intervalsAt) k x → r ≡ offersAt s o x
+unfolding offersAt
+offers-is s o k x r e h = rw (← e) h
+
+pub default-is : (s : List ℕ) (o x : ℕ) (r : Bool) → x ≡ le32At s (o + defaultAt 0) → r ≡ offersAt s o x → r ≡ defaultOffered s o
+default-is s o x r e h = h ∙ (rw e)
 
 pub frame-long : (s : List ℕ) (o f n : ℕ) → o + frameLength (byte s o (kAt f)) ≤ n → o + 26 ≤ n
 frame-long s o f n h = omega (arith, length-span (byte s o (kAt f)))

@@ -71,9 +71,13 @@ inward endpoint = eqb (endpoint / 2 ^ 7 % 2) 1
 unfoldable pub misplaced : ℕ → Sofar → Bool
 misplaced f a = eqb (a .formats) 0 || not (eqb (a .under) f)
 
+-- the frame at o offers x as an interval
+unfoldable pub offersAt : List ℕ → ℕ → ℕ → Bool
+offersAt s o x = offered s (o + intervalsAt) (byte s o (kAt (formatOf (kindAt s o)))) x
+
 -- 34: the default interval is one that the frame offers
-unfoldable pub defaultOffered : ℕ → List ℕ → ℕ → Bool
-defaultOffered f s o = offered s (o + intervalsAt) (byte s o (kAt f)) (le32At s (o + defaultAt f))
+abbrev pub defaultOffered : List ℕ → ℕ → Bool
+defaultOffered s o = offersAt s o (le32At s (o + defaultAt (formatOf (kindAt s o))))
 
 -- 29 to 35, by the kind
 unfoldable pub kindFlags : Kind → List ℕ → ℕ → Sofar → List Bool
@@ -83,7 +87,7 @@ kindFlags k s o a =
     ∷ (isFormat k && not (eqb (byte s o 3) (a .formats + 1)))
     ∷ (isFrame k && misplaced (formatOf k) a)
     ∷ (isFrame k && not (eqb (byte s o 3) (a .numbered + 1)))
-    ∷ (isFrame k && not (defaultOffered (formatOf k) s o))
+    ∷ (isFrame k && not (defaultOffered s o))
     ∷ ((isFormat k && leb formatsMost (a .formats)) || (isFrame k && leb framesMost (a .frames)))
     ∷ []
 

@@ -6,7 +6,7 @@ ghost use lib.ListN.{length, getD, take, drop};
 ghost use Rattle.le.specs.Le.{byte};
 ghost use Rattle.rules.specs.Numbered.{firstFrom};
 ghost use Rattle.streaming_rules.specs.Descriptors.{kindOf, kindAt, lenAt, shape, frameLength, kAt, sortOf, guidAt, noFormat, noFrame, formatAt, frameAt, isFormat, isFrame};
-ghost use Rattle.streaming_rules.specs.Rules.{headRule, headerBroken, isUnread, misplaced, defaultOffered, kindFlags, ruleAt};
+ghost use Rattle.streaming_rules.specs.Rules.{headRule, headerBroken, isUnread, misplaced, offersAt, defaultOffered, kindFlags, ruleAt};
 
 pub const ENTITIES_MOST: usize = 32;
 
@@ -234,13 +234,21 @@ fn is_misplaced(format: u8, a: Sofar) -> bool
     a.under != format
 }
 
-// Inner: 34: the default interval is one that the frame offers.
-fn default_offered(s: &[u8], at: usize, format: u8) -> bool
-    requires { ⌜ at + frameLength (byte (now s) at (kAt format)) ≤ length (now s) ⌝ }
-    ensures { λ r. ⌜ r ≡ defaultOffered format (now (s .entry)) at ⌝ }
+// Inner: whether the frame at `at` offers x as an interval. The callers have looked at its length.
+pub fn offers_at(s: &[u8], at: usize, x: u32) -> bool
+    requires { ⌜ at + frameLength (byte (now s) at 25) ≤ length (now s) ⌝ }
+    ensures { λ r. ⌜ r ≡ offersAt (now (s .entry)) at x ⌝ }
 {
     let k = le::wide(s[at + 25]);
-    intervals::offers(s, at + 26, k, le::le32(s, at + 21))
+    intervals::offers(s, at + 26, k, x)
+}
+
+// Inner: 34: the default interval is one that the frame offers.
+fn default_offered(s: &[u8], at: usize) -> bool
+    requires { ⌜ at + frameLength (byte (now s) at 25) ≤ length (now s) ⌝ }
+    ensures { λ r. ⌜ r ≡ defaultOffered (now (s .entry)) at ⌝ }
+{
+    offers_at(s, at, le::le32(s, at + 21))
 }
 
 // Inner: 32 to 35, of a frame.
@@ -254,7 +262,7 @@ fn frame_rule(s: &[u8], at: usize, format: u8, a: Sofar) -> u8
     if le::wide(s[at + 3]) != le::wide(a.numbered) + 1 {
         return 33;
     }
-    let offered = default_offered(s, at, format);
+    let offered = default_offered(s, at);
     if !offered {
         return 34;
     }
