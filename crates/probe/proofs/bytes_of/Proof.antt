@@ -1,3 +1,5 @@
+use Rattle.probe.proofs.Each.{bytes-are}
+use Rattle.probe.specs.Fields.{bytesOf}
 use borrow.Author.Needs.{needs}
 use Rattle.probe.proofs.bytes_of.Statement.{statement}
 use Rattle.probe.proofs.bytes_of.Tie as tie
@@ -164,7 +166,7 @@ element-copy-out-t96 c = search needs
 
 -- src/lib.rt:178:1
 returns : tie.Need-returns
-returns c = ?
+returns c = bytes-are _ _ _ _ _ _ _ _ _ _ _ _ _ _ _ _ _ _ _ _ _ _ _ _ _ _ _ _ _ _ _ (c .before .before .before .before .before .before .before .before .before .before .before .before .before .before .before .before .before .before .before .before .before .before .before .before .before .before .before .before .before .before .before .before .before .before .before .before .before .low .ensures) (c .before .before .before .before .before .before .before .before .before .before .before .before .before .before .before .before .before .before .before .before .before .before .before .before .before .before .before .before .before .before .before .before .before .before .before .before .high .ensures) (c .before .before .before .before .before .before .before .before .before .before .before .before .before .before .before .before .before .before .before .before .before .before .before .before .before .before .before .before .before .before .before .before .before .before .before .byte-0 .ensures) (c .before .before .before .before .before .before .before .before .before .before .before .before .before .before .before .before .before .before .before .before .before .before .before .before .before .before .before .before .before .before .before .before .before .before .byte-1 .ensures) (c .before .before .before .before .before .before .before .before .before .before .before .before .before .before .before .before .before .before .before .before .before .before .before .before .before .before .before .before .before .before .before .before .before .byte-2 .ensures) (c .before .before .before .before .before .before .before .before .before .before .before .before .before .before .before .before .before .before .before .before .before .before .before .before .before .before .before .before .before .before .before .before .byte-3 .ensures) (c .before .before .before .before .before .before .before .before .before .before .before .before .before .before .before .before .before .before .before .before .before .before .before .before .before .before .before .before .before .before .before .low2 .ensures) (c .before .before .before .before .before .before .before .before .before .before .before .before .before .before .before .before .before .before .before .before .before .before .before .before .before .before .before .before .before .before .high2 .ensures) (c .before .before .before .before .before .before .before .before .before .before .before .before .before .before .before .before .before .before .before .before .before .before .before .before .before .before .before .before .before .low3 .ensures) (c .before .before .before .before .before .before .before .before .before .before .before .before .before .before .before .before .before .before .before .before .before .before .before .before .before .before .before .before .high3 .ensures) (c .before .before .before .before .before .before .before .before .before .before .before .before .before .before .before .before .before .before .before .before .before .before .before .before .before .before .before .low4 .ensures) (c .before .before .before .before .before .before .before .before .before .before .before .before .before .before .before .before .before .before .before .before .before .before .before .before .before .before .high4 .ensures) (c .before .before .before .before .before .before .before .before .before .before .before .before .before .before .before .before .before .before .before .before .before .before .before .before .before .low5 .ensures) (c .before .before .before .before .before .before .before .before .before .before .before .before .before .before .before .before .before .before .before .before .before .before .before .before .high5 .ensures) (c .before .before .before .before .before .before .before .before .before .before .before .before .before .before .before .before .before .before .before .before .before .before .before .low6 .ensures) (c .before .before .before .before .before .before .before .before .before .before .before .before .before .before .before .before .before .before .before .before .before .before .high6 .ensures) (c .before .before .before .before .before .before .before .before .before .before .before .before .before .before .before .before .before .before .before .before .before .byte-02 .ensures) (c .before .before .before .before .before .before .before .before .before .before .before .before .before .before .before .before .before .before .before .before .byte-12 .ensures) (c .before .before .before .before .before .before .before .before .before .before .before .before .before .before .before .before .before .before .before .byte-22 .ensures) (c .before .before .before .before .before .before .before .before .before .before .before .before .before .before .before .before .before .before .byte-32 .ensures) (c .before .before .before .before .before .before .before .before .before .before .before .before .before .before .before .before .before .byte-03 .ensures) (c .before .before .before .before .before .before .before .before .before .before .before .before .before .before .before .before .byte-13 .ensures) (c .before .before .before .before .before .before .before .before .before .before .before .before .before .before .before .byte-23 .ensures) (c .before .before .before .before .before .before .before .before .before .before .before .before .before .before .byte-33 .ensures) (c .before .before .before .before .before .before .before .before .before .before .before .before .before .byte-04 .ensures) (c .before .before .before .before .before .before .before .before .before .before .before .before .byte-14 .ensures) (c .before .before .before .before .before .before .before .before .before .before .before .byte-24 .ensures) (c .before .before .before .before .before .before .before .before .before .before .byte-34 .ensures) (c .before .before .before .before .before .before .before .before .before .low7 .ensures) (c .before .before .before .before .before .before .before .before .high7 .ensures)
 
 pub bytes-of-spec : {M : Type 1} → statement M
 bytes-of-spec =

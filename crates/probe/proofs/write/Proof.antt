@@ -1,3 +1,6 @@
+use mathlib.Core.Path.{refl}
+use mathlib.Core.Path.{sym, _∙_}
+use Rattle.probe.proofs.Tests.{write-short, write-whole, copied}
 use borrow.Author.Needs.{needs}
 use Rattle.probe.proofs.write.Statement.{statement}
 use Rattle.probe.proofs.write.Tie as tie
@@ -8,7 +11,7 @@ use Rattle.probe.proofs.bytes_of.Reads as bytes-of-reads
 
 -- src/lib.rt:238:9
 returns : tie.Need-returns
-returns c = ?
+returns c = write-short _ _ (c .if1 .taken)
 
 -- src/lib.rt:243:17
 bytes-of-requires : tie.Need-bytes-of-requires
@@ -28,7 +31,7 @@ same-length c = search needs
 
 -- src/lib.rt:234:1
 returns-2 : tie.Need-returns-2
-returns-2 c = ?
+returns-2 c = write-whole _ _ _ (c .before .before .before .before .before .before .if1 .left) (copied _ _ _ _ _ (c .before .before .before .before .before .bytes-of .ensures) refl (c .before .before .copy .ensures .1))
 
 pub write-spec : {M : Type 1} → statement M
 write-spec =
