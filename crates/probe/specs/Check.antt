@@ -36,17 +36,21 @@ hasNumber s format number f = eqb (f .format) format && eqb (byte s (f .offset) 
 abbrev pub framePlace : List ℕ → List Frame → ℕ → ℕ → ℕ → ℕ
 framePlace s l n format number = firstPlace (λ i. hasNumber s format number (frameIn l i)) n
 
--- 42 to 46, of a block that was accepted
-unfoldable pub checkFlags : List ℕ → Streaming → Probe → List Bool
-checkFlags s a p =
-    let n = a .«frame_count» in
-    let i = framePlace s (a .frames) n (p .format) (p .frame) in
-    formatMissing (p .format) (a .«format_count»)
-    ∷ leb n i
-    ∷ not (offersAt s (frameIn (a .frames) i .offset) (p .interval))
+-- 44 to 46, with the frame whose descriptor stands at o
+unfoldable pub frameFlags : List ℕ → ℕ → Probe → List Bool
+frameFlags s o p =
+    not (offersAt s o (p .interval))
     ∷ frameSizeBroken (p .«frame_size»)
     ∷ payloadSizeBroken (p .«payload_size»)
     ∷ []
+
+-- 42 to 46, of a block that was accepted
+unfoldable pub checkFlags : List ℕ → Streaming → Probe → List Bool
+checkFlags s a p =
+    let i = framePlace s (a .frames) (a .«frame_count») (p .format) (p .frame) in
+    formatMissing (p .format) (a .«format_count»)
+    ∷ leb (a .«frame_count») i
+    ∷ frameFlags s (frameIn (a .frames) i .offset) p
 
 -- no number: yes
 unfoldable pub given : ℕ → Verdict

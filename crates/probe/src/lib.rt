@@ -5,8 +5,14 @@ ghost use lib.ListN.{length, getD};
 ghost use Rattle.probe.specs.Fields.{fieldsOf, bytesOf, noFields, probeOf, roomVerdict, written};
 
 
+ghost use Rattle.rules.specs.Numbered.{firstFrom};
+ghost use Rattle.streaming_rules.specs.Descriptors.{frameLength};
+ghost use Rattle.le.specs.Le.{byte};
+ghost use Rattle.probe.specs.Check.{formatMissing, hasNumber, frameFlags, given, checkOf};
 
+use entities::Table;
 use rules::Verdict;
+use streaming_rules::Frame;
 
 
 pub const LENGTH: usize = 48;
@@ -243,4 +249,82 @@ pub fn write(p: Probe, room: &mut [u8]) -> Verdict
     let block = bytes_of(p);
     bytes::copy(&block, room);
     Verdict::Accepted
+}
+
+// 42: the format number is not 1 to the number of formats.
+fn format_missing(number: u8, count: usize) -> bool
+    ensures { λ r. ⌜ r ≡ formatMissing number count ⌝ }
+{
+    if number == 0 {
+        return true;
+    }
+    count < le::wide(number)
+}
+
+// Inner: the frame has this number, of this format. Its descriptor lies within the block.
+fn has_number(block: &[u8], format: u8, number: u8, f: Frame) -> bool
+    requires { ⌜ f .offset + 3 < length (now block) ⌝ }
+    ensures { λ r. ⌜ r ≡ hasNumber (now (block .entry)) format number f ⌝ }
+{
+    if f.format != format {
+        return false;
+    }
+    let at = f.offset as usize;
+    block[at + 3] == number
+}
+
+// Inner: 44 to 46, with the frame whose descriptor stands at `at`.
+fn check_frame(block: &[u8], at: usize, probe: &[u8]) -> Verdict
+    requires { ⌜ (at + frameLength (byte (now block) at 25) ≤ length (now block)) × (length (now probe) ≡ 48) ⌝ }
+    ensures { λ r. ⌜ r ≡ given (firstFrom 44 (frameFlags (now (block .entry)) at (fieldsOf (now (probe .entry))))) ⌝ }
+{
+    let offered = streaming_rules::offers_at(block, at, le::le32(probe, 4));
+    if !offered {
+        return refused(44);
+    }
+    let frame_size = le::le32(probe, 18) as usize;
+    if sizes::frame_size_broken(frame_size) {
+        return refused(45);
+    }
+    let payload_size = le::le32(probe, 22) as usize;
+    if sizes::payload_size_broken(payload_size) {
+        return refused(46);
+    }
+    Verdict::Accepted
+}
+
+fn refused(number: u8) -> Verdict
+    ensures { λ r. ⌜ r ≡ Verdict.Refused number 0 ⌝ }
+{
+    Verdict::Refused { number, offset: 0 }
+}
+
+// Checks a probe block against a streaming block and its entity table: 41, the streaming block's own refusal, then 42 to 46.
+pub fn check(table: Table, block: &[u8], probe: &[u8]) -> Verdict
+    ensures { λ r. ⌜ r ≡ checkOf table (now (block .entry)) (now (probe .entry)) ⌝ }
+{
+    if probe.len() != LENGTH {
+        return refused(41);
+    }
+    let a = streaming::read(table, block);
+    let verdict = a.verdict;
+    if let Verdict::Refused { number, offset } = verdict {
+        return Verdict::Refused { number, offset };
+    }
+    let format = probe[2];
+    if format_missing(format, a.format_count) {
+        return refused(42);
+    }
+    let number = probe[3];
+    let n = a.frame_count;
+    let mut i: usize = 0;
+    while i < n {
+        let f = a.frames[i];
+        if has_number(block, format, number, f) {
+            let at = f.offset as usize;
+            return check_frame(block, at, probe);
+        }
+        i = i + 1;
+    }
+    refused(43)
 }

@@ -5,3 +5,4 @@ pub mod Going
 pub mod Heads
 pub mod Exactly
 pub mod Unique
+pub mod Inside
