@@ -1,0 +1,9 @@
+-- The theorems are in Theorems; the other files lead to them.
+pub mod Runs
+pub mod Made
+pub mod Cut
+pub mod Owed
+pub mod Posts
+pub mod Taken
+pub mod History
+pub mod Accounts
