@@ -34,8 +34,8 @@ use Rattle.session.specs.Refusals.{ledgerOf}
 use Rattle.session.specs.Session.{fresh}
 use Rattle.books.specs.Rule.{Call, Event, idle, unreadable, missing, readable, events, isOpen, Item, entryOf, framesBy, loose, entries, lineFor, lineOf, bytesIn, oneIn, partIn, total, stampsOf, stamps, noStamp, untimed, forward, back, between}
 use Rattle.books.specs.Calls.{nextCall, run}
-use Rattle.books.specs.Demands.{Right}
-use Rattle.books.proofs.Made.{leaving, charge, base, turnItems}
+use Rattle.books.specs.Demands.{Right, endedItems, fateItems}
+use Rattle.books.proofs.Made.{base, turnItems}
 use Rattle.books.proofs.Posts.{at, Sized, posts, posts-sized, since, stampIn, gain, place-law, step-law, place-lt, count-gain, bytes-gain, single-gain, total-append}
 use Rattle.books.proofs.Taken.{Proper}
 use Rattle.books.proofs.History.{itemsBy, callItems, dataNext, items, dataRun, afoot, items-right, posted, run-posts, posted-total, posted-stamps, map-append, stamps-append}
@@ -52,24 +52,24 @@ Settled Entry.Lost = Unit {0}
 Settled Entry.Idle = Unit {0}
 
 module _ (m : Entry → ℕ) (none : (e : Entry) → Settled e → m e ≡ 0) where
-  leaving-none : (e : Ended) (g : ℕ) (D : List ℕ) → total m (map entryOf (leaving e g D)) ≡ 0
-  leaving-none Nothing g D = refl
-  leaving-none (Frame w) g D = rw (none (Entry.Dropped w g) tt)
+  ended-none : (e : Ended) (g : ℕ) (D : List ℕ) → total m (map entryOf (endedItems e g D)) ≡ 0
+  ended-none Nothing g D = refl
+  ended-none (Frame w) g D = rw (none (Entry.Dropped w g) tt)
 
-  charge-none : (f : Fate) (n : ℕ) (D : List ℕ) → total m (map entryOf (charge f n D)) ≡ 0
-  charge-none Fate.Idle n D = rw (none Entry.Idle tt)
-  charge-none Fate.Kept n D = refl
-  charge-none Fate.Stray n D = rw (none (Entry.Stray n) tt)
-  charge-none (Fate.Delivered d) n D = rw (none (Entry.Delivered d) tt)
-  charge-none (Fate.Dropped w) n D = rw (none (Entry.Dropped w n) tt)
-  charge-none (Fate.Unreadable k) n D = rw (none (Entry.Unreadable n) tt)
+  fate-none : (f : Fate) (n : ℕ) (D : List ℕ) → total m (map entryOf (fateItems f n D)) ≡ 0
+  fate-none Fate.Idle n D = refl
+  fate-none Fate.Kept n D = refl
+  fate-none Fate.Stray n D = rw (none (Entry.Stray n) tt)
+  fate-none (Fate.Delivered d) n D = rw (none (Entry.Delivered d) tt)
+  fate-none (Fate.Dropped w) n D = rw (none (Entry.Dropped w n) tt)
+  fate-none (Fate.Unreadable k) n D = refl
 
   both-none : (xs ys : List Item) → total m (map entryOf xs) ≡ 0 → total m (map entryOf ys) ≡ 0 → total m (map entryOf (xs ++ ys)) ≡ 0
   both-none xs ys a b = ap (total m) (map-append xs ys) ∙ total-append m (map entryOf xs) (map entryOf ys) ∙ omega (arith, a, b)
 
   turn-none : (t : Turn) (D E : List ℕ) → total m (map entryOf (turnItems t D E)) ≡ 0
   turn-none t D E =
-      both-none (leaving (t .answer .ended) (t .gone) D) (charge (t .answer .fate) (t .bytes) E) (leaving-none (t .answer .ended) (t .gone) D) (charge-none (t .answer .fate) (t .bytes) E)
+      both-none (endedItems (t .answer .ended) (t .gone) D) (fateItems (t .answer .fate) (t .bytes) E) (ended-none (t .answer .ended) (t .gone) D) (fate-none (t .answer .fate) (t .bytes) E)
 
   call-none : (s : Session) (D : List ℕ) (c : Call) → total m (map entryOf (callItems s D c)) ≡ 0
   call-none s D (Call.transfer t) = go (readingOf (s .opening) t)
@@ -79,7 +79,7 @@ module _ (m : Entry → ℕ) (none : (e : Entry) → Settled e → m e ≡ 0) wh
       go (Unreadable k) = refl
       go (Readable h) = turn-none (turnOf (s .opening) (s .track) h (length t - h .len)) D (base (s .track .phase) (h .fid) D ++ drop (h .len) t)
   call-none s D Call.lost = refl
-  call-none s D Call.close = leaving-none (closedOf (s .track) .ended) (closedOf (s .track) .gone) D
+  call-none s D Call.close = ended-none (closedOf (s .track) .ended) (closedOf (s .track) .gone) D
 
   items-none : (cs : List Call) (s : Session) (D : List ℕ) → total m (map entryOf (items s D cs)) ≡ 0
   items-none [] s D = refl
@@ -249,7 +249,7 @@ ticks-gain = single-gain ticksAt (omega arith) (λ a e. since forward a (stampIn
 backward-gain : (a : Stamp) (e : Entry) → gain backwardAt a e ≡ since back a (stampIn e)
 backward-gain = single-gain backwardAt (omega arith) (λ a e. since back a (stampIn e)) (λ a s n. zero-add _ ∙ add-zero _) (λ a w n. refl) (λ a n. refl) (λ a n. refl) (λ a n. refl) (λ a n. refl) (λ a. refl) (λ a. refl)
 
-loose-stamped : (es : List Event) → stamps (loose es) ≡ []
+pub loose-stamped : (es : List Event) → stamps (loose es) ≡ []
 loose-stamped [] = refl
 loose-stamped (idle ∷ es) = loose-stamped es
 loose-stamped (unreadable n ∷ es) = loose-stamped es

@@ -24,7 +24,7 @@ use Rattle.frames.specs.declared.Fate.{Fate}
 use Rattle.frames.specs.Track.{firstOf, clashOf, earlierOf, faultOf, joinedOf, completeOf, fateOf, phaseOf}
 use Rattle.ledger.specs.declared.Entry.{Entry}
 use Rattle.books.specs.Rule.{Seen, same, ahead, runs, frameOf, strayOf, complete, dataOf, _orStamp_, firstStamp, _or_, when, differs, faultAt, gapAfter, faultFrom, Item, verdict, settled, strays, judge, nothing, judged}
-use Rattle.books.proofs.Made.{charge}
+use Rattle.books.specs.Demands.{fateItems}
 
 abbrev pub first : Bool → List Seen → List Seen
 first f [] = []
@@ -111,13 +111,13 @@ fault-or o x h d z =
 module _ (o : Opening) (p : Bool) (r : List Seen) (rs : List (List Seen)) where
   -- a complete frame
   end-law : (q : Fault) (s : Stamp) (n : ℕ) (D : List ℕ) (way : Bool) (rest : List Item) → n ≡ length D
-      → settled way true q s D ∷ rest ≡ charge (completeOf q n s) n D ++ rest
+      → settled way true q s D ∷ rest ≡ fateItems (completeOf q n s) n D ++ rest
   unfolding pick
   end-law (Bad w) s n D way rest e = rw e
   end-law Sound s n D way rest e = rw e (go (eqb (length D) 0))
     where
       go : (b : Bool) → record { entry = cond b (Entry.Dropped Empty (length D)) (Entry.Delivered (record { len = length D; stamp = s })); load = D } ∷ rest
-          ≡ charge (pick b (Fate.Dropped Empty) (Fate.Delivered (record { len = length D; stamp = s }))) (length D) D ++ rest
+          ≡ fateItems (pick b (Fate.Dropped Empty) (Fate.Delivered (record { len = length D; stamp = s }))) (length D) D ++ rest
       go true = refl
       go false = refl
 
@@ -126,7 +126,7 @@ module _ (o : Opening) (p : Bool) (r : List Seen) (rs : List (List Seen)) where
       → let x : Run = record { fid = f; fault = q; bytes = n; fill = m; stamp = s } in
       let h : Header = record { len = k; fid = g; eof = e; error = i; stamp = st } in
       cont o p q D s (record { header = h; load = d; before = b; after = a } ∷ r) rs
-      ≡ charge (fateOf e (joinedOf o x h (length d))) (n + length d) (D ++ d) ++ onward o p (phaseOf e (joinedOf o x h (length d))) a (D ++ d) r rs
+      ≡ fateItems (fateOf e (joinedOf o x h (length d))) (n + length d) (D ++ d) ++ onward o p (phaseOf e (joinedOf o x h (length d))) a (D ++ d) r rs
   take-law f q n m s D k g false i st d b a u =
       let x : Run = record { fid = f; fault = q; bytes = n; fill = m; stamp = s } in
       let h : Header = record { len = k; fid = g; eof = false; error = i; stamp = st } in

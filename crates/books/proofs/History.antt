@@ -30,7 +30,8 @@ use Rattle.session.specs.declared.Session.{Session}
 use Rattle.session.specs.Session.{readOf, tookBy, tookOf, missedOf, shutOf}
 use Rattle.books.specs.Rule.{Call, Event, idle, unreadable, missing, readable, eventBy, events, isOpen, _or_, Item, entryOf, loose, total, stamps, stampsOf}
 use Rattle.books.specs.Calls.{nextCall, run}
-use Rattle.books.proofs.Made.{leaving, charge, base, turnItems}
+use Rattle.books.specs.Demands.{endedItems, fateItems}
+use Rattle.books.proofs.Made.{base, turnItems, Framed, turn-framed}
 use Rattle.books.proofs.Cut.{cont}
 use Rattle.books.proofs.Owed.{owed, Holds, read-law, idle-law, spoil-law, unread-law, spoil-holds, read-holds}
 use Rattle.books.proofs.Posts.{posts, posts-append, total-append}
@@ -43,7 +44,7 @@ itemsBy (Unreadable k) s D t = []
 itemsBy (Readable h) s D t =
     turnItems (turnOf (s .opening) (s .track) h (length t - h .len)) D (base (s .track .phase) (h .fid) D ++ drop (h .len) t)
 
-abbrev dataBy : Reading → Session → List ℕ → List ℕ → List ℕ
+abbrev pub dataBy : Reading → Session → List ℕ → List ℕ → List ℕ
 dataBy Idle s D t = D
 dataBy (Unreadable k) s D t = D
 dataBy (Readable h) s D t = base (s .track .phase) (h .fid) D ++ drop (h .len) t
@@ -51,7 +52,7 @@ dataBy (Readable h) s D t = base (s .track .phase) (h .fid) D ++ drop (h .len) t
 abbrev pub callItems : Session → List ℕ → Call → List Item
 callItems s D (Call.transfer t) = itemsBy (readingOf (s .opening) t) s D t
 callItems s D Call.lost = []
-callItems s D Call.close = leaving (closedOf (s .track) .ended) (closedOf (s .track) .gone) D
+callItems s D Call.close = endedItems (closedOf (s .track) .ended) (closedOf (s .track) .gone) D
 
 abbrev pub dataNext : Session → List ℕ → Call → List ℕ
 dataNext s D (Call.transfer t) = dataBy (readingOf (s .opening) t) s D t
@@ -78,12 +79,12 @@ open-end o Fresh b D e = refl
 open-end o (Past f) b D e = refl
 open-end o (Under x) b D e = rw (append-nil D, e)
 
-close-end : (o : Opening) (ph : Phase) (b : Bool) (D : List ℕ) → Holds ph D → owed o false ph b D [] ≡ leaving (closedBy ph b .ended) (closedBy ph b .gone) D
+close-end : (o : Opening) (ph : Phase) (b : Bool) (D : List ℕ) → Holds ph D → owed o false ph b D [] ≡ endedItems (closedBy ph b .ended) (closedBy ph b .gone) D
 close-end o Fresh b D e = refl
 close-end o (Past f) b D e = refl
 close-end o (Under x) b D e = go (x .fault)
   where
-    go : (q : Fault) → cont o false (q or Sound) D (x .stamp) [] [] ≡ leaving (Frame (whyOf q Cut)) (x .bytes) D
+    go : (q : Fault) → cont o false (q or Sound) D (x .stamp) [] [] ≡ endedItems (Frame (whyOf q Cut)) (x .bytes) D
     go Sound = rw (append-nil D, e)
     go (Bad w) = rw (append-nil D, e)
 
@@ -171,35 +172,36 @@ abbrev pub posted : Session → List ℕ → List Call → List Entry
 posted s D [] = []
 posted s D (c ∷ cs) = callPosted s D c ++ posted (nextCall s c) (dataNext s D c) cs
 
-ended-posts : (l : Ledger) (e : Ended) (g : ℕ) (D : List ℕ) → endedOf l e g ≡ posts l (map entryOf (leaving e g D))
+ended-posts : (l : Ledger) (e : Ended) (g : ℕ) (D : List ℕ) → endedOf l e g ≡ posts l (map entryOf (endedItems e g D))
 ended-posts l Nothing g D = refl
 ended-posts l (Frame w) g D = refl
 
-fated-posts : (l : Ledger) (f : Fate) (n : ℕ) (D : List ℕ) → fatedOf l f n ≡ posts l (map entryOf (charge f n D))
-fated-posts l Fate.Idle n D = refl
-fated-posts l Fate.Kept n D = refl
-fated-posts l Fate.Stray n D = refl
-fated-posts l (Fate.Delivered d) n D = refl
-fated-posts l (Fate.Dropped w) n D = refl
-fated-posts l (Fate.Unreadable k) n D = refl
+fated-posts : (l : Ledger) (f : Fate) (n : ℕ) (D : List ℕ) → Framed f → fatedOf l f n ≡ posts l (map entryOf (fateItems f n D))
+fated-posts l Fate.Idle n D h = absurd h
+fated-posts l Fate.Kept n D h = refl
+fated-posts l Fate.Stray n D h = refl
+fated-posts l (Fate.Delivered d) n D h = refl
+fated-posts l (Fate.Dropped w) n D h = refl
+fated-posts l (Fate.Unreadable k) n D h = absurd h
 
 pub map-append : (xs ys : List Item) → map entryOf (xs ++ ys) ≡ map entryOf xs ++ map entryOf ys
 map-append [] ys = refl
 map-append (x ∷ xs) ys = ap (entryOf x ∷_) (map-append xs ys)
 
-answered-posts : (l : Ledger) (a : Answer) (g n : ℕ) (D E : List ℕ) → answeredOf l a g n ≡ posts l (map entryOf (leaving (a .ended) g D ++ charge (a .fate) n E))
-answered-posts l a g n D E =
-    fated-posts (endedOf l (a .ended) g) (a .fate) n E
-    ∙ ap (λ (x : Ledger). posts x (map entryOf (charge (a .fate) n E))) (ended-posts l (a .ended) g D)
-    ∙ sym (ap (posts l) (map-append (leaving (a .ended) g D) (charge (a .fate) n E)) ∙ posts-append l (map entryOf (leaving (a .ended) g D)) (map entryOf (charge (a .fate) n E)))
+answered-posts : (l : Ledger) (a : Answer) (g n : ℕ) (D E : List ℕ) → Framed (a .fate) → answeredOf l a g n ≡ posts l (map entryOf (endedItems (a .ended) g D ++ fateItems (a .fate) n E))
+answered-posts l a g n D E h =
+    fated-posts (endedOf l (a .ended) g) (a .fate) n E h
+    ∙ ap (λ (x : Ledger). posts x (map entryOf (fateItems (a .fate) n E))) (ended-posts l (a .ended) g D)
+    ∙ sym (ap (posts l) (map-append (endedItems (a .ended) g D) (fateItems (a .fate) n E)) ∙ posts-append l (map entryOf (endedItems (a .ended) g D)) (map entryOf (fateItems (a .fate) n E)))
 
 took-posts : (s : Session) (D t : List ℕ) (r : Reading) → tookBy r s t .session .ledger ≡ posts (s .ledger) (looseBy r t ++ map entryOf (itemsBy r s D t))
-unfolding readOf
+unfolding readOf turnOf
 took-posts s D t Idle = refl
 took-posts s D t (Unreadable k) = refl
 took-posts s D t (Readable h) =
     let T : Turn = turnOf (s .opening) (s .track) h (length t - h .len) in
     answered-posts (postOf (s .ledger) (Entry.Headers (h .len))) (T .answer) (T .gone) (T .bytes) D (dataBy (Readable h) s D t)
+    (turn-framed (s .opening) h (length t - h .len) (s .track .phase) (s .track .gap))
 
 call-posts : (s : Session) (D : List ℕ) (c : Call) → nextCall s c .ledger ≡ posts (s .ledger) (callPosted s D c)
 unfolding tookOf
@@ -238,7 +240,7 @@ loose-one o s Call.lost cs e p = refl
 loose-one o s Call.close [] e p = refl
 loose-one o s Call.close (c ∷ cs) e p = absurd p
 
-proper-rest : (c : Call) (cs : List Call) → Proper (c ∷ cs) → Proper cs
+pub proper-rest : (c : Call) (cs : List Call) → Proper (c ∷ cs) → Proper cs
 proper-rest (Call.transfer t) cs p = p
 proper-rest Call.lost cs p = p
 proper-rest Call.close [] p = tt

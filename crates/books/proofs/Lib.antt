@@ -7,3 +7,7 @@ pub mod Posts
 pub mod Taken
 pub mod History
 pub mod Accounts
+pub mod Received
+pub mod Bounds
+pub mod Sound
+pub mod Answers

@@ -25,7 +25,8 @@ use Rattle.frames.specs.declared.Turn.{Turn}
 use Rattle.frames.specs.Track.{firstOf, whyOf, sameOf, begunOf, faultOf, joinedOf, fateOf, phaseOf, joinTurn, strayTurn, turnBy, turnOf, spoiltBy}
 use Rattle.ledger.specs.declared.Entry.{Entry}
 use Rattle.books.specs.Rule.{Event, idle, unreadable, missing, readable, Seen, spoiled, readables, runs, frameOf, _orStamp_, _or_, when, Item, judged, nothing, gapBefore}
-use Rattle.books.proofs.Made.{leaving, charge, base, turnItems}
+use Rattle.books.specs.Demands.{endedItems, fateItems}
+use Rattle.books.proofs.Made.{base, turnItems}
 use Rattle.books.proofs.Cut.{first, later, runs-cut, cont, pass, onward, or-sound, first-or, take-law}
 
 -- what the rule owes, from a phase, whether a gap is pending, the data so far, and the events to come; p is whether the session stays open
@@ -66,13 +67,13 @@ module _ (o : Opening) (p : Bool) (h : Header) (d : List ℕ) (es : List Event) 
   -- what the joining of a run makes, and what is owed after it
   abbrev pub thereby : Run → List ℕ → List Item
   thereby x D =
-      charge (fateOf (h .eof) (joinedOf o x h (length d))) (x .bytes + length d) (D ++ d) ++ owed o p (phaseOf (h .eof) (joinedOf o x h (length d))) false (D ++ d) es
+      fateItems (fateOf (h .eof) (joinedOf o x h (length d))) (x .bytes + length d) (D ++ d) ++ owed o p (phaseOf (h .eof) (joinedOf o x h (length d))) false (D ++ d) es
 
   go-on : (b : Bool) (x : Run) (D : List ℕ) → x .bytes ≡ length D
       → cont o p (x .fault) D (x .stamp) (seen b ∷ first (x .fid) (readables false es)) (runs (later (x .fid) (readables false es))) ≡ thereby x D
   go-on b x D e =
       take-law o p (first (x .fid) (readables false es)) (runs (later (x .fid) (readables false es))) (x .fid) (x .fault) (x .bytes) (x .fill) (x .stamp) D (h .len) (h .fid) (h .eof) (h .error) (h .stamp) d b (spoiled es) e
-      ∙ ap (charge (fateOf (h .eof) (joinedOf o x h (length d))) (x .bytes + length d) (D ++ d) ++_) (onward-owed o p (h .eof) (joinedOf o x h (length d)) (D ++ d) es)
+      ∙ ap (fateItems (fateOf (h .eof) (joinedOf o x h (length d))) (x .bytes + length d) (D ++ d) ++_) (onward-owed o p (h .eof) (joinedOf o x h (length d)) (D ++ d) es)
 
   start-new : (b : Bool) → judged o p (runs (readables b (readable h d ∷ es))) ≡ thereby (begunOf b (h .fid)) []
   start-new b =
@@ -81,10 +82,10 @@ module _ (o : Opening) (p : Bool) (h : Header) (d : List ℕ) (es : List Event) 
       ∙ go-on b (begunOf b (h .fid)) [] refl
 
   turn-new : (b : Bool) (x : Run) (D : List ℕ) → x .bytes ≡ length D
-      → cont o p (x .fault or Sound) D (x .stamp) [] (runs (readables b (readable h d ∷ es))) ≡ leaving (Frame (whyOf (x .fault) Cut)) (x .bytes) D ++ thereby (begunOf b (h .fid)) []
+      → cont o p (x .fault or Sound) D (x .stamp) [] (runs (readables b (readable h d ∷ es))) ≡ endedItems (Frame (whyOf (x .fault) Cut)) (x .bytes) D ++ thereby (begunOf b (h .fid)) []
   turn-new b x D e = go (x .fault)
     where
-      go : (q : Fault) → cont o p (q or Sound) D (x .stamp) [] (runs (readables b (readable h d ∷ es))) ≡ leaving (Frame (whyOf q Cut)) (x .bytes) D ++ thereby (begunOf b (h .fid)) []
+      go : (q : Fault) → cont o p (q or Sound) D (x .stamp) [] (runs (readables b (readable h d ∷ es))) ≡ endedItems (Frame (whyOf q Cut)) (x .bytes) D ++ thereby (begunOf b (h .fid)) []
       go Sound = rw (ap nothing (runs-cut (seen b) (readables false es)), and-false p, append-nil D, e) (ap (record { entry = Entry.Dropped Cut (length D); load = D } ∷_) (start-new b))
       go (Bad w) = rw (ap nothing (runs-cut (seen b) (readables false es)), and-false p, append-nil D, e) (ap (record { entry = Entry.Dropped w (length D); load = D } ∷_) (start-new b))
 
