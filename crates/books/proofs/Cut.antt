@@ -105,6 +105,7 @@ fault-or o x h d z =
   where
     l : Fault
     l = when (ltb (o .frame) (x .bytes + d)) Long
+
     c : Fault
     c = when (differs (x .stamp orStamp (h .stamp orStamp z)) (h .stamp)) Clock
 

@@ -121,7 +121,7 @@ read-right s D t h p es e =
     rw (turn-gap (s .opening) h (length t - h .len) (s .track .phase) (s .track .gap), ← length-drop (h .len) t)
     (read-law (s .opening) p h (drop (h .len) t) es (s .track .phase) (s .track .gap) D e)
 
-read-keeps : (s : Session) (D : List ℕ) (t : List ℕ) (h : Header) → Holds (s .track .phase) D → Holds (readOf s h (length t - h .len) .session .track .phase) (dataBy (Readable h) s D t)
+pub read-keeps : (s : Session) (D : List ℕ) (t : List ℕ) (h : Header) → Holds (s .track .phase) D → Holds (readOf s h (length t - h .len) .session .track .phase) (dataBy (Readable h) s D t)
 unfolding turnOf readOf
 read-keeps s D t h e = rw (← length-drop (h .len) t) (read-holds (s .opening) h (drop (h .len) t) (s .track .phase) (s .track .gap) D e)
 

@@ -11,3 +11,7 @@ pub mod Received
 pub mod Bounds
 pub mod Sound
 pub mod Answers
+pub mod Whole
+pub mod Print
+pub mod Theorems
+pub mod Samples

@@ -51,7 +51,7 @@ snug-spoilt : (frame : ℕ) (q : Fault) (w : Reason) (fill bytes : ℕ) → Snug
 snug-spoilt frame Sound w fill bytes e = omega arith
 snug-spoilt frame (Bad v) w fill bytes e = e
 
-snug-joined : (frame : ℕ) (q : Fault) (i c l : Bool) (fill bytes n : ℕ) → ltb frame (bytes + n) ≡ l → Snug frame q fill bytes
+pub snug-joined : (frame : ℕ) (q : Fault) (i c l : Bool) (fill bytes n : ℕ) → ltb frame (bytes + n) ≡ l → Snug frame q fill bytes
     → Snug frame (firstOf (firstOf (firstOf q i Error) c Clock) l Long) (filledOf (firstOf (firstOf (firstOf q i Error) c Clock) l Long) fill n) (bytes + n)
 snug-joined frame (Bad w) i c l fill bytes n g e = e
 snug-joined frame Sound true c l fill bytes n g e = omega arith
@@ -59,7 +59,7 @@ snug-joined frame Sound false true l fill bytes n g e = omega arith
 snug-joined frame Sound false false true fill bytes n g e = omega arith
 snug-joined frame Sound false false false fill bytes n g e = (omega arith, ltb-false frame (bytes + n) g)
 
-snug-begun : (frame : ℕ) (b : Bool) → Snug frame (firstOf Sound b Gap) 0 0
+pub snug-begun : (frame : ℕ) (b : Bool) → Snug frame (firstOf Sound b Gap) 0 0
 snug-begun frame true = omega arith
 snug-begun frame false = (refl, omega arith)
 
@@ -92,7 +92,7 @@ fit-closed frame Fresh b = tt
 fit-closed frame (Past g) b = tt
 fit-closed frame (Under x) b = tt
 
-fit-took : (s : Session) (t : List ℕ) (r : Reading) → Fit (s .opening .frame) (s .track .phase) → Fit (s .opening .frame) (tookBy r s t .session .track .phase)
+pub fit-took : (s : Session) (t : List ℕ) (r : Reading) → Fit (s .opening .frame) (s .track .phase) → Fit (s .opening .frame) (tookBy r s t .session .track .phase)
 unfolding readOf turnOf spoiltOf
 fit-took s t Idle f = f
 fit-took s t (Unreadable k) f = fit-spoilt (s .opening .frame) (s .track .phase) f
@@ -192,11 +192,13 @@ module _ (o : Opening) (cs : List Call) (p : Proper cs) (small : Small cs) where
   unfolding countsBroken
   counts-fine =
       let r : Right o cs (ledgerOf at-end) = all-right o cs p in
-      rw (under (2 ^ 31 * at-end .taken) _ _ (r .ticks) (rw counted (ticks-bound o cs)),
-      under (at-end .taken) _ _ (r .losses) (rw counted (count-bound o cs 11)),
-      under (at-end .taken) _ _ (r .idles) (rw counted (count-bound o cs 12)),
-      under (at-end .taken) _ _ (r .backward) (rw counted (backward-bound o cs)),
-      under (at-end .taken) _ _ (r .plain) (rw counted (untimed-bound o cs)))
+      rw (
+        under (2 ^ 31 * at-end .taken) _ _ (r .ticks) (rw counted (ticks-bound o cs)),
+        under (at-end .taken) _ _ (r .losses) (rw counted (count-bound o cs 11)),
+        under (at-end .taken) _ _ (r .idles) (rw counted (count-bound o cs 12)),
+        under (at-end .taken) _ _ (r .backward) (rw counted (backward-bound o cs)),
+        under (at-end .taken) _ _ (r .plain) (rw counted (untimed-bound o cs)),
+      )
 
   pub record-sound : sizesBroken o ≡ false → recordBroken at-end ≡ false
   unfolding recordBroken

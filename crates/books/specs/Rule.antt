@@ -296,3 +296,12 @@ received [] = 0
 received (transfer t ∷ cs) = length t + received cs
 received (lost ∷ cs) = received cs
 received (close ∷ cs) = 0
+
+-- THE PRINT: the numbers of the sixteen lines, in order
+abbrev pub account : ℕ → List Entry → List ℕ → List ℕ
+account k es rest = total (oneIn k) es ∷ total (partIn k) es ∷ rest
+
+abbrev pub numbersOf : List Entry → List ℕ
+numbersOf es =
+    account 0 es (account 1 es (account 2 es (account 3 es (account 4 es (account 5 es (account 6 es (account 7 es (account 8 es (account 9 es (account 10 es
+    (total (oneIn 11) es ∷ total (oneIn 12) es ∷ between forward (stamps es) ∷ between back (stamps es) ∷ total untimed es ∷ [])))))))))))
