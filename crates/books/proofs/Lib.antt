@@ -10,6 +10,7 @@ pub mod Accounts
 pub mod Received
 pub mod Bounds
 pub mod Sound
+pub mod LastRun
 pub mod Answers
 pub mod Whole
 pub mod Print

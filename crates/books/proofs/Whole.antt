@@ -35,7 +35,7 @@ use Rattle.session.specs.declared.Session.{Session}
 use Rattle.session.specs.declared.Outcome.{Outcome}
 use Rattle.session.specs.Refusals.{takeRows}
 use Rattle.session.specs.Session.{fresh, readOf, tookBy, tookOf, tookBufferBy, tookBuffer, bufferBy, bufferOf, takeOf}
-use Rattle.books.specs.Rule.{Call, Item, framesBy}
+use Rattle.books.specs.Rule.{Call, events, isOpen, readables, runs, Item, framesBy}
 use Rattle.books.specs.Calls.{Offer, refusal, next, after, callOf, unless, taken, nextCall, run}
 use Rattle.books.specs.Demands.{endedItems, fateItems, offerWith, bufferNext, offers, bufferAfter, Whole}
 use Rattle.books.proofs.Made.{base, turnItems}
@@ -43,6 +43,7 @@ use Rattle.books.proofs.Owed.{Holds, same-beq, spoil-holds, read-holds}
 use Rattle.books.proofs.Taken.{next-taken, next-refused, after-run}
 use Rattle.books.proofs.History.{itemsBy, dataBy, dataNext, dataRun, items, callItems, afoot, next-opening, read-keeps}
 use Rattle.books.proofs.Sound.{Snug, Fit, fit-took, fit-next, snug-begun, snug-joined}
+use Rattle.books.proofs.LastRun.{delivered-last}
 use Rattle.books.proofs.Answers.{and, answerBy, taken-answer, frames-more}
 
 -- the buffer begins with the data of the frame under way, as long as the frame has no fault
@@ -306,9 +307,19 @@ module _ (o : Opening) (B : List ℕ) (ks : List Call) (room : o .frame ≤ leng
       let f : framesBy o (and (taken (fresh o) calls) (Call.transfer t)) ≡ (made ++ itemsBy r s D t) ++ afoot (tookBy r s t .session .track .phase) (dataBy r s D t) =
       frames-more o calls (Offer.take buffer t) ok ∙ ap (λ (x : Session). (made ++ callItems x D (Call.transfer t)) ++ afoot (nextCall x (Call.transfer t) .track .phase) (dataNext x D (Call.transfer t))) (sym q) in
       let x : Item = record { entry = Entry.Delivered d; load = take (d .len) (tookBufferBy r s buffer t) } in
+      let cs : List Call = and (taken (fresh o) calls) (Call.transfer t) in
+      let i = delivered-last o (isOpen cs) (runs (readables false (events o cs))) (made ++ v .before) x d
+      (f ∙ ap ((made ++ itemsBy r s D t) ++_) (v .none) ∙ append-nil _ ∙ ap (made ++_) (v .last) ∙ sym (append-assoc made (v .before) (x ∷ []))) refl in
       rw ok′ (record {
-        earlier = made ++ v .before;
-        frames = f ∙ ap ((made ++ itemsBy r s D t) ++_) (v .none) ∙ append-nil _ ∙ ap (made ++_) (v .last) ∙ sym (append-assoc made (v .before) (x ∷ []));
+        earlier = i .earlier;
+        last = i .last;
+        cut = i .cut;
+        ended = i .whole .ended;
+        sound = i .whole .sound;
+        alone = i .alone;
+        payload = i .load;
+        size = i .whole .size;
+        stamp = i .whole .stamp;
       })
 
   pub delivered-whole : (t : List ℕ) (a : Answer) (d : Delivery) → takeOf (after (fresh o) calls) (length buffer) t .outcome ≡ Outcome.Taken a → a .fate ≡ Fate.Delivered d

@@ -1,9 +1,11 @@
 -- What is demanded of a session after any calls: the statements that proofs/Theorems.antt proves.
 use Prim.Native.Nat.{ℕ, suc, _+_, _≤_}
 use mathlib.Core.Path.{_≡_}
+use mathlib.Core.Bool.{true, false}
 use mathlib.Core.List.{List, [], _∷_, _++_}
 use lib.ListN.{length, getD, take}
 use Rattle.payload.specs.declared.Opening.{Opening}
+use Rattle.frames.specs.declared.Fault.the-variants.{Sound}
 use Rattle.frames.specs.declared.Ended.{Ended}
 use Rattle.frames.specs.declared.Ended.the-variants.{Nothing, Frame}
 use Rattle.frames.specs.declared.Fate.{Fate}
@@ -15,7 +17,7 @@ use Rattle.ledger.specs.declared.Ledger.{Ledger}
 use Rattle.ledger.specs.Ledger.{placeOf, countOf, bytesOf, lostAt, idleAt, ticksAt, backwardAt, untimedAt}
 use Rattle.session.specs.declared.Session.{Session}
 use Rattle.session.specs.Session.{bufferOf}
-use Rattle.books.specs.Rule.{Call, Item, framesBy, entries, oneIn, partIn, total, stamps, untimed, forward, back, between, received}
+use Rattle.books.specs.Rule.{Call, events, Seen, readables, runs, frameOf, strayOf, complete, dataOf, firstStamp, fault, Item, framesBy, entries, oneIn, partIn, total, stamps, untimed, forward, back, between, received}
 use Rattle.books.specs.Calls.{Offer, next}
 
 -- THE LEDGER AND THE RULE: every number of a ledger is what the rule gives from the opening and the calls taken.
@@ -106,7 +108,15 @@ abbrev pub bufferAfter : Session → List ℕ → List Call → List ℕ
 bufferAfter s b [] = b
 bufferAfter s b (k ∷ ks) = bufferAfter (next s (offerWith b k)) (bufferNext s b k) ks
 
--- DELIVERED IS WHOLE: the rule's last frame is the delivered one, and the buffer's first bytes are its payload bytes
+-- DELIVERED IS WHOLE: after these calls the last run's frame is complete, without fault and has no stray after it; the buffer's first bytes are its payload bytes, in
+-- order, as many as the delivery says, and the delivery's stamp is the frame's first.
 pub record Whole (o : Opening) (cs : List Call) (d : Delivery) (buffer : List ℕ) : Type 0 where
-  pub earlier : List Item
-  pub frames : framesBy o cs ≡ earlier ++ (record { entry = Entry.Delivered d; load = take (d .len) buffer } ∷ [])
+  pub earlier : List (List Seen)
+  pub last : List Seen
+  pub cut : runs (readables false (events o cs)) ≡ earlier ++ (last ∷ [])
+  pub ended : complete (frameOf last) ≡ true
+  pub sound : fault o (frameOf last) ≡ Sound
+  pub alone : strayOf last ≡ []
+  pub payload : take (d .len) buffer ≡ dataOf (frameOf last)
+  pub size : d .len ≡ length (dataOf (frameOf last))
+  pub stamp : d .stamp ≡ firstStamp (frameOf last)
