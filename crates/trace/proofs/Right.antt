@@ -65,11 +65,11 @@ module _ (s : Session) (b r : List ℕ) where
   module _ (e : (s .closed || recordBad r) ≡ false) where
     pub step-refused : (k : ℕ) → refusal s (offerWith b (recordCall r)) ≡ suc k → stepOf (good s) b r ≡ record { session = s; state = Refused (suc k) (numberOf s) }
     unfolding stepOf
-    step-refused k q = ap (λ (x : Bool). readBy x s b (recordCall r)) e ∙ ap (λ (n : ℕ). offered n s b (recordCall r)) q
+    step-refused k q = ap (λ (x : Bool). readBy x s b (recordCall r)) e ∙ ap (λ (n : ℕ). offered n s (next s (offerWith b (recordCall r)))) q
 
     pub step-good : refusal s (offerWith b (recordCall r)) ≡ 0 → stepOf (good s) b r ≡ good (next s (offerWith b (recordCall r)))
     unfolding stepOf
-    step-good q = ap (λ (x : Bool). readBy x s b (recordCall r)) e ∙ ap (λ (n : ℕ). offered n s b (recordCall r)) q
+    step-good q = ap (λ (x : Bool). readBy x s b (recordCall r)) e ∙ ap (λ (n : ℕ). offered n s (next s (offerWith b (recordCall r)))) q
 
     pub buffer-good : stepBuffer (good s) b r ≡ bufferNext s b (recordCall r)
     unfolding stepBuffer

@@ -33,15 +33,18 @@ closes false = 1
 abbrev pub numberOf : Session → ℕ
 numberOf s = s .taken + closes (s .closed)
 
--- a good record's call, offered with the buffer: taken, or refused by a number
-abbrev pub offered : ℕ → Session → List ℕ → Call → Trace
-offered zero s buffer c = record { session = next s (offerWith buffer c); state = Good }
-offered (suc k) s buffer c = record { session = s; state = Refused (suc k) (numberOf s) }
+-- a good record's call: taken, with the next session, or refused by a number
+abbrev pub offered : ℕ → Session → Session → Trace
+offered zero s n = record { session = n; state = Good }
+offered (suc k) s n = record { session = s; state = Refused (suc k) (numberOf s) }
+
+abbrev pub readCall : Session → List ℕ → Call → Trace
+readCall s buffer c = offered (refusal s (offerWith buffer c)) s (next s (offerWith buffer c))
 
 -- a bad record, or anything after close: bad
 abbrev pub readBy : Bool → Session → List ℕ → Call → Trace
 readBy true s buffer c = record { session = s; state = Bad (numberOf s) }
-readBy false s buffer c = offered (refusal s (offerWith buffer c)) s buffer c
+readBy false s buffer c = readCall s buffer c
 
 abbrev pub stepBy : State → Session → List ℕ → List ℕ → Trace
 stepBy Good s buffer r = readBy (s .closed || recordBad r) s buffer (recordCall r)
