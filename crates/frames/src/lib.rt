@@ -1,7 +1,7 @@
 // The frame under way: turns a readable transfer into an answer. It never sees the ledger.
 ghost use mathlib.Core.Path.{_≡_};
 ghost use Prim.Native.Nat.{_+_, _<_, _^_};
-ghost use Rattle.frames.specs.Track.{firstOf, clashOf, earlierOf, whyOf, sameOf, begunOf, joinedOf, filledOf, writtenOf, fateOf, phaseOf, joinTurn, strayTurn, turnOf, spoiltOf, closedOf, Roomy};
+ghost use Rattle.frames.specs.Track.{firstOf, clashOf, earlierOf, whyOf, sameOf, begunOf, joinedOf, filledOf, writtenOf, completeOf, fateOf, phaseOf, joinTurn, strayTurn, turnOf, spoiltOf, closedOf, Roomy};
 use payload::Header;
 use payload::Opening;
 use payload::Stamp;
@@ -199,24 +199,31 @@ fn joined(o: Opening, r: Run, h: Header, n: usize) -> Run
     }
 }
 
+// A complete frame with its earliest fault, its bytes and its stamp.
+fn complete(f: Fault, len: u64, stamp: Stamp) -> Fate
+    ensures { λ x. ⌜ x ≡ completeOf f len stamp ⌝ }
+{
+    match f {
+        Fault::Bad(why) => Fate::Dropped(why),
+        Fault::Sound => {
+            if len == 0 {
+                return Fate::Dropped(Reason::Empty);
+            }
+            Fate::Delivered(Delivery { len, stamp })
+        }
+    }
+}
+
 // The fate of a transfer of the frame r, which is r with it.
 fn fate_of(eof: bool, r: Run) -> Fate
     ensures { λ x. ⌜ x ≡ fateOf eof r ⌝ }
 {
-    if !eof {
-        return Fate::Kept;
-    }
-    let f = r.fault;
-    match f {
-        Fault::Bad(why) => Fate::Dropped(why),
-        Fault::Sound => {
-            let len = r.bytes;
-            if len == 0 {
-                return Fate::Dropped(Reason::Empty);
-            }
-            let stamp = r.stamp;
-            Fate::Delivered(Delivery { len, stamp })
-        }
+    if eof {
+        let f = r.fault;
+        let stamp = r.stamp;
+        complete(f, r.bytes, stamp)
+    } else {
+        Fate::Kept
     }
 }
 

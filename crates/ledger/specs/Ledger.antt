@@ -1,5 +1,6 @@
 -- The ledger's numbers, in the order of print, and what each entry makes of them.
-use Prim.Native.Nat.{ℕ, _+_, _*_, _≤_}
+use Prim.Native.Nat.{ℕ, _+_, _*_, _≤_, _<_}
+use mathlib.Core.Path.{_≡_}
 use mathlib.Core.List.{List}
 use lib.ListN.{getD, set, replicate}
 use Rattle.payload.specs.declared.Stamp.{Stamp}
@@ -156,6 +157,23 @@ shownOf l p =
       last = l .last;
     }
 
--- no number of the ledger is above b
-abbrev pub Room : ℕ → Ledger → Type 0
-Room b l = (i : ℕ) → getD (l .numbers) i 0 ≤ b
+-- ROOM FOR MORE, so that no sum wraps: neither number of an account is above b
+pub record Spare (b : ℕ) (l : Ledger) (k : ℕ) : Type 0 where
+  pub count : countOf l k ≤ b
+  pub bytes : bytesOf l k ≤ b
+
+-- and no other number is. The account of the frame under way is left out: while the frame goes on, the track has it.
+pub record Room (b : ℕ) (l : Ledger) : Type 0 where
+  pub accounts : (k : ℕ) → k < 11 → (k ≡ placeOf Account.UnderWay → ⊥) → Spare b l k
+  pub others : (i : ℕ) → lostAt ≤ i → i ≤ untimedAt → getD (l .numbers) i 0 ≤ b
+
+-- what an entry of a frame under way needs besides
+abbrev pub Held : ℕ → Ledger → Entry → Type 0
+Held b l (Entry.Delivered d) = Unit {0}
+Held b l (Entry.Dropped why n) = Unit {0}
+Held b l (Entry.UnderWay n) = Spare b l (placeOf Account.UnderWay)
+Held b l (Entry.Stray n) = Unit {0}
+Held b l (Entry.Unreadable n) = Unit {0}
+Held b l (Entry.Headers n) = Unit {0}
+Held b l Entry.Lost = Unit {0}
+Held b l Entry.Idle = Unit {0}

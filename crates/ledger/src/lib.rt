@@ -2,7 +2,8 @@
 ghost use mathlib.Core.Path.{_≡_};
 ghost use Prim.Native.Nat.{_+_, _<_, _≤_, _^_};
 ghost use lib.ListN.{getD};
-ghost use Rattle.ledger.specs.Ledger.{noLedger, placeOf, accountFor, plusOf, enteredOf, steppedOf, timedOf, postOf, endedOf, fatedOf, answeredOf, shownOf, countOf, bytesOf, entryBytes, fateBytes, Room};
+ghost use Rattle.ledger.specs.Ledger.{noLedger, placeOf, accountFor, plusOf, enteredOf, steppedOf, timedOf, postOf, endedOf, fatedOf, answeredOf, shownOf, countOf, bytesOf, entryBytes, fateBytes, Room, Spare, Held};
+ghost use Rattle.frames.specs.Track.{underCount, underBytes};
 ghost use Rattle.ledger.specs.Step.{stepOf};
 use frames::Answer;
 use frames::Delivery;
@@ -62,7 +63,9 @@ impl Ledger {
 
     pub const TICKS: u64 = 2147483648;
 
-    // The places of the counts that are no accounts.
+    // The place of the account of the frame under way, and those of the counts that are no accounts.
+    pub const UNDER_WAY: usize = 14;
+
     pub const LOST: usize = 22;
 
     pub const IDLE: usize = 23;
@@ -112,7 +115,7 @@ impl Ledger {
 
     // One more in an account, of n bytes.
     fn entered(self, a: Account, n: u64) -> Self
-        requires { ⌜ (Room (2 ^ 63 + 2 ^ 60) self) × (n ≤ 2 ^ 50) ⌝ }
+        requires { ⌜ (Spare (2 ^ 63 + 2 ^ 60) self (placeOf a)) × (n ≤ 2 ^ 50) ⌝ }
         ensures { λ r. ⌜ r ≡ enteredOf self a n ⌝ }
     {
         let at = 2 * place(a);
@@ -146,7 +149,7 @@ impl Ledger {
                         Ledger { numbers, last: s }
                     }
                     Stamp::At(a) => {
-                        let l = self.stepped(step(a, b));
+                        let l = self.stepped(step_between(a, b));
                         let numbers = l.numbers;
                         Ledger { numbers, last: s }
                     }
@@ -157,7 +160,7 @@ impl Ledger {
 
     // Inner: enters one entry. The session has looked at the bounds (50).
     pub fn post(self, e: Entry) -> Self
-        requires { ⌜ (Room (2 ^ 63 + 2 ^ 60) self) × (entryBytes e ≤ 2 ^ 50) ⌝ }
+        requires { ⌜ (Room (2 ^ 63 + 2 ^ 60) self) × (Held (2 ^ 63 + 2 ^ 60) self e) × (entryBytes e ≤ 2 ^ 50) ⌝ }
         ensures { λ r. ⌜ r ≡ postOf self e ⌝ }
     {
         match e {
@@ -217,15 +220,31 @@ impl Ledger {
     pub fn shown(mut self, p: Phase) -> Self
         ensures { λ r. ⌜ r ≡ shownOf self p ⌝ }
     {
-        let mut count: u64 = 0;
-        let mut bytes: u64 = 0;
-        if let Phase::Under(r) = p {
-            count = 1;
-            bytes = r.bytes;
-        }
-        self.numbers[14] = count;
-        self.numbers[15] = bytes;
+        let count = under_count(p);
+        let bytes = under_bytes(p);
+        self.numbers[Ledger::UNDER_WAY] = count;
+        self.numbers[Ledger::UNDER_WAY + 1] = bytes;
         self
+    }
+}
+
+fn under_count(p: Phase) -> u64
+    ensures { λ r. ⌜ r ≡ underCount p ⌝ }
+{
+    match p {
+        Phase::Fresh => 0,
+        Phase::Past(_) => 0,
+        Phase::Under(_) => 1,
+    }
+}
+
+fn under_bytes(p: Phase) -> u64
+    ensures { λ r. ⌜ r ≡ underBytes p ⌝ }
+{
+    match p {
+        Phase::Fresh => 0,
+        Phase::Past(_) => 0,
+        Phase::Under(r) => r.bytes,
     }
 }
 
@@ -262,7 +281,7 @@ fn account_for(why: Reason) -> Account
 }
 
 // The step between two stamps: later minus earlier modulo 2^32, read as signed.
-pub fn step(earlier: u32, later: u32) -> Step
+pub fn step_between(earlier: u32, later: u32) -> Step
     ensures { λ r. ⌜ r ≡ stepOf earlier later ⌝ }
 {
     let ahead = (later as u64 + 4294967296 - earlier as u64) % 4294967296;

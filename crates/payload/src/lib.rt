@@ -4,6 +4,7 @@ ghost use mathlib.Core.Bool.{true};
 ghost use Prim.Native.Nat.{_<_, _≤_};
 ghost use lib.ListN.{length, getD};
 ghost use lib.Dec.{ltb};
+ghost use Rattle.rules.specs.Pick.{pick};
 ghost use Rattle.rules.specs.Numbered.{firstFrom};
 ghost use Rattle.payload.specs.Transfer.{flagOf, needOf, stampOf, headerOf, transferFlags, readingOf};
 
@@ -43,17 +44,20 @@ fn flag(b: u8, n: u8) -> bool
     (b >> n) & 1 == 1
 }
 
+// n bytes, if the flag that announces them is set.
+fn held(there: bool, n: usize) -> usize
+    ensures { λ r. ⌜ (r ≡ pick there n 0) × (r ≤ n) ⌝ }
+{
+    if there { n } else { 0 }
+}
+
 // How long a header has to be for what its flags say it holds.
 fn need_of(flags: u8) -> usize
     ensures { λ r. ⌜ r ≡ needOf flags ⌝ }
 {
-    let pts = flag(flags, 2);
-    let scr = flag(flags, 3);
-    if pts {
-        if scr { 12 } else { 6 }
-    } else {
-        if scr { 8 } else { 2 }
-    }
+    let pts = held(flag(flags, 2), 4);
+    let scr = held(flag(flags, 3), 6);
+    2 + pts + scr
 }
 
 // 65.
@@ -75,7 +79,7 @@ fn unreadable_by(o: Opening, t: &[u8]) -> u8
     if o.payload < n {
         return 62;
     }
-    let len = le::wide(t[0]);
+    let len = t[0] as usize;
     if len < 2 {
         return 63;
     }

@@ -65,11 +65,11 @@ row-after (r ∷ rs) qs p e = go (r .broken) refl (row-after rs qs (p .1))
     go false q f = row-later r (rs ++ qs) q ∙ f (sym (row-later r rs q) ∙ e)
 
 -- ---- a test below n
-or-first : (a b : Bool) → (a || b) ≡ false → a ≡ false
+pub or-first : (a b : Bool) → (a || b) ≡ false → a ≡ false
 or-first true b h = h
 or-first false b h = refl
 
-or-second : (a b : Bool) → (a || b) ≡ false → b ≡ false
+pub or-second : (a b : Bool) → (a || b) ≡ false → b ≡ false
 or-second true b h = absurd (true≢false h)
 or-second false b h = h
 

@@ -3,7 +3,7 @@ use Prim.Native.Nat.{ℕ, _+_, _*_, _<_, _≤_, _^_}
 use mathlib.Core.Path.{_≡_}
 use mathlib.Core.List.{List, [], _∷_, _++_}
 use mathlib.Core.Bool.{Bool, true, false, not, _||_}
-use lib.ListN.{getD}
+use lib.ListN.{length, getD}
 use lib.Dec.{ltb, leb, eqb}
 use Rattle.rules.specs.Numbered.{Row, anyBelow}
 use Rattle.sizes.specs.Sizes.{frameSizeBroken, payloadSizeBroken}
@@ -80,3 +80,4 @@ takeRows s room n =
 pub record Ready (s : Session) : Type 0 where
   pub sound : recordBroken s ≡ false
   pub more : s .taken < 4294967295
+  pub places : length (s .ledger .numbers) ≡ 27

@@ -2,7 +2,7 @@
 ghost use mathlib.Core.Path.{_≡_};
 ghost use Prim.Native.Nat.{_<_, _^_};
 ghost use Rattle.rules.specs.Numbered.{firstFrom, firstRow};
-ghost use Rattle.session.specs.Refusals.{openingFlags, sizesBroken, fillBroken, accountsBroken, countsBroken, recordBroken, closeRows, lostRows, takeRows};
+ghost use Rattle.session.specs.Refusals.{openingFlags, sizesBroken, unequal, fillBroken, accountsBroken, countsBroken, recordBroken, closeRows, lostRows, takeRows};
 use crate::Session;
 use frames::Fault;
 use frames::Phase;
@@ -34,6 +34,16 @@ fn sizes_broken(o: Opening) -> bool
     sizes::payload_size_broken(o.payload)
 }
 
+// In a frame without fault, fill is its bytes under way.
+fn unequal_fill(f: Fault, fill: usize, bytes: u64) -> bool
+    ensures { λ r. ⌜ r ≡ unequal f fill bytes ⌝ }
+{
+    match f {
+        Fault::Bad(_) => false,
+        Fault::Sound => (fill as u64) != bytes,
+    }
+}
+
 // Fill over the frame size, or, in a frame without fault, not its bytes under way.
 fn fill_broken(p: Phase, frame: usize) -> bool
     ensures { λ r. ⌜ r ≡ fillBroken p frame ⌝ }
@@ -47,10 +57,7 @@ fn fill_broken(p: Phase, frame: usize) -> bool
                 return true;
             }
             let f = r.fault;
-            match f {
-                Fault::Bad(_) => false,
-                Fault::Sound => (fill as u64) != r.bytes,
-            }
+            unequal_fill(f, fill, r.bytes)
         }
     }
 }
@@ -80,19 +87,19 @@ fn counts_broken(l: Ledger, n: u64) -> bool
     requires { ⌜ n < 2 ^ 32 ⌝ }
     ensures { λ r. ⌜ r ≡ countsBroken l n ⌝ }
 {
-    if Ledger::TICKS * n < l.numbers[24] {
+    if Ledger::TICKS * n < l.numbers[Ledger::RUNNING] {
         return true;
     }
-    if n < l.numbers[22] {
+    if n < l.numbers[Ledger::LOST] {
         return true;
     }
-    if n < l.numbers[23] {
+    if n < l.numbers[Ledger::IDLE] {
         return true;
     }
-    if n < l.numbers[25] {
+    if n < l.numbers[Ledger::BACKWARD] {
         return true;
     }
-    n < l.numbers[26]
+    n < l.numbers[Ledger::UNTIMED]
 }
 
 // Rule 50.
@@ -155,7 +162,7 @@ pub fn take_refusal(s: Session, room: usize, n: usize) -> u8
     if room < o.frame {
         return 51;
     }
-    if 65536 < n {
+    if Ledger::BYTES < n as u64 {
         return 55;
     }
     0

@@ -1,0 +1,4 @@
+-- Laws of a session.
+pub mod Checks
+pub mod Ready
+pub mod Calls
