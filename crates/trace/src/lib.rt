@@ -2,10 +2,10 @@
 pub mod record;
 
 ghost use mathlib.Core.Path.{_≡_};
-ghost use mathlib.Core.Bool.{false};
+ghost use Prim.Native.Nat.{_≤_};
 ghost use mathlib.Core.List.{[]};
 ghost use lib.ListN.{length};
-ghost use Rattle.trace.specs.Record.{recordBad, recordCall};
+ghost use Rattle.trace.specs.Record.{lengthAt, recordCall};
 ghost use Rattle.trace.specs.Trace.{newTrace, numberOf, offered, readCall, stepOf, stepBuffer, reportOf};
 ghost use Rattle.books.specs.Rule.{Call};
 ghost use Rattle.books.specs.Demands.{bufferNext};
@@ -107,7 +107,7 @@ fn close(s: Session) -> Trace
 
 // The call of a good record.
 fn call(s: Session, buffer: &mut [u8], r: &[u8]) -> Trace
-    requires { ⌜ recordBad (now r) ≡ false ⌝ }
+    requires { ⌜ (length (now r) ≡ 64) × (lengthAt (now r) ≤ 62) ⌝ }
     ensures { λ x. ⌜ x ≡ readCall s (now (buffer .entry)) (recordCall (now (r .entry))) ⌝ }
     ensures { λ _. ⌜ now (buffer .exit) ≡ bufferNext s (now (buffer .entry)) (recordCall (now (r .entry))) ⌝ }
 {

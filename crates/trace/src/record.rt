@@ -38,10 +38,11 @@ pub fn bad(r: &[u8]) -> bool
     if MOST < n {
         return true;
     }
-    if kind != 0 {
-        if n != 0 {
-            return true;
-        }
+    if kind == 0 {
+        return any_set(r, 2 + n);
+    }
+    if n != 0 {
+        return true;
     }
     any_set(r, 2 + n)
 }
