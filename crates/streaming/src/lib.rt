@@ -186,17 +186,17 @@ fn walk(s: &[u8], linked: bool) -> Streaming
         }
     }
     let verdict = late_verdict(formats, f, &counts, s[3]);
-    match verdict {
-        Verdict::Accepted => Streaming {
-            verdict: Verdict::Accepted,
-            endpoint: s[6],
-            link: s[8],
-            format_count: f,
-            formats,
-            frame_count: n,
-            frames,
-        },
-        Verdict::Refused { number, offset } => refused(number, offset),
+    if let Verdict::Refused { number, offset } = verdict {
+        return refused(number, offset);
+    }
+    Streaming {
+        verdict: Verdict::Accepted,
+        endpoint: s[6],
+        link: s[8],
+        format_count: f,
+        formats,
+        frame_count: n,
+        frames,
     }
 }
 

@@ -196,12 +196,12 @@ enum-told : tie.Need-enum-told Inv-loop μ-loop
 enum-told c = search needs
 
 -- src/lib.rt:192:23
-shared-slice-read-t49 : tie.Need-shared-slice-read-t49 Inv-loop μ-loop
-shared-slice-read-t49 c = search needs
+shared-slice-read-t45 : tie.Need-shared-slice-read-t45 Inv-loop μ-loop
+shared-slice-read-t45 c = search needs
 
 -- src/lib.rt:193:19
-shared-slice-read-t51 : tie.Need-shared-slice-read-t51 Inv-loop μ-loop
-shared-slice-read-t51 c = search needs
+shared-slice-read-t49 : tie.Need-shared-slice-read-t49 Inv-loop μ-loop
+shared-slice-read-t49 c = search needs
 
 -- src/lib.rt:199:28
 enum-known-verdict : tie.Need-enum-known-verdict Inv-loop μ-loop
@@ -213,11 +213,11 @@ refused-requires-2 c κs = search needs
 
 -- src/lib.rt:143:1
 returns-2 : tie.Need-returns-2 Inv-loop μ-loop
-returns-2 c = going-accepts _ _ _ _ _ _ _ _ _ (c .before .before .before .before .before .before .before .before .loop .inv) (c .before .before .before .before .before .before .before .loop-test .left) _ (c .before .before .before .before .late-verdict .ensures) (c .before .before .enum-told .given .1)
+returns-2 c = c .refused2 .ensures ∙ going-refuses _ _ _ _ _ _ _ _ _ (c .before .before .before .before .before .before .before .before .loop .inv) (c .before .before .before .before .before .before .before .loop-test .left) _ (c .before .before .before .before .late-verdict .ensures) _ _ (c .before .before .verdict .given .1)
 
 -- src/lib.rt:143:1
 returns-3 : tie.Need-returns-3 Inv-loop μ-loop
-returns-3 c = c .refused2 .ensures ∙ going-refuses _ _ _ _ _ _ _ _ _ (c .before .before .before .before .before .before .before .before .loop .inv) (c .before .before .before .before .before .before .before .loop-test .left) _ (c .before .before .before .before .late-verdict .ensures) _ _ (c .before .before .verdict .given .1)
+returns-3 c = going-accepts _ _ _ _ _ _ _ _ _ (c .before .before .before .before .before .before .before .before .loop .inv) (c .before .before .before .before .before .before .before .loop-test .left) _ (c .before .before .before .before .late-verdict .ensures) (c .before .before .enum-told .given .1)
 
 pub walk-spec : {M : Type 1} → statement M
 walk-spec =
@@ -260,10 +260,10 @@ walk-spec =
     loop-again-3
     shared-slice-read-late-verdict
     late-verdict-requires
-    enum-told
-    shared-slice-read-t49
-    shared-slice-read-t51
     enum-known-verdict
     refused-requires-2
     returns-2
+    enum-told
+    shared-slice-read-t45
+    shared-slice-read-t49
     returns-3)
