@@ -4,11 +4,14 @@ ghost use Prim.Native.Nat.{_+_, _≤_, _<_};
 ghost use lib.ListN.{length, getD};
 ghost use Rattle.streaming_rules.specs.Descriptors.{noFormat, noFrame};
 ghost use Rattle.streaming.specs.Place.{firstPlace};
-ghost use Rattle.streaming.specs.Block.{isOutput, linkedTo, countBroken, defaultBroken, lateBy, refusedBy, noCounts, walked, streamingOf};
-
-use entities::{Entity, Found, Table};
+ghost use Rattle.streaming.specs.Block.{isOutput, linkedTo, countBroken, defaultBroken, lateBy, refusedBy, noCounts, streamingOf};
+use entities::Entity;
+use entities::Found;
+use entities::Table;
 use rules::Verdict;
-use streaming_rules::{Format, Frame, Sofar};
+use streaming_rules::Format;
+use streaming_rules::Frame;
+use streaming_rules::Sofar;
 
 // The verdict, the header's endpoint and terminal link, and the formats and frames in block order, unused places zero. A refused block gives all zero.
 pub struct Streaming {
@@ -139,11 +142,16 @@ fn no_counts() -> Counts
     [0u8; 9]
 }
 
-// Inner: the walk over the descriptors, then 36 to 38. `linked` says that the header's link is good.
-fn walk(s: &[u8], linked: bool) -> Streaming
-    requires { ⌜ (13 ≤ length (now s)) × (length (now s) ≤ 16384) ⌝ }
-    ensures { λ r. ⌜ r ≡ walked linked (now (s .entry)) ⌝ }
+// Reads a streaming block against the entity table of its control block: 20 to 24, the walk over the descriptors, then 36 to 38.
+// The walk stands here, and not in a function of its own, so that the tables are on the stack once.
+pub fn read(table: Table, block: &[u8]) -> Streaming
+    ensures { λ r. ⌜ r ≡ streamingOf table (now (block .entry)) ⌝ }
 {
+    let whole = streaming_rules::head_rule(table.count, block);
+    if whole != 0 {
+        return refused(whole, 0);
+    }
+    let linked = is_linked(table, block[8]);
     let no_format = streaming_rules::no_format();
     let no_frame = streaming_rules::no_frame();
     let mut formats = [no_format; 8];
@@ -153,7 +161,7 @@ fn walk(s: &[u8], linked: bool) -> Streaming
     let mut n: usize = 0;
     let mut under: u8 = 0;
     let mut at: usize = 0;
-    while at < s.len() {
+    while at < block.len() {
         let numbered = counts[f];
         let a = Sofar {
             linked,
@@ -162,52 +170,40 @@ fn walk(s: &[u8], linked: bool) -> Streaming
             under,
             numbered,
         };
-        let broken = streaming_rules::rule_at(s, at, a);
+        let broken = streaming_rules::rule_at(block, at, a);
         if broken != 0 {
             return refused(broken, at);
         }
-        let next = at + le::wide(s[at]);
-        let kind = streaming_rules::kind_of(s[at + 2]);
+        let next = at + le::wide(block[at]);
+        let kind = streaming_rules::kind_of(block[at + 2]);
         if streaming_rules::is_format(kind) {
-            let e = streaming_rules::format_at(s, at, kind);
+            let e = streaming_rules::format_at(block, at, kind);
             under = e.kind;
             formats[f] = e;
             f = f + 1;
             at = next;
         } else if streaming_rules::is_frame(kind) {
-            let e = streaming_rules::frame_at(s, at, f);
+            let e = streaming_rules::frame_at(block, at, f);
             frames[n] = e;
-            // a frame's number is the number of frames so far
-            counts[f] = s[at + 3];
+            // a frame's number is the number of its format's frames so far
+            counts[f] = block[at + 3];
             n = n + 1;
             at = next;
         } else {
             at = next;
         }
     }
-    let verdict = late_verdict(formats, f, &counts, s[3]);
-    match verdict {
-        Verdict::Accepted => Streaming {
-            verdict: Verdict::Accepted,
-            endpoint: s[6],
-            link: s[8],
-            format_count: f,
-            formats,
-            frame_count: n,
-            frames,
-        },
-        Verdict::Refused { number, offset } => refused(number, offset),
+    let verdict = late_verdict(formats, f, &counts, block[3]);
+    if let Verdict::Refused { number, offset } = verdict {
+        return refused(number, offset);
     }
-}
-
-// Reads a streaming block against the entity table of its control block.
-pub fn read(table: Table, block: &[u8]) -> Streaming
-    ensures { λ r. ⌜ r ≡ streamingOf table (now (block .entry)) ⌝ }
-{
-    let broken = streaming_rules::head_rule(table.count, block);
-    if broken != 0 {
-        return refused(broken, 0);
+    Streaming {
+        verdict: Verdict::Accepted,
+        endpoint: block[6],
+        link: block[8],
+        format_count: f,
+        formats,
+        frame_count: n,
+        frames,
     }
-    let linked = is_linked(table, block[8]);
-    walk(block, linked)
 }
