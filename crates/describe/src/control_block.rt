@@ -1,6 +1,6 @@
 // `describe control FILE`: the clock frequency and the entities of a control block, or its refusal.
-use crate::files;
-use crate::print;
+use console::files;
+use console::print;
 use entities::Entity;
 use entities::Table;
 use rules::Verdict;

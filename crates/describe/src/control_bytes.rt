@@ -1,8 +1,8 @@
 // `describe map FILE ID`: the three control bytes of a camera terminal or a processing unit, or the refusal.
 ghost use mathlib.Core.Path.{_≡_};
 ghost use Rattle.describe.specs.Id.{idOf};
-use crate::files;
-use crate::print;
+use console::files;
+use console::print;
 use control_map::Map;
 
 pub fn describe(which: usize, word: usize) {

@@ -2,8 +2,6 @@
 // Each way to describe is a file of its own, and a line in `main`.
 mod control_block;
 mod control_bytes;
-mod files;
-mod print;
 
 fn main() {
     let words = os::arg_count();
@@ -21,5 +19,5 @@ fn main() {
             return;
         }
     }
-    print::problem(b"usage: describe control FILE | describe map FILE ID\n");
+    console::print::problem(b"usage: describe control FILE | describe map FILE ID\n");
 }

@@ -2,3 +2,4 @@ pub mod Steps
 pub mod Right
 pub mod Bad
 pub mod Full
+pub mod Unique
