@@ -1,15 +1,14 @@
 -- What one turn of each loop, and each test, says of the definitions.
-use Prim.Native.Nat.{ℕ, zero, suc, _+_, _-_, _*_, _%_, _≤_, _<_}
-use mathlib.Core.Path.{_≡_, refl, sym, ap, _∙_}
+use Prim.Native.Nat.{ℕ, zero, suc, _+_, _-_, _*_, _≤_, _<_}
+use mathlib.Core.Path.{_≡_, refl}
 use mathlib.Core.List.{List, [], _∷_}
 use mathlib.Core.Bool.{Bool, true, false}
 use lib.ListN.{length}
-use lib.Dec.{eqb, ltb, leb}
 use borrow.Author.Tests.{le-leb, lt-leb, eq-eqb, ne-eqb}
 use native.Mathlib.Omega.{arith}
 use Rattle.le.specs.Le.{le32At}
 use Rattle.rules.specs.Pick.{pick}
-use Rattle.intervals.specs.Intervals.{span, listAt, rises, among, listed, stepped, offered, shortestAt, longestAt, stepAt}
+use Rattle.intervals.specs.Intervals.{span, listAt, rises, among, listed, stepped, offered}
 
 -- ---- the rest of a list, from `at` on, with `left` intervals to come
 pub record Rest (s : List ℕ) (p k at left : ℕ) (f : List ℕ → Bool) (whole : Bool) : Type 0 where

@@ -4,7 +4,7 @@ ghost use Prim.Native.Nat.{_+_, _*_, _≤_, _<_};
 ghost use lib.ListN.{length};
 ghost use Rattle.intervals.specs.Intervals.{span, listAt, rises, among, stepped, offered};
 
-// Inner: whether the k intervals at p are nonzero and rise strictly.
+// Whether the k intervals at p are nonzero and rise strictly.
 fn rise(s: &[u8], p: usize, k: usize) -> bool
     requires { ⌜ (p + 4 * k ≤ length (now s)) × (k < 256) ⌝ }
     ensures { λ r. ⌜ r ≡ rises 0 (listAt (now (s .entry)) p k) ⌝ }
@@ -24,7 +24,7 @@ fn rise(s: &[u8], p: usize, k: usize) -> bool
     true
 }
 
-// Inner: whether x is one of the k intervals at p.
+// Whether x is one of the k intervals at p.
 fn has(s: &[u8], p: usize, k: usize, x: u32) -> bool
     requires { ⌜ (p + 4 * k ≤ length (now s)) × (k < 256) ⌝ }
     ensures { λ r. ⌜ r ≡ among x (listAt (now (s .entry)) p k) ⌝ }

@@ -1,12 +1,12 @@
 -- A check says yes exactly when every one of 41, the block's own rules and 42 to 46 holds; otherwise it gives the first that does not.
-use Prim.Native.Nat.{ℕ, zero, suc, _+_, _≤_, _<_}
-use mathlib.Core.Path.{_≡_, refl, sym, ap, _∙_}
+use Prim.Native.Nat.{ℕ, _+_, _≤_, _<_}
+use mathlib.Core.Path.{_≡_, refl, sym, _∙_}
 use mathlib.Core.List.{List, [], _∷_}
 use mathlib.Core.Bool.{Bool, true, false, not, _&&_, _||_, true≢false}
 use mathlib.Core.Logic.{_↔_, ⊎-elim}
 use lib.ListN.{length, getD}
 use lib.Dec.{ltb, leb, eqb}
-use borrow.Author.Tests.{eq-eqb, ne-eqb, lt-ltb, le-ltb, lt-leb, le-leb, eqb-true, eqb-false, ltb-true, ltb-false, leb-true, leb-false}
+use borrow.Author.Tests.{eq-eqb, ne-eqb, le-ltb, lt-leb, le-leb, eqb-true, eqb-false, ltb-false, leb-true, leb-false}
 use native.Mathlib.Omega.{arith}
 use Rattle.le.specs.Le.{byte}
 use Rattle.rules.specs.Pick.{pick}
@@ -25,9 +25,8 @@ use Rattle.sizes.proofs.Limits.{frame-sound, payload-sound}
 use Rattle.streaming_rules.specs.Descriptors.{noFrame, kindAt, formatOf, kAt, intervalsAt}
 use Rattle.streaming_rules.specs.Rules.{offersAt}
 use Rattle.streaming_rules.specs.declared.Frame.{Frame}
-use Rattle.streaming.specs.Place.{firstPlace}
+use Rattle.streaming_rules.proofs.Fine.{or-left, or-right}
 use Rattle.streaming.specs.Block.{Seen, acceptedWith, refusedBy, streamingOf}
-use Rattle.streaming.specs.Reading.{Sound, Broken}
 use Rattle.streaming.specs.declared.Streaming.{Streaming}
 use Rattle.streaming.proofs.Places.{Says, first-place}
 use Rattle.streaming.proofs.Exactly.{Ends, taken, given-back, reads, tables, all-zero}
@@ -50,16 +49,12 @@ is-up : (f : Bool) (P : Type 0) → Tells f P → (P → ⊥) → f ≡ true
 is-up true P t n = refl
 is-up false P t n = absurd (n (t .down refl))
 
-or-falls : (a b : Bool) → (a || b) ≡ false → (a ≡ false) × (b ≡ false)
-or-falls true b h = absurd (true≢false h)
-or-falls false b h = (refl, h)
-
 tells-42 : (n c : ℕ) → Tells (formatMissing n c) ((1 ≤ n) × (n ≤ c))
 unfolding formatMissing
 tells-42 n c = record { up = λ h r. true≢false (sym h ∙ (rw (ne-eqb n 0 (λ e. omega (arith, r .0)), le-ltb c n (r .1)))); down = down }
   where
     down : (eqb n 0 || ltb c n) ≡ false → (1 ≤ n) × (n ≤ c)
-    down h = let p = or-falls (eqb n 0) (ltb c n) h in let z = eqb-false n 0 (p .0) in (omega (arith, z), ltb-false c n (p .1))
+    down h = let z = eqb-false n 0 (or-left (eqb n 0) (ltb c n) h) in (omega (arith, z), ltb-false c n (or-right (eqb n 0) (ltb c n) h))
 
 tells-45 : (n : ℕ) → Tells (frameSizeBroken n) ((1 ≤ n) × (n ≤ frameMost))
 unfolding frameSizeBroken

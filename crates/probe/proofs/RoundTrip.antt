@@ -4,21 +4,18 @@ use Prim.Native.Nat.{ℕ, zero, suc, _+_, _*_, _/_, _%_, _^_, _≤_, _<_}
 use mathlib.Core.Path.{_≡_, refl, sym, ap, _∙_}
 use mathlib.Core.List.{List, [], _∷_, _++_, append-nil}
 use mathlib.Core.Bool.{Bool, true, false}
-use lib.ListN.{length, getD, take, drop, length-append, length-drop}
-use lib.Seq.{drop-cons, take-at, drop-at, take-all}
-use lib.Dec.{ltb, eqb}
-use borrow.Author.Tests.{eq-eqb, lt-ltb, le-ltb, ltb-true, ltb-false}
+use lib.ListN.{length, getD, take, drop, length-drop}
+use lib.Seq.{drop-cons, take-at, drop-at}
+use lib.Dec.{ltb}
+use borrow.Author.Tests.{lt-ltb, le-ltb, ltb-true, ltb-false}
 use native.Mathlib.Omega.{arith}
 use native.Mathlib.Nat.{mod-eq-of-lt, div-eq-of-lt, div-add-mod', add-mul-div-right, add-mul-mod-self-right, div-div-eq-div-mul}
 use native.Mathlib.Numerals.{add-one}
-use Rattle.le.specs.Le.{le16At, le32At}
 use Rattle.rules.specs.Pick.{pick}
-use Rattle.rules.specs.declared.Verdict.{Verdict}
 use Rattle.rules.specs.declared.Verdict.the-variants.{Accepted, Refused}
 use Rattle.probe.specs.Fields.{probeLength, bytesAt, fieldsOf, bytesOf, probeOf, roomVerdict, written}
 use Rattle.probe.specs.declared.Probe.{Probe}
-use Rattle.probe.specs.declared.Fields.{Fields}
-use Rattle.probe.proofs.Tests.{bytes-length, read-whole, write-whole, write-short}
+use Rattle.probe.proofs.Tests.{bytes-length, read-whole}
 
 -- the fields of more than one byte are numbers of their width, and the layout has eight bytes: what the type of a probe says
 pub record Held (p : Probe) : Type 0 where

@@ -1,7 +1,7 @@
 -- Checking a probe block against a streaming block and its entity table: 41, the streaming block's own refusal, then 42 to 46.
 use Prim.Native.Nat.{ℕ, zero, suc}
 use mathlib.Core.List.{List, [], _∷_}
-use mathlib.Core.Bool.{Bool, true, false, not, _&&_, _||_}
+use mathlib.Core.Bool.{Bool, not, _&&_, _||_}
 use lib.ListN.{length, getD}
 use lib.Dec.{ltb, leb, eqb}
 use Rattle.le.specs.Le.{byte}

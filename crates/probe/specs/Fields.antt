@@ -1,7 +1,6 @@
 -- The 48 bytes of a probe block, field by field, and what reading and writing them does.
 use Prim.Native.Nat.{ℕ, zero, suc, _+_, _/_, _%_}
 use mathlib.Core.List.{List, [], _∷_, _++_}
-use mathlib.Core.Bool.{Bool, not}
 use lib.ListN.{length, getD, drop, replicate}
 use lib.Dec.{ltb, eqb}
 use Rattle.le.specs.Le.{le16At, le32At}

@@ -45,7 +45,7 @@ pub struct Fields {
     pub probe: Probe,
 }
 
-// Inner: the fields of 48 bytes.
+// The fields of 48 bytes.
 fn fields_of(s: &[u8]) -> Probe
     requires { ⌜ length (now s) ≡ 48 ⌝ }
     ensures { λ r. ⌜ r ≡ fieldsOf (now (s .entry)) ⌝ }
@@ -177,7 +177,7 @@ fn byte_3(x: u32) -> u8
 }
 
 // The 48 bytes of the fields.
-fn bytes_of(p: Probe) -> [u8; 48]
+fn bytes_of(p: Probe) -> [u8; LENGTH]
     ensures { λ r. ⌜ r ≡ bytesOf p ⌝ }
 {
     [
@@ -257,7 +257,7 @@ fn format_missing(number: u8, count: usize) -> bool
     count < le::wide(number)
 }
 
-// Inner: the frame has this number, of this format. Its descriptor lies within the block.
+// The frame has this number, of this format. Its descriptor lies within the block.
 fn has_number(block: &[u8], format: u8, number: u8, f: Frame) -> bool
     requires { ⌜ f .offset + 3 < length (now block) ⌝ }
     ensures { λ r. ⌜ r ≡ hasNumber (now (block .entry)) format number f ⌝ }
@@ -269,7 +269,7 @@ fn has_number(block: &[u8], format: u8, number: u8, f: Frame) -> bool
     block[at + 3] == number
 }
 
-// Inner: 44 to 46, with the frame whose descriptor stands at `at`.
+// 44 to 46, with the frame whose descriptor stands at `at`.
 fn check_frame(block: &[u8], at: usize, probe: &[u8]) -> Verdict
     requires { ⌜ (at + frameLength (byte (now block) at 25) ≤ length (now block)) × (length (now probe) ≡ 48) ⌝ }
     ensures { λ r. ⌜ r ≡ given (firstFrom 44 (frameFlags (now (block .entry)) at (fieldsOf (now (probe .entry))))) ⌝ }

@@ -4,19 +4,17 @@ use mathlib.Core.Path.{_≡_, refl, sym, ap, _∙_}
 use mathlib.Core.List.{List}
 use mathlib.Core.Bool.{Bool, true, false, not, _||_, true≢false}
 use mathlib.Core.Logic.{_↔_}
-use lib.ListN.{length, getD}
+use lib.ListN.{length}
 use lib.Dec.{eqb, ltb}
-use borrow.Author.Tests.{eq-eqb, ne-eqb, lt-ltb, le-ltb, eqb-true, eqb-false, ltb-true, ltb-false}
+use borrow.Author.Tests.{eq-eqb, ne-eqb, le-ltb, eqb-true, eqb-false, ltb-true, ltb-false}
 use native.Mathlib.Omega.{arith}
-use native.Mathlib.Decide.{decLt}
 use Rattle.rules.specs.Pick.{pick}
 use Rattle.rules.specs.First.{First}
-use Rattle.rules.specs.Numbered.{firstFrom, Up}
 use Rattle.rules.specs.Walk.{Outcome, done, stop, walk}
 use Rattle.rules.specs.declared.Verdict.{Verdict}
 use Rattle.rules.specs.declared.Verdict.the-variants.{Accepted, Refused}
 use Rattle.rules.proofs.Numbered.{none-up, none-first, first-up, first-low, up-first, up-above}
-use Rattle.rules.proofs.Firsts.{first-map, first-unique, none-here}
+use Rattle.rules.proofs.Firsts.{first-map, first-unique}
 use Rattle.rules.proofs.Walks.{walk-done, walk-stop}
 use Rattle.entities.specs.declared.Table.{Table}
 use Rattle.streaming_rules.specs.Rules.{headFlags, headRule}

@@ -1,22 +1,22 @@
 -- The walk's loop: its invariant, and how it starts, goes on and ends.
-use Prim.Native.Nat.{ℕ, zero, suc, _+_, _-_, _≤_, _<_}
+use Prim.Native.Nat.{ℕ, suc, _+_, _-_, _≤_, _<_}
 use mathlib.Core.Path.{_≡_, refl, sym, ap, _∙_}
 use mathlib.Core.List.{List, [], _∷_, _++_, append-nil}
 use mathlib.Core.Bool.{Bool, true, false}
 use lib.ListN.{length, getD, set, replicate, length-append, length-set, getD-replicate}
 use lib.Seq.{getD-set-same, getD-set-other, getD-append-add}
 use lib.Dec.{eqb}
-use borrow.Author.Tests.{eq-eqb, ne-eqb, eqb-true, eqb-false}
+use borrow.Author.Tests.{eqb-true, eqb-false}
 use native.Mathlib.Omega.{arith}
 use Rattle.le.specs.Le.{byte}
 use Rattle.rules.specs.Pick.{pick}
 use Rattle.rules.specs.Pad.{pad}
-use Rattle.rules.specs.Walk.{walk, done, stop, brokenAt}
+use Rattle.rules.specs.Walk.{walk, brokenAt}
 use Rattle.rules.specs.declared.Verdict.{Verdict}
 use Rattle.rules.specs.declared.Verdict.the-variants.{Accepted, Refused}
-use Rattle.rules.proofs.Padded.{pad-set, pad-length, pad-at}
+use Rattle.rules.proofs.Padded.{pad-set, pad-at}
 use Rattle.rules.proofs.Walks.{Walking, Steady, starts, stops, ends, goes}
-use Rattle.streaming_rules.specs.Descriptors.{lenAt, kindAt, shape, isFormat, isFrame, formatOf, noFormat, noFrame, formatAt, frameAt, frameLength, kAt}
+use Rattle.streaming_rules.specs.Descriptors.{lenAt, kindAt, isFormat, isFrame, formatOf, noFormat, noFrame, formatAt, frameAt}
 use Rattle.streaming_rules.specs.Rules.{ruleAt}
 use Rattle.streaming_rules.specs.declared.Kind.{Kind}
 use Rattle.streaming_rules.specs.declared.Sofar.{Sofar}
@@ -53,7 +53,7 @@ module _ (s : List ℕ) (a : Seen) (o : ℕ) where
 
   after-other : isFormat (kindAt s o) ≡ false → isFrame (kindAt s o) ≡ false → after s a o ≡ a
   unfolding after pick
-  after-other p q = rw (p, q, append-nil, append-nil)
+  after-other p q = rw (p, q, append-nil (a .formats), append-nil (a .frames))
 
 count-more : (n : ℕ) (l : List Frame) (e : Frame) → countUnder n (l ++ (e ∷ [])) ≡ pick (eqb (e .format) n) (suc (countUnder n l)) (countUnder n l)
 unfolding countUnder pick

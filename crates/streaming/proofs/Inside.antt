@@ -1,29 +1,25 @@
 -- The frames of an accepted block: there are at most 64, and each lies within the block with its intervals.
-use Prim.Native.Nat.{ℕ, zero, suc, _+_, _-_, _≤_, _<_}
+use Prim.Native.Nat.{ℕ, _+_, _-_, _≤_, _<_}
 use mathlib.Core.Path.{_≡_, refl, sym, ap, _∙_}
 use mathlib.Core.List.{List, [], _∷_, _++_, append-nil}
 use mathlib.Core.Bool.{Bool, true, false}
-use mathlib.Core.Logic.{⊎-elim}
 use lib.ListN.{length, getD, length-append, List·getD-append}
 use lib.Seq.{getD-append-add}
 use native.Mathlib.Omega.{arith}
 use native.Mathlib.Decide.{decLt}
 use Rattle.le.specs.Le.{byte}
 use Rattle.rules.specs.Pick.{pick}
-use Rattle.rules.specs.Pad.{pad}
-use Rattle.rules.specs.Walk.{Reached, first, next, Clean, brokenAt}
-use Rattle.rules.specs.declared.Verdict.{Verdict}
-use Rattle.rules.specs.declared.Verdict.the-variants.{Accepted, Refused}
+use Rattle.rules.specs.Walk.{Reached, first, next, Clean}
+use Rattle.rules.specs.declared.Verdict.the-variants.{Accepted}
 use Rattle.rules.proofs.Numbered.{none-first}
 use Rattle.rules.proofs.Padded.{pad-at}
 use Rattle.entities.specs.declared.Table.{Table}
-use Rattle.streaming_rules.specs.Descriptors.{lenAt, kindAt, isFrame, noFrame, frameAt, frameLength}
+use Rattle.streaming_rules.specs.Descriptors.{kindAt, isFrame, noFrame, frameAt, frameLength}
 use Rattle.streaming_rules.specs.Rules.{flags, ruleAt}
 use Rattle.streaming_rules.specs.declared.Frame.{Frame}
 use Rattle.streaming_rules.proofs.Fine.{Fine, fine, frame-inside}
 use Rattle.streaming.specs.Block.{Seen, sofar, after, course, acceptedWith, streamingOf}
 use Rattle.streaming.specs.declared.Streaming.{Streaming}
-use Rattle.streaming.specs.Reading.{Sound}
 use Rattle.streaming.proofs.Exactly.{accepted, tables}
 
 -- a frame's descriptor, with its intervals, lies within the block

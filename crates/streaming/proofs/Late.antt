@@ -1,18 +1,15 @@
 -- 36 to 38: what the tests of `late_verdict` say.
-use Prim.Native.Nat.{ℕ, zero, suc, _+_, _≤_, _<_}
-use mathlib.Core.Path.{_≡_, refl, sym, ap, _∙_}
-use mathlib.Core.List.{List}
-use mathlib.Core.Bool.{Bool, true, false, not, _||_}
+use Prim.Native.Nat.{ℕ, _≤_, _<_}
+use mathlib.Core.Path.{_≡_}
+use mathlib.Core.Bool.{true, false, not}
 use lib.Dec.{eqb, ltb}
 use borrow.Author.Tests.{lt-ltb, le-ltb, eq-eqb, ne-eqb}
-use native.Mathlib.Omega.{arith}
 use Rattle.rules.specs.Pick.{pick}
-use Rattle.rules.specs.declared.Verdict.{Verdict}
 use Rattle.rules.specs.declared.Verdict.the-variants.{Accepted, Refused}
 use Rattle.streaming_rules.specs.declared.Format.{Format}
 use Rattle.streaming.specs.Place.{firstPlace}
 use Rattle.streaming.specs.Block.{countBroken, defaultBroken, lateBy}
-use Rattle.streaming.proofs.Places.{same-place, first-place}
+use Rattle.streaming.proofs.Places.{same-place}
 
 pub count-differs : (m n : ℕ) → (m ≡ n → ⊥) → not (eqb m n) ≡ true
 count-differs m n h = rw (ne-eqb m n h)

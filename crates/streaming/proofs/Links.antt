@@ -1,19 +1,18 @@
 -- 30: what the search in the table says of the link.
-use Prim.Native.Nat.{ℕ, zero, suc, _+_, _≤_, _<_}
-use mathlib.Core.Path.{_≡_, refl, sym, ap, _∙_}
+use Prim.Native.Nat.{ℕ, suc, _+_, _<_}
+use mathlib.Core.Path.{_≡_, refl, sym, _∙_}
 use mathlib.Core.List.{List, [], _∷_}
 use mathlib.Core.Bool.{Bool, true, false}
-use lib.ListN.{length, take, getD, length-take}
+use lib.ListN.{length, length-take}
 use lib.Dec.{eqb}
 use borrow.Author.Tests.{eq-eqb, ne-eqb}
 use native.Mathlib.Omega.{arith}
 use Rattle.rules.specs.Pick.{pick}
-use Rattle.entities.specs.Table.{noEntity, entityAt, used, findFrom, foundIn}
+use Rattle.entities.specs.Table.{entityAt, used, findFrom, foundIn}
 use Rattle.entities.specs.declared.Entity.{Entity}
 use Rattle.entities.specs.declared.Table.{Table}
 use Rattle.entities.specs.declared.Found.{Found}
 use Rattle.entities.specs.declared.Found.the-variants.{At, Nothing}
-use Rattle.entities.proofs.Finding.{length-of}
 use Rattle.streaming.specs.Block.{isOutput, linkedAt, linkedTo}
 
 pub output-no : (e : Entity) → (e .kind ≡ 3 → ⊥) → false ≡ isOutput e

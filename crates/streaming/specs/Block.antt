@@ -1,7 +1,7 @@
 -- What reading a streaming block answers: 20 to 24, the walk over its descriptors with 25 to 35, then 36 to 38. `t` is the entity table, `s` the block.
 use Prim.Native.Nat.{ℕ, zero, suc, _+_, _-_}
 use mathlib.Core.List.{List, [], _∷_, _++_}
-use mathlib.Core.Bool.{Bool, true, false, not, _&&_, _||_}
+use mathlib.Core.Bool.{Bool, false, not, _&&_, _||_}
 use lib.ListN.{length, getD, replicate}
 use lib.Dec.{ltb, eqb}
 use Rattle.le.specs.Le.{byte}
@@ -10,7 +10,7 @@ use Rattle.rules.specs.Pad.{pad}
 use Rattle.rules.specs.Walk.{Course, Outcome, done, stop, walk}
 use Rattle.rules.specs.declared.Verdict.{Verdict}
 use Rattle.rules.specs.declared.Verdict.the-variants.{Accepted, Refused}
-use Rattle.entities.specs.Table.{noEntity, entityAt, foundIn}
+use Rattle.entities.specs.Table.{entityAt, foundIn}
 use Rattle.entities.specs.declared.Entity.{Entity}
 use Rattle.entities.specs.declared.Table.{Table}
 use Rattle.entities.specs.declared.Found.{Found}

@@ -6,8 +6,6 @@ use lib.ListN.{length, getD}
 use Rattle.rules.specs.Numbered.{Up}
 use Rattle.rules.specs.First.{First}
 use Rattle.rules.specs.Walk.{Course, Reached, Clean, FirstBreak}
-use Rattle.rules.specs.declared.Verdict.{Verdict}
-use Rattle.rules.specs.declared.Verdict.the-variants.{Accepted, Refused}
 use Rattle.entities.specs.declared.Table.{Table}
 use Rattle.streaming_rules.specs.Descriptors.{noFormat}
 use Rattle.streaming_rules.specs.Rules.{headFlags}

@@ -9,6 +9,8 @@ use entities::Entity;
 use entities::Found;
 use entities::Table;
 use rules::Verdict;
+use streaming_rules::FORMATS_MOST;
+use streaming_rules::FRAMES_MOST;
 use streaming_rules::Format;
 use streaming_rules::Frame;
 use streaming_rules::Sofar;
@@ -19,13 +21,13 @@ pub struct Streaming {
     pub endpoint: u8,
     pub link: u8,
     pub format_count: usize,
-    pub formats: [Format; 8],
+    pub formats: [Format; FORMATS_MOST],
     pub frame_count: usize,
-    pub frames: [Frame; 64],
+    pub frames: [Frame; FRAMES_MOST],
 }
 
 // How many frames stand under each format, by its number; place 0 is that of no format.
-type Counts = [u8; 9];
+type Counts = [u8; FORMATS_MOST + 1];
 
 fn is_output(e: Entity) -> bool
     ensures { λ r. ⌜ r ≡ isOutput e ⌝ }
@@ -46,8 +48,8 @@ fn is_linked(table: Table, link: u8) -> bool
     }
 }
 
-// Inner: the first of the n formats that breaks 36; n where none does.
-fn first_count(formats: [Format; 8], n: usize, counts: &Counts) -> usize
+// The first of the n formats that breaks 36; n where none does.
+fn first_count(formats: [Format; FORMATS_MOST], n: usize, counts: &Counts) -> usize
     requires { ⌜ n ≤ 8 ⌝ }
     ensures { λ r. ⌜ r ≡ firstPlace (λ i. countBroken (getD formats i noFormat) (getD (now (counts .entry)) (i + 1) 0)) n ⌝ }
 {
@@ -72,8 +74,8 @@ fn default_broken(f: Format) -> bool
     f.frames < f.default
 }
 
-// Inner: the first of the n formats that breaks 37; n where none does.
-fn first_default(formats: [Format; 8], n: usize) -> usize
+// The first of the n formats that breaks 37; n where none does.
+fn first_default(formats: [Format; FORMATS_MOST], n: usize) -> usize
     requires { ⌜ n ≤ 8 ⌝ }
     ensures { λ r. ⌜ r ≡ firstPlace (λ i. defaultBroken (getD formats i noFormat)) n ⌝ }
 {
@@ -87,8 +89,8 @@ fn first_default(formats: [Format; 8], n: usize) -> usize
     n
 }
 
-// Inner: 36 to 38, after the walk: number by number, each at the first format that breaks it.
-fn late_verdict(formats: [Format; 8], n: usize, counts: &Counts, p: u8) -> Verdict
+// 36 to 38, after the walk: number by number, each at the first format that breaks it.
+fn late_verdict(formats: [Format; FORMATS_MOST], n: usize, counts: &Counts, p: u8) -> Verdict
     requires { ⌜ n ≤ 8 ⌝ }
     ensures { λ r. ⌜ r ≡ lateBy (λ i. getD formats i noFormat) (λ i. getD (now (counts .entry)) (i + 1) 0) n p ⌝ }
 {
@@ -123,8 +125,8 @@ fn refused(number: u8, offset: usize) -> Streaming
 {
     let no_format = streaming_rules::no_format();
     let no_frame = streaming_rules::no_frame();
-    let formats = [no_format; 8];
-    let frames = [no_frame; 64];
+    let formats = [no_format; FORMATS_MOST];
+    let frames = [no_frame; FRAMES_MOST];
     Streaming {
         verdict: Verdict::Refused { number, offset },
         endpoint: 0,
@@ -139,7 +141,7 @@ fn refused(number: u8, offset: usize) -> Streaming
 fn no_counts() -> Counts
     ensures { λ r. ⌜ r ≡ noCounts ⌝ }
 {
-    [0u8; 9]
+    [0u8; FORMATS_MOST + 1]
 }
 
 // Reads a streaming block against the entity table of its control block: 20 to 24, the walk over the descriptors, then 36 to 38.
@@ -154,8 +156,8 @@ pub fn read(table: Table, block: &[u8]) -> Streaming
     let linked = is_linked(table, block[8]);
     let no_format = streaming_rules::no_format();
     let no_frame = streaming_rules::no_frame();
-    let mut formats = [no_format; 8];
-    let mut frames = [no_frame; 64];
+    let mut formats = [no_format; FORMATS_MOST];
+    let mut frames = [no_frame; FRAMES_MOST];
     let mut counts = no_counts();
     let mut f: usize = 0;
     let mut n: usize = 0;

@@ -1,19 +1,19 @@
 -- What the tests of the rule functions say of the rules, in the order of the code.
-use Prim.Native.Nat.{ℕ, zero, suc, _+_, _-_, _*_, _/_, _%_, _^_, _≤_, _<_}
-use mathlib.Core.Path.{_≡_, refl, sym, ap, _∙_}
+use Prim.Native.Nat.{ℕ, _+_, _-_, _/_, _%_, _^_, _≤_, _<_}
+use mathlib.Core.Path.{_≡_, sym, _∙_}
 use mathlib.Core.List.{List}
-use mathlib.Core.Bool.{Bool, true, false, not, _&&_, _||_, or-true, true≢false}
+use mathlib.Core.Bool.{Bool, true, false, not, or-true}
 use lib.ListN.{length, getD}
-use lib.Dec.{ltb, leb, eqb}
-use borrow.Author.Tests.{lt-ltb, le-ltb, lt-leb, le-leb, eq-eqb, ne-eqb, not-true, not-false}
+use lib.Dec.{eqb}
+use borrow.Author.Tests.{lt-ltb, le-ltb, lt-leb, le-leb, eq-eqb, ne-eqb, not-false}
 use native.Mathlib.Omega.{arith}
 use Rattle.le.specs.Le.{byte, le16At, le32At}
 use Rattle.rules.specs.Numbered.{firstFrom}
 use Rattle.intervals.specs.Intervals.{offered, span}
-use Rattle.streaming_rules.specs.Descriptors.{kindOf, kindAt, lenAt, shape, frameLength, kAt, defaultAt, intervalsAt, isHeader, isFormat, isFrame}
+use Rattle.streaming_rules.specs.Descriptors.{kindAt, lenAt, shape, frameLength, kAt, defaultAt, intervalsAt, isHeader, isFormat, isFrame}
 use Rattle.streaming_rules.specs.Rules.{headFlags, headRule, lengthBroken, headerBroken, typeBroken, isUnread, misplaced, offersAt, defaultOffered, kindFlags, flags, ruleAt, blockMost, entitiesMost, formatsMost, framesMost}
 use Rattle.streaming_rules.specs.declared.Kind.{Kind}
-use Rattle.streaming_rules.specs.declared.Kind.the-variants.{Header, OutputHeader, Uncompressed, Mjpeg, Frames, Unread, Other}
+use Rattle.streaming_rules.specs.declared.Kind.the-variants.{Header, Uncompressed, Frames}
 use Rattle.streaming_rules.specs.declared.Sofar.{Sofar}
 use Rattle.streaming_rules.proofs.Subtypes.{length-span}
 

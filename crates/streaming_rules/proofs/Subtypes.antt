@@ -1,19 +1,18 @@
 -- What a subtype number says, by ranges; and how long a descriptor is that has its kind's length.
 use Prim.Native.Nat.{ℕ, zero, suc, _+_, _*_, _≤_, _<_}
-use mathlib.Core.Path.{_≡_, refl, sym, ap, _∙_}
+use mathlib.Core.Path.{_≡_, refl, sym, _∙_}
 use mathlib.Core.List.{List}
-use mathlib.Core.Bool.{Bool, true, false, _&&_, _||_, true≢false}
-use lib.ListN.{length, getD}
-use lib.Dec.{eqb, leb}
-use borrow.Author.Tests.{le-leb, lt-leb, eq-eqb, ne-eqb, eqb-true}
+use mathlib.Core.Bool.{true, false}
+use lib.ListN.{length}
+use lib.Dec.{eqb}
+use borrow.Author.Tests.{le-leb, lt-leb, ne-eqb, eqb-true}
 use native.Mathlib.Omega.{arith}
 use native.Mathlib.Nat.{mul-le-mul}
 use Rattle.le.specs.Le.{byte}
 use Rattle.rules.specs.Pick.{pick}
 use Rattle.intervals.specs.Intervals.{span}
-use Rattle.streaming_rules.specs.Descriptors.{kindOf, unread, lenAt, shape, frameLength, isFormat, isFrame, kAt}
-use Rattle.streaming_rules.specs.declared.Kind.{Kind}
-use Rattle.streaming_rules.specs.declared.Kind.the-variants.{Header, OutputHeader, Uncompressed, Mjpeg, Frames, Unread, Other}
+use Rattle.streaming_rules.specs.Descriptors.{kindOf, unread, lenAt, shape, frameLength, kAt}
+use Rattle.streaming_rules.specs.declared.Kind.the-variants.{Header, Uncompressed, Mjpeg, Frames, Unread, Other}
 
 -- a number that is none of those that are read
 module _ (n : ℕ) (a : n ≡ 1 → ⊥) (b : n ≡ 2 → ⊥) (c : n ≡ 4 → ⊥) (d : n ≡ 5 → ⊥) (e : n ≡ 6 → ⊥) (f : n ≡ 7 → ⊥) where

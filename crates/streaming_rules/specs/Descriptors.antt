@@ -1,9 +1,9 @@
 -- The descriptors of a streaming block: what a subtype number says, which length each has, and what a format and a frame give. `s` is the block, `o` an offset.
 use Prim.Native.Nat.{ℕ, zero, suc, _+_, _*_}
 use mathlib.Core.List.{List, [], _∷_}
-use mathlib.Core.Bool.{Bool, true, false, not, _&&_, _||_}
+use mathlib.Core.Bool.{Bool, true, false, _&&_, _||_}
 use lib.ListN.{getD, take, drop}
-use lib.Dec.{ltb, leb, eqb}
+use lib.Dec.{leb, eqb}
 use Rattle.le.specs.Le.{byte, le16At, le32At}
 use Rattle.rules.specs.Pick.{pick}
 use Rattle.streaming_rules.specs.declared.Kind.{Kind}

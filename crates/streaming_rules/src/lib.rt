@@ -79,7 +79,7 @@ pub fn kind_of(sub: u8) -> Kind
     }
 }
 
-// Inner: 1 YUY2, 2 NV12, 3 other: the GUID is compared whole.
+// 1 YUY2, 2 NV12, 3 other: the GUID is compared whole.
 fn guid_sort(s: &[u8], at: usize) -> u8
     requires { ⌜ at + 21 ≤ length (now s) ⌝ }
     ensures { λ r. ⌜ r ≡ sortOf (guidAt (now (s .entry)) at) ⌝ }
@@ -95,7 +95,7 @@ fn guid_sort(s: &[u8], at: usize) -> u8
     3
 }
 
-// Inner: the header's length is 13 and p times n.
+// The header's length is 13 and p times n.
 fn header_shape(s: &[u8], at: usize, len: usize) -> bool
     requires { ⌜ (len ≡ lenAt (now s) at) × (at + len ≤ length (now s)) ⌝ }
     ensures { λ r. ⌜ r ≡ shape Kind.Header (now (s .entry)) at ⌝ }
@@ -106,7 +106,7 @@ fn header_shape(s: &[u8], at: usize, len: usize) -> bool
     len == 13 + le::wide(s[at + 3]) * le::wide(s[at + 12])
 }
 
-// Inner: the length of a frame: 38, or 26 and four for each interval.
+// The length of a frame: 38, or 26 and four for each interval.
 fn frame_shape(s: &[u8], at: usize, len: usize, format: u8) -> bool
     requires { ⌜ (len ≡ lenAt (now s) at) × (at + len ≤ length (now s)) ⌝ }
     ensures { λ r. ⌜ r ≡ shape (Kind.Frames format) (now (s .entry)) at ⌝ }
@@ -121,7 +121,7 @@ fn frame_shape(s: &[u8], at: usize, len: usize, format: u8) -> bool
     len == 26 + 4 * k
 }
 
-// Inner: 28: the length, by the kind.
+// 28: the length, by the kind.
 fn shape_ok(s: &[u8], at: usize, len: usize, kind: Kind) -> bool
     requires { ⌜ (len ≡ lenAt (now s) at) × (at + len ≤ length (now s)) ⌝ }
     ensures { λ r. ⌜ r ≡ shape kind (now (s .entry)) at ⌝ }
@@ -195,7 +195,7 @@ pub fn is_frame(kind: Kind) -> bool
     }
 }
 
-// Inner: 29 and 30, of the header.
+// 29 and 30, of the header.
 fn header_rule(s: &[u8], at: usize, a: Sofar) -> u8
     requires { ⌜ at + 13 ≤ length (now s) ⌝ }
     ensures { λ r. ⌜ r ≡ firstFrom 29 (kindFlags Kind.Header (now (s .entry)) at a) ⌝ }
@@ -210,7 +210,7 @@ fn header_rule(s: &[u8], at: usize, a: Sofar) -> u8
     30
 }
 
-// Inner: 31 and 35, of a format.
+// 31 and 35, of a format.
 fn format_rule(s: &[u8], at: usize, a: Sofar) -> u8
     requires { ⌜ (at + 11 ≤ length (now s)) × (a .formats ≤ 8) ⌝ }
     ensures { λ r. ⌜ r ≡ firstFrom 29 (kindFlags Kind.Uncompressed (now (s .entry)) at a) ⌝ }
@@ -243,7 +243,7 @@ pub fn offers_at(s: &[u8], at: usize, x: u32) -> bool
     intervals::offers(s, at + 26, k, x)
 }
 
-// Inner: 34: the default interval is one that the frame offers.
+// 34: the default interval is one that the frame offers.
 fn default_offered(s: &[u8], at: usize) -> bool
     requires { ⌜ at + frameLength (byte (now s) at 25) ≤ length (now s) ⌝ }
     ensures { λ r. ⌜ r ≡ defaultOffered (now (s .entry)) at ⌝ }
@@ -251,7 +251,7 @@ fn default_offered(s: &[u8], at: usize) -> bool
     offers_at(s, at, le::le32(s, at + 21))
 }
 
-// Inner: 32 to 35, of a frame.
+// 32 to 35, of a frame.
 fn frame_rule(s: &[u8], at: usize, format: u8, a: Sofar) -> u8
     requires { ⌜ at + frameLength (byte (now s) at (kAt format)) ≤ length (now s) ⌝ }
     ensures { λ r. ⌜ r ≡ firstFrom 29 (kindFlags (Kind.Frames format) (now (s .entry)) at a) ⌝ }
@@ -272,7 +272,7 @@ fn frame_rule(s: &[u8], at: usize, format: u8, a: Sofar) -> u8
     0
 }
 
-// Inner: 29 to 35, by the kind; 0 where none is broken.
+// 29 to 35, by the kind; 0 where none is broken.
 fn kind_rule(s: &[u8], at: usize, kind: Kind, a: Sofar) -> u8
     requires { ⌜ (shape kind (now s) at ≡ true) × (at + lenAt (now s) at ≤ length (now s)) ⌝ }
     requires { ⌜ a .formats ≤ 8 ⌝ }
@@ -389,7 +389,7 @@ pub fn no_frame() -> Frame
     }
 }
 
-// Inner: the uncompressed format at `at`.
+// The uncompressed format at `at`.
 fn uncompressed_at(s: &[u8], at: usize) -> Format
     requires { ⌜ (at + 27 ≤ length (now s)) × (length (now s) ≤ 16384) ⌝ }
     ensures { λ r. ⌜ r ≡ formatAt Kind.Uncompressed (now (s .entry)) at ⌝ }
@@ -405,7 +405,7 @@ fn uncompressed_at(s: &[u8], at: usize) -> Format
     }
 }
 
-// Inner: the MJPEG format at `at`.
+// The MJPEG format at `at`.
 fn mjpeg_at(s: &[u8], at: usize) -> Format
     requires { ⌜ (at + 11 ≤ length (now s)) × (length (now s) ≤ 16384) ⌝ }
     ensures { λ r. ⌜ r ≡ formatAt Kind.Mjpeg (now (s .entry)) at ⌝ }

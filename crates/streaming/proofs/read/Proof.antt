@@ -3,7 +3,7 @@ use Rattle.streaming.proofs.Heads.{head-bad, head-good, head-sizes}
 use Rattle.streaming_rules.proofs.Fine.{Fine}
 use Rattle.streaming_rules.specs.Rules.{ruleAt}
 use Rattle.streaming_rules.specs.Descriptors.{isFormat, isFrame, kindAt}
-use Prim.Native.Nat.{_-_, _<_, _≤_}
+use Prim.Native.Nat.{_-_, _≤_}
 use lib.ListN.{length}
 use native.Mathlib.Omega.{arith}
 use mathlib.Core.Path.{_≡_, sym, _∙_}
@@ -11,22 +11,6 @@ use mathlib.Core.Bool.{true, false}
 use borrow.Author.Needs.{needs}
 use Rattle.streaming.proofs.read.Statement.{statement}
 use Rattle.streaming.proofs.read.Tie as tie
-use Rattle.streaming.proofs.read.Reads as reads
-use Rattle.streaming.proofs.read.Lts as lts
-use Rattle.le.proofs.wide.Reads as wide-reads
-use Rattle.streaming.proofs.is_linked.Reads as is-linked-reads
-use Rattle.streaming.proofs.late_verdict.Reads as late-verdict-reads
-use Rattle.streaming.proofs.no_counts.Reads as no-counts-reads
-use Rattle.streaming.proofs.refused.Reads as refused-reads
-use Rattle.streaming_rules.proofs.format_at.Reads as format-at-reads
-use Rattle.streaming_rules.proofs.frame_at.Reads as frame-at-reads
-use Rattle.streaming_rules.proofs.head_rule.Reads as head-rule-reads
-use Rattle.streaming_rules.proofs.is_format.Reads as is-format-reads
-use Rattle.streaming_rules.proofs.is_frame.Reads as is-frame-reads
-use Rattle.streaming_rules.proofs.kind_of.Reads as kind-of-reads
-use Rattle.streaming_rules.proofs.no_format.Reads as no-format-reads
-use Rattle.streaming_rules.proofs.no_frame.Reads as no-frame-reads
-use Rattle.streaming_rules.proofs.rule_at.Reads as rule-at-reads
 
 abbrev Inv-loop : tie.InvT-loop
 Inv-loop block whole linked formats₀ frames₀ counts₀ f₀ n₀ under₀ at₀ formats frames counts f n under at = Going linked block formats frames counts f n under at
@@ -60,190 +44,144 @@ a-frame c = so-frame _ _ _ _ (c .before .before .before .before .kind-of .ensure
 no-frame : (c : tie.Else4 Inv-loop μ-loop) → isFrame (kindAt (c .before .before .before .before .before .before .before .before .before .before .before .before .before .before .before .before .before .before .before .before .args .block .now) (c .before .before .before .before .before .before .before .before .before .before .before .loop .at)) ≡ false
 no-frame c = so-frame _ _ _ _ (c .before .before .before .before .kind-of .ensures) (c .before .is-frame .ensures) (c .if4 .left)
 
--- src/lib.rt:147:9
 head-rule-requires : tie.Need-head-rule-requires Inv-loop μ-loop
 head-rule-requires c κs = search needs
 
--- src/lib.rt:149:9
 refused-requires : tie.Need-refused-requires Inv-loop μ-loop
 refused-requires c κs = search needs
 
--- src/lib.rt:149:9
 returns : tie.Need-returns Inv-loop μ-loop
 returns c = head-bad _ _ _ (c .before .before .head-rule .ensures) _ (c .before .if1 .taken) (c .refused .ensures)
 
--- src/lib.rt:151:35
 shared-slice-read-is-linked : tie.Need-shared-slice-read-is-linked Inv-loop μ-loop
 shared-slice-read-is-linked c = omega (arith, head-sizes (c .before .before .before .before .args .table) _ _ (c .before .before .head-rule .ensures) (c .before .if1 .left))
 
--- src/lib.rt:151:9
 is-linked-requires : tie.Need-is-linked-requires Inv-loop μ-loop
 is-linked-requires c κs = search needs
 
--- src/lib.rt:152:9
 no-format-requires : tie.Need-no-format-requires Inv-loop μ-loop
 no-format-requires c κs = search needs
 
--- src/lib.rt:153:9
 no-frame-requires : tie.Need-no-frame-requires Inv-loop μ-loop
 no-frame-requires c κs = search needs
 
--- src/lib.rt:156:22
 no-counts-requires : tie.Need-no-counts-requires Inv-loop μ-loop
 no-counts-requires c κs = search needs
 
--- src/lib.rt:161:5
 loop-holds : tie.Need-loop-holds Inv-loop μ-loop
 loop-holds c = rw (c .before .before .no-format .ensures, c .before .no-frame .ensures, c .no-counts .ensures) (going-starts _ _)
 
--- src/lib.rt:162:24
 array-read-numbered : tie.Need-array-read-numbered Inv-loop μ-loop
 array-read-numbered c = omega (arith, c .before .loop .inv .formats-few)
 
--- src/lib.rt:170:13
 rule-at-requires : tie.Need-rule-at-requires Inv-loop μ-loop
 rule-at-requires c κs = (c .loop-test .taken, c .before .loop .inv .formats-few)
 
--- src/lib.rt:172:13
 refused-requires-2 : tie.Need-refused-requires-2 Inv-loop μ-loop
 refused-requires-2 c κs = search needs
 
--- src/lib.rt:172:13
 returns-2 : tie.Need-returns-2 Inv-loop μ-loop
 returns-2 c = head-good _ _ _ (c .before .before .before .before .before .before .before .before .before .before .before .head-rule .ensures) (c .before .before .before .before .before .before .before .before .before .before .if1 .left) _ _ (c .before .before .before .before .before .before .before .before .is-linked .ensures) (c .refused2 .ensures ∙ going-stops _ _ _ _ _ _ _ _ _ (c .before .before .before .before .loop .inv) _ (c .before .before .before .loop-test .taken) (c .before .before .rule-at .ensures) (c .before .if2 .taken))
 
--- src/lib.rt:174:34
 shared-slice-read-wide : tie.Need-shared-slice-read-wide Inv-loop μ-loop
 shared-slice-read-wide c = search needs
 
--- src/lib.rt:174:25
 wide-requires : tie.Need-wide-requires Inv-loop μ-loop
 wide-requires c κs = search needs
 
--- src/lib.rt:174:20
 add-next : tie.Need-add-next Inv-loop μ-loop
 add-next c = let w = fit (c .before .before) in omega (arith, c .wide .ensures, w .inside)
 
--- src/lib.rt:175:51
 add-kind-of : tie.Need-add-kind-of Inv-loop μ-loop
 add-kind-of c = let w = fit (c .before .before) in omega (arith, w .inside, w .long)
 
--- src/lib.rt:175:45
 shared-slice-read-kind-of : tie.Need-shared-slice-read-kind-of Inv-loop μ-loop
 shared-slice-read-kind-of c = let w = fit (c .before .before .before) in omega (arith, w .inside, w .long)
 
--- src/lib.rt:175:13
 kind-of-requires : tie.Need-kind-of-requires Inv-loop μ-loop
 kind-of-requires c κs = search needs
 
--- src/lib.rt:176:12
 is-format-requires : tie.Need-is-format-requires Inv-loop μ-loop
 is-format-requires c κs = search needs
 
--- src/lib.rt:177:17
 format-at-requires : tie.Need-format-at-requires Inv-loop μ-loop
 format-at-requires c κs = let w = fit (c .before .before .before .before .before .before) in (rw (c .before .before .kind-of .ensures) (w .shaped, w .inside), short (c .before .before .before .before .before .before))
 
--- src/lib.rt:179:13
 mul-formats : tie.Need-mul-formats Inv-loop μ-loop
 mul-formats c = let w = fit (c .before .before .before .before .before .before .before) .fewer (a-format (c .before)) in omega arith
 
--- src/lib.rt:179:13
 array-set-from-formats : tie.Need-array-set-from-formats Inv-loop μ-loop
 array-set-from-formats c = fit (c .before .before .before .before .before .before .before) .fewer (a-format (c .before))
 
--- src/lib.rt:180:17
 add-f : tie.Need-add-f Inv-loop μ-loop
 add-f c = let w = fit (c .before .before .before .before .before .before .before) .fewer (a-format (c .before)) in omega arith
 
--- src/lib.rt:161:5
 loop-less : tie.Need-loop-less Inv-loop μ-loop
 loop-less c = let w = fit (c .before .before .before .before .before .before .before) in omega (arith, w .inside, w .long, c .before .before .before .before .before .wide .ensures)
 
--- src/lib.rt:161:5
 loop-again : tie.Need-loop-again Inv-loop μ-loop
 loop-again c = rw (c .before .before .before .before .before .wide .ensures .0) (going-format _ _ _ _ _ _ _ _ _ (c .before .before .before .before .before .before .before .before .before .before .loop .inv) (c .before .before .before .before .before .before .before .before .before .loop-test .taken) (none (c .before .before .before .before .before .before .before)) _ (a-format (c .before)) (rw (c .before .before .before .kind-of .ensures) at (c .format-at .ensures)))
 
--- src/lib.rt:182:19
 is-frame-requires : tie.Need-is-frame-requires Inv-loop μ-loop
 is-frame-requires c κs = search needs
 
--- src/lib.rt:183:17
 frame-at-requires : tie.Need-frame-at-requires Inv-loop μ-loop
 frame-at-requires c κs = let w = fit (c .before .before .before .before .before .before .before .before) in ((frame-room _ _ _ w (a-frame c), short (c .before .before .before .before .before .before .before .before)), c .before .before .before .before .before .before .before .before .before .before .before .loop .inv .formats-few)
 
--- src/lib.rt:184:13
 mul-frames : tie.Need-mul-frames Inv-loop μ-loop
 mul-frames c = let w = fit (c .before .before .before .before .before .before .before .before .before) .few (a-frame (c .before)) in omega arith
 
--- src/lib.rt:184:13
 array-set-from-frames : tie.Need-array-set-from-frames Inv-loop μ-loop
 array-set-from-frames c = fit (c .before .before .before .before .before .before .before .before .before) .few (a-frame (c .before))
 
--- src/lib.rt:186:31
 add-counts : tie.Need-add-counts Inv-loop μ-loop
 add-counts c = let w = fit (c .before .before .before .before .before .before .before .before .before) in omega (arith, frame-room _ _ _ w (a-frame (c .before)), short (c .before .before .before .before .before .before .before .before .before))
 
--- src/lib.rt:186:25
 shared-slice-read-counts : tie.Need-shared-slice-read-counts Inv-loop μ-loop
 shared-slice-read-counts c = let w = fit (c .before .before .before .before .before .before .before .before .before .before) in omega (arith, frame-room _ _ _ w (a-frame (c .before .before)))
 
--- src/lib.rt:186:13
 array-write-counts : tie.Need-array-write-counts Inv-loop μ-loop
 array-write-counts c = omega (arith, c .before .before .before .before .before .before .before .before .before .before .before .before .before .loop .inv .formats-few)
 
--- src/lib.rt:187:17
 add-n : tie.Need-add-n Inv-loop μ-loop
 add-n c = let w = fit (c .before .before .before .before .before .before .before .before .before .before) .few (a-frame (c .before .before)) in omega arith
 
--- src/lib.rt:161:5
 loop-less-2 : tie.Need-loop-less-2 Inv-loop μ-loop
 loop-less-2 c = let w = fit (c .before .before .before .before .before .before .before .before .before .before) in omega (arith, w .inside, w .long, c .before .before .before .before .before .before .before .before .wide .ensures)
 
--- src/lib.rt:161:5
 loop-again-2 : tie.Need-loop-again-2 Inv-loop μ-loop
 loop-again-2 c = rw (c .before .before .before .before .before .before .before .before .wide .ensures .0) (going-frame _ _ _ _ _ _ _ _ _ (c .before .before .before .before .before .before .before .before .before .before .before .before .before .loop .inv) (c .before .before .before .before .before .before .before .before .before .before .before .before .loop-test .taken) (none (c .before .before .before .before .before .before .before .before .before .before)) _ (no-format (c .before .before .before .before)) (a-frame (c .before .before)) (c .before .frame-at .ensures))
 
--- src/lib.rt:161:5
 loop-less-3 : tie.Need-loop-less-3 Inv-loop μ-loop
 loop-less-3 c = let w = fit (c .before .before .before .before .before .before .before .before) in omega (arith, w .inside, w .long, c .before .before .before .before .before .before .wide .ensures)
 
--- src/lib.rt:161:5
 loop-again-3 : tie.Need-loop-again-3 Inv-loop μ-loop
 loop-again-3 c = rw (c .before .before .before .before .before .before .wide .ensures .0) (going-other _ _ _ _ _ _ _ _ _ (c .before .before .before .before .before .before .before .before .before .before .before .loop .inv) (c .before .before .before .before .before .before .before .before .before .before .loop-test .taken) (none (c .before .before .before .before .before .before .before .before)) (no-format (c .before .before)) (no-frame c))
 
--- src/lib.rt:193:53
 shared-slice-read-late-verdict : tie.Need-shared-slice-read-late-verdict Inv-loop μ-loop
 shared-slice-read-late-verdict c = omega (arith, head-sizes (c .before .before .before .before .before .before .before .before .before .before .before .before .args .table) _ _ (c .before .before .before .before .before .before .before .before .before .before .head-rule .ensures) (c .before .before .before .before .before .before .before .before .before .if1 .left) .0)
 
--- src/lib.rt:193:9
 late-verdict-requires : tie.Need-late-verdict-requires Inv-loop μ-loop
 late-verdict-requires c κs = omega (arith, c .before .before .before .loop .inv .formats-few)
 
--- src/lib.rt:194:31
 enum-known-verdict : tie.Need-enum-known-verdict Inv-loop μ-loop
 enum-known-verdict c = search needs
 
--- src/lib.rt:195:9
 refused-requires-3 : tie.Need-refused-requires-3 Inv-loop μ-loop
 refused-requires-3 c κs = search needs
 
--- src/lib.rt:195:9
 returns-3 : tie.Need-returns-3 Inv-loop μ-loop
 returns-3 c = head-good _ _ _ (c .before .before .before .before .before .before .before .before .before .before .before .before .before .before .before .head-rule .ensures) (c .before .before .before .before .before .before .before .before .before .before .before .before .before .before .if1 .left) _ _ (c .before .before .before .before .before .before .before .before .before .before .before .before .is-linked .ensures) (c .refused3 .ensures ∙ going-refuses _ _ _ _ _ _ _ _ _ (c .before .before .before .before .before .before .before .before .loop .inv) (c .before .before .before .before .before .before .before .loop-test .left) _ (c .before .before .before .before .late-verdict .ensures) _ _ (c .before .before .verdict .given .1))
 
 enum-told : tie.Need-enum-told Inv-loop μ-loop
 enum-told c = search needs
 
--- src/lib.rt:199:19
 shared-slice-read-t26 : tie.Need-shared-slice-read-t26 Inv-loop μ-loop
 shared-slice-read-t26 c = omega (arith, head-sizes (c .before .before .before .before .before .before .before .before .before .before .before .before .before .before .before .before .args .table) _ _ (c .before .before .before .before .before .before .before .before .before .before .before .before .before .before .head-rule .ensures) (c .before .before .before .before .before .before .before .before .before .before .before .before .before .if1 .left) .0)
 
--- src/lib.rt:200:15
 shared-slice-read-t53 : tie.Need-shared-slice-read-t53 Inv-loop μ-loop
 shared-slice-read-t53 c = omega (arith, head-sizes (c .before .before .before .before .before .before .before .before .before .before .before .before .before .before .before .before .before .args .table) _ _ (c .before .before .before .before .before .before .before .before .before .before .before .before .before .before .before .head-rule .ensures) (c .before .before .before .before .before .before .before .before .before .before .before .before .before .before .if1 .left) .0)
 
--- src/lib.rt:144:1
 returns-4 : tie.Need-returns-4 Inv-loop μ-loop
 returns-4 c = head-good _ _ _ (c .before .before .before .before .before .before .before .before .before .before .before .before .before .before .before .head-rule .ensures) (c .before .before .before .before .before .before .before .before .before .before .before .before .before .before .if1 .left) _ _ (c .before .before .before .before .before .before .before .before .before .before .before .before .is-linked .ensures) (going-accepts _ _ _ _ _ _ _ _ _ (c .before .before .before .before .before .before .before .before .loop .inv) (c .before .before .before .before .before .before .before .loop-test .left) _ (c .before .before .before .before .late-verdict .ensures) (c .before .before .enum-told .given .1))
 
