@@ -39,44 +39,57 @@ fn line(name: &[u8], n: u64) {
     print::text(b"\n");
 }
 
+fn byte(name: &[u8], n: u8) {
+    line(name, n as u64);
+}
+
+fn word(name: &[u8], n: u16) {
+    line(name, n as u64);
+}
+
+fn long(name: &[u8], n: u32) {
+    line(name, n as u64);
+}
+
 fn fields(p: Probe) {
     print::text(b"accepted\n");
-    line(b"hint", p.hint as u64);
-    line(b"format", p.format as u64);
-    line(b"frame", p.frame as u64);
-    line(b"interval", p.interval as u64);
-    line(b"key rate", p.key_rate as u64);
-    line(b"P rate", p.p_rate as u64);
-    line(b"quality", p.quality as u64);
-    line(b"window", p.window as u64);
-    line(b"delay", p.delay as u64);
-    line(b"frame size", p.frame_size as u64);
-    line(b"payload size", p.payload_size as u64);
-    line(b"clock", p.clock as u64);
+    word(b"hint", p.hint);
+    byte(b"format", p.format);
+    byte(b"frame", p.frame);
+    long(b"interval", p.interval);
+    word(b"key rate", p.key_rate);
+    word(b"P rate", p.p_rate);
+    word(b"quality", p.quality);
+    word(b"window", p.window);
+    word(b"delay", p.delay);
+    long(b"frame size", p.frame_size);
+    long(b"payload size", p.payload_size);
+    long(b"clock", p.clock);
     versions(p);
 }
 
 fn versions(p: Probe) {
-    line(b"framing", p.framing as u64);
-    line(b"preferred", p.preferred as u64);
-    line(b"minimum", p.minimum as u64);
-    line(b"maximum version", p.maximum as u64);
-    line(b"usage", p.usage as u64);
-    line(b"luma depth", p.luma_depth as u64);
-    line(b"settings", p.settings as u64);
-    line(b"reference frames", p.reference_frames as u64);
-    line(b"rate modes", p.rate_modes as u64);
+    byte(b"framing", p.framing);
+    byte(b"preferred", p.preferred);
+    byte(b"minimum", p.minimum);
+    byte(b"maximum version", p.maximum);
+    byte(b"usage", p.usage);
+    byte(b"luma depth", p.luma_depth);
+    byte(b"settings", p.settings);
+    byte(b"reference frames", p.reference_frames);
+    word(b"rate modes", p.rate_modes);
     let l = p.layout;
+    print::text(b"layout");
     layout(l);
+    print::text(b"\n");
 }
 
+// The eight numbers of the layout.
 fn layout(l: [u8; 8]) {
-    print::text(b"layout");
     let mut i: usize = 0;
     while i < 8 {
         let b = l[i];
         print::field(b as u64);
         i += 1;
     }
-    print::text(b"\n");
 }

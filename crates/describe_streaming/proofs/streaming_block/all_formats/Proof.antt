@@ -1,0 +1,66 @@
+use Prim.Native.Nat.{_≤_, _-_}
+use native.Mathlib.Omega.{arith}
+use borrow.Author.Needs.{needs}
+use Rattle.describe_streaming.proofs.streaming_block.all_formats.Statement.{statement}
+use Rattle.describe_streaming.proofs.streaming_block.all_formats.Tie as tie
+use Rattle.describe_streaming.proofs.streaming_block.all_formats.Reads as reads
+use Rattle.describe_streaming.proofs.streaming_block.all_formats.Lts as lts
+use Rattle.describe_streaming.proofs.streaming_block.format.Reads as format-reads
+
+abbrev Inv-loop : tie.InvT-loop
+Inv-loop n formats i₀ i = i ≤ 8
+
+abbrev μ-loop : tie.MeasureT-loop
+μ-loop n formats i₀ i = 8 - i
+
+-- src/streaming_block.rt:70:5
+loop-holds : tie.Need-loop-holds Inv-loop μ-loop
+loop-holds c = omega arith
+
+-- src/streaming_block.rt:72:13
+returns : tie.Need-returns Inv-loop μ-loop
+returns c = tt
+
+-- src/streaming_block.rt:74:17
+mul-f : tie.Need-mul-f Inv-loop μ-loop
+mul-f c = search needs
+
+-- src/streaming_block.rt:74:17
+array-copy-out-f : tie.Need-array-copy-out-f Inv-loop μ-loop
+array-copy-out-f c = search needs
+
+-- src/streaming_block.rt:75:9
+format-requires : tie.Need-format-requires Inv-loop μ-loop
+format-requires c κs = search needs
+
+-- src/streaming_block.rt:76:9
+add-i : tie.Need-add-i Inv-loop μ-loop
+add-i c = search needs
+
+-- src/streaming_block.rt:70:5
+loop-less : tie.Need-loop-less Inv-loop μ-loop
+loop-less c = search needs
+
+-- src/streaming_block.rt:70:5
+loop-again : tie.Need-loop-again Inv-loop μ-loop
+loop-again c = omega arith
+
+-- src/streaming_block.rt:68:1
+returns-2 : tie.Need-returns-2 Inv-loop μ-loop
+returns-2 c = tt
+
+pub all-formats-spec : {M : Type 1} → statement M
+all-formats-spec =
+    tie.close
+    (tie.spec
+    Inv-loop
+    μ-loop
+    loop-holds
+    returns
+    mul-f
+    array-copy-out-f
+    format-requires
+    add-i
+    loop-less
+    loop-again
+    returns-2)
