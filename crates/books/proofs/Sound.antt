@@ -124,7 +124,7 @@ pub run-opening : (cs : List Call) (s : Session) → run s cs .opening ≡ s .op
 run-opening [] s = refl
 run-opening (c ∷ cs) s = run-opening cs (nextCall s c) ∙ next-opening s c
 
-took-taken : (s : Session) (t : List ℕ) (r : Reading) → tookBy r s t .session .taken ≡ s .taken + 1
+pub took-taken : (s : Session) (t : List ℕ) (r : Reading) → tookBy r s t .session .taken ≡ s .taken + 1
 unfolding readOf
 took-taken s t Idle = refl
 took-taken s t (Unreadable k) = refl

@@ -221,7 +221,7 @@ kept-call s D B Call.close k =
     record { holds = closed-holds (s .track .phase) (s .track .gap) D; fit = fit-next s Call.close (k .fit); held = closed-held (s .track .phase) (s .track .gap) D B; room = k .room }
 
 -- a refused call leaves all as it was
-same-call : (b : List ℕ) (k : Call) → callOf (offerWith b k) ≡ k
+pub same-call : (b : List ℕ) (k : Call) → callOf (offerWith b k) ≡ k
 same-call b (Call.transfer t) = refl
 same-call b Call.lost = refl
 same-call b Call.close = refl

@@ -11,24 +11,21 @@ use Rattle.payload.specs.declared.Reading.the-variants.{Idle, Unreadable, Reada
 use Rattle.payload.specs.Transfer.{readingOf}
 use Rattle.session.specs.declared.Session.{Session}
 use Rattle.session.specs.Session.{fresh, readOf, tookBy, tookOf}
+use Rattle.rules.proofs.Rows.{or-first}
 use Rattle.books.specs.Rule.{Call}
 use Rattle.books.specs.Calls.{refusal, next, nextCall}
 use Rattle.books.specs.Demands.{offerWith, bufferNext}
 use Rattle.books.proofs.Taken.{next-taken}
+use Rattle.books.proofs.Whole.{same-call}
+use Rattle.books.proofs.Sound.{took-taken}
 use Rattle.trace.specs.Record.{recordBad, recordCall}
 use Rattle.trace.specs.Trace.{newTrace, closes, numberOf, stepOf, stepBuffer, traced}
 use Rattle.trace.specs.declared.State.{State}
 use Rattle.trace.specs.declared.State.the-variants.{Good, Bad, Refused}
 use Rattle.trace.specs.declared.Trace.{Trace}
-use Rattle.trace.proofs.Right.{good, same-call, state-of, on-good, on-bad, on-refused}
+use Rattle.trace.proofs.Right.{good, state-of, on-good, on-bad, on-refused}
 
 -- ---- each good record that is taken counts one
-took-taken : (s : Session) (t : List ℕ) (r : Reading) → tookBy r s t .session .taken ≡ s .taken + 1
-unfolding readOf
-took-taken s t Idle = refl
-took-taken s t (Unreadable k) = refl
-took-taken s t (Readable h) = refl
-
 took-closed : (s : Session) (t : List ℕ) (r : Reading) → tookBy r s t .session .closed ≡ s .closed
 unfolding readOf
 took-closed s t Idle = refl
@@ -42,14 +39,10 @@ call-number s (Call.transfer t) e =
 call-number s Call.lost e = rw e (omega arith)
 call-number s Call.close e = rw e (omega arith)
 
-or-left : (a b : Bool) → (a || b) ≡ false → a ≡ false
-or-left true b h = h
-or-left false b h = refl
-
 next-number : (s : Session) (b r : List ℕ) → (s .closed || recordBad r) ≡ false → refusal s (offerWith b (recordCall r)) ≡ 0 → numberOf (next s (offerWith b (recordCall r))) ≡ numberOf s + 1
 next-number s b r e q =
     ap numberOf (next-taken s (offerWith b (recordCall r)) q ∙ ap (nextCall s) (same-call b (recordCall r)))
-    ∙ call-number s (recordCall r) (or-left (s .closed) (recordBad r) e)
+    ∙ call-number s (recordCall r) (or-first (s .closed) (recordBad r) e)
 
 -- ---- the first bad record from a session on
 pub record BadFrom (s : Session) (b : List ℕ) (rs : List (List ℕ)) (n : ℕ) : Type 0 where

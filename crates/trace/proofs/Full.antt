@@ -12,6 +12,7 @@ use Rattle.session.specs.declared.Session.{Session}
 use Rattle.session.specs.Refusals.{sizesBroken, recordBroken, lostRows, closeRows, takeRows}
 use Rattle.session.specs.Session.{fresh}
 use Rattle.sizes.specs.Sizes.{frameSizeBroken, payloadSizeBroken}
+use Rattle.rules.proofs.Rows.{or-first, or-second}
 use Rattle.books.specs.Rule.{Call}
 use Rattle.books.specs.Calls.{Offer, refusal, next, after, taken}
 use Rattle.books.specs.Demands.{offerWith, bufferNext, offers, bufferAfter}
@@ -24,16 +25,8 @@ use Rattle.trace.specs.declared.State.the-variants.{Good, Bad, Refused}
 use Rattle.trace.specs.declared.Trace.{Trace}
 use Rattle.trace.proofs.Right.{good, state-of, on-good, on-bad, on-refused}
 
-or-left : (a b : Bool) → (a || b) ≡ false → a ≡ false
-or-left true b h = h
-or-left false b h = refl
-
-or-right : (a b : Bool) → (a || b) ≡ false → b ≡ false
-or-right true b h = absurd (true≢false h)
-or-right false b h = h
-
 third : (a b c d : Bool) → (a || (b || (c || d))) ≡ false → c ≡ false
-third a b c d e = or-left c d (or-right b (c || d) (or-right a (b || (c || d)) e))
+third a b c d e = or-first c d (or-second b (c || d) (or-second a (b || (c || d)) e))
 
 -- a good record's transfer is short
 short : (r : List ℕ) → recordBad r ≡ false → length (bytesAt r) ≤ 65536
@@ -106,7 +99,7 @@ module _ (b₀ : List ℕ) (room : 256 ≤ length b₀) where
       go false q zero z rec = rec (sym (state-of (on-good s b r q z rs)) ∙ e)
       go false q (suc j) z rec =
           same-number (suc j) k (numberOf s) n (sym (state-of (on-refused s b r q j z rs)) ∙ e)
-          ∙ call-full s b (kindAt r) j r (sound s b w) (or-left (s .closed) (recordBad r) q) (wide s b w) (short r (or-right (s .closed) (recordBad r) q)) z
+          ∙ call-full s b (kindAt r) j r (sound s b w) (or-first (s .closed) (recordBad r) q) (wide s b w) (short r (or-second (s .closed) (recordBad r) q)) z
 
   -- the ledger program refuses a good record by 52 alone
   pub refused-full : (rs : List (List ℕ)) (k n : ℕ) → traced newTrace b₀ rs .state ≡ Refused k n → k ≡ 52

@@ -17,6 +17,7 @@ use Rattle.books.specs.Rule.{Call, entries, numbersOf}
 use Rattle.books.specs.Calls.{Offer, refusal, next, after, callOf, unless, taken, nextCall, run}
 use Rattle.books.specs.Demands.{offerWith, bufferNext, offers, bufferAfter}
 use Rattle.books.proofs.Theorems.{numbers-right}
+use Rattle.books.proofs.Whole.{same-call}
 use Rattle.trace.specs.Record.{recordBad, recordCall}
 use Rattle.trace.specs.Trace.{sizes, newTrace, numberOf, offered, readBy, stepBy, stepOf, keptBy, stepBuffer, stepBufferBy, traced}
 use Rattle.trace.specs.declared.State.{State}
@@ -47,11 +48,6 @@ state-of e = ap (λ (t : Trace). t .state) e
 pub record Taken (s : Session) (b : List ℕ) (rs : List (List ℕ)) : Type 0 where
   pub session : traced (record { session = s; state = Good }) b rs .session ≡ after s (offers s b (map recordCall rs))
   pub calls : taken s (offers s b (map recordCall rs)) ≡ map recordCall rs
-
-pub same-call : (b : List ℕ) (c : Call) → callOf (offerWith b c) ≡ c
-same-call b (Call.transfer t) = refl
-same-call b Call.lost = refl
-same-call b Call.close = refl
 
 abbrev pub good : Session → Trace
 good s = record { session = s; state = Good }

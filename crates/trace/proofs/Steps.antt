@@ -28,6 +28,7 @@ use Rattle.session.specs.Session.{fresh, openOf, readOf, tookBy, tookOf, takeBy
 use Rattle.payload.specs.declared.Reading.{Reading}
 use Rattle.payload.specs.declared.Reading.the-variants.{Idle, Unreadable, Readable}
 use Rattle.payload.specs.Transfer.{readingOf}
+use Rattle.rules.proofs.Rows.{or-first, or-second}
 use Rattle.books.specs.Rule.{Call}
 use Rattle.books.specs.Demands.{bufferNext}
 use Rattle.trace.specs.Record.{kindAt, lengthAt, bytesAt, anySet, recordBad, callBy, recordCall}
@@ -171,14 +172,6 @@ module _ (r : List ℕ) where
   unfolding recordBad
   bad-transfer n x e a b c i f = rw (eq-eqb (length r) 64 a, le-ltb 2 (kindAt r) b, ← e, le-ltb 62 n c, eq-eqb (kindAt r) 0 i) f
 
-or-left : (a b : Bool) → (a || b) ≡ false → a ≡ false
-or-left true b h = h
-or-left false b h = refl
-
-or-right : (a b : Bool) → (a || b) ≡ false → b ≡ false
-or-right true b h = absurd (true≢false h)
-or-right false b h = h
-
 -- what a good record is
 pub record Fine (r : List ℕ) : Type 0 where
   pub size : length r ≡ 64
@@ -192,9 +185,9 @@ fine r e =
     let b : Bool = ltb 2 (kindAt r) in
     let c : Bool = ltb 62 (lengthAt r) in
     record {
-      size = eqb-true (length r) 64 (not-false (eqb (length r) 64) (or-left a _ e));
-      kind = ltb-false 2 (kindAt r) (or-left b _ (or-right a _ e));
-      short = ltb-false 62 (lengthAt r) (or-left c _ (or-right b _ (or-right a _ e)));
+      size = eqb-true (length r) 64 (not-false (eqb (length r) 64) (or-first a _ e));
+      kind = ltb-false 2 (kindAt r) (or-first b _ (or-second a _ e));
+      short = ltb-false 62 (lengthAt r) (or-first c _ (or-second b _ (or-second a _ e)));
     }
 
 -- ---- a good record's call
