@@ -39,6 +39,7 @@ framePlace s l n format number = firstPlace (λ i. hasNumber s format number (fr
 -- 44 to 46, with the frame whose descriptor stands at o
 unfoldable pub frameFlags : List ℕ → ℕ → Probe → List Bool
 frameFlags s o p =
+    -- 44, 45, 46
     not (offersAt s o (p .interval))
     ∷ frameSizeBroken (p .«frame_size»)
     ∷ payloadSizeBroken (p .«payload_size»)
@@ -48,8 +49,10 @@ frameFlags s o p =
 unfoldable pub checkFlags : List ℕ → Streaming → Probe → List Bool
 checkFlags s a p =
     let i = framePlace s (a .frames) (a .«frame_count») (p .format) (p .frame) in
+    -- 42, 43
     formatMissing (p .format) (a .«format_count»)
     ∷ leb (a .«frame_count») i
+    -- 44 to 46
     ∷ frameFlags s (frameIn (a .frames) i .offset) p
 
 -- no number: yes

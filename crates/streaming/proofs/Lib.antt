@@ -6,3 +6,4 @@ pub mod Heads
 pub mod Exactly
 pub mod Unique
 pub mod Inside
+pub mod Samples

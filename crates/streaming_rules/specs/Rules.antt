@@ -28,9 +28,11 @@ framesMost = 64
 -- 20 to 24, of the block, with the number of entities that the table says
 unfoldable pub headFlags : ℕ → List ℕ → List Bool
 headFlags entities s =
+    -- 20, 21, 22
     ltb entitiesMost entities
     ∷ ltb (length s) 13
     ∷ ltb blockMost (length s)
+    -- 23, 24
     ∷ not (eqb (getD s 1 0) 0x24 && eqb (getD s 2 0) 1)
     ∷ not (eqb (le16At s 4) (length s))
     ∷ []
@@ -82,22 +84,28 @@ defaultOffered s o = offersAt s o (le32At s (o + defaultAt (formatOf (kindAt s o
 -- 29 to 35, by the kind
 unfoldable pub kindFlags : Kind → List ℕ → ℕ → Sofar → List Bool
 kindFlags k s o a =
+    -- 29, 30: the header's endpoint and link
     (isHeader k && not (inward (byte s o 6)))
     ∷ (isHeader k && not (a .linked))
+    -- 31: the format's number
     ∷ (isFormat k && not (eqb (byte s o 3) (a .formats + 1)))
+    -- 32, 33, 34: the frame's place, number and intervals
     ∷ (isFrame k && misplaced (formatOf k) a)
     ∷ (isFrame k && not (eqb (byte s o 3) (a .numbered + 1)))
     ∷ (isFrame k && not (defaultOffered s o))
+    -- 35: a ninth format or a 65th frame
     ∷ ((isFormat k && leb formatsMost (a .formats)) || (isFrame k && leb framesMost (a .frames)))
     ∷ []
 
 -- 25 to 35, of the descriptor at o
 unfoldable pub flags : List ℕ → ℕ → Sofar → List Bool
 flags s o a =
+    -- 25, 26, 27, 28
     lengthBroken s o
     ∷ typeBroken s o
     ∷ isUnread (kindAt s o)
     ∷ not (shape (kindAt s o) s o)
+    -- 29 to 35
     ∷ kindFlags (kindAt s o) s o a
 
 unfoldable pub headRule : ℕ → List ℕ → ℕ

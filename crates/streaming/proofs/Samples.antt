@@ -1,0 +1,51 @@
+-- Small blocks on both sides, about the definitions.
+use Prim.Native.Nat.{ℕ}
+use mathlib.Core.Path.{_≡_, refl}
+use mathlib.Core.List.{List, [], _∷_, _++_}
+use lib.ListN.{replicate}
+use Rattle.rules.specs.Pick.{pick}
+use Rattle.rules.specs.Numbered.{firstFrom}
+use Rattle.rules.specs.Walk.{walkFrom, walk}
+use Rattle.rules.specs.declared.Verdict.the-variants.{Accepted, Refused}
+use Rattle.entities.specs.Table.{noEntity, findFrom}
+use Rattle.entities.specs.declared.Table.{Table}
+use Rattle.intervals.specs.Intervals.{listAt, rises, among, offered}
+use Rattle.streaming_rules.specs.Descriptors.{kindOf, shape, formatAt, frameAt}
+use Rattle.streaming_rules.specs.Rules.{headFlags, lengthBroken, typeBroken, misplaced, offersAt, kindFlags, flags, headRule}
+use Rattle.streaming.specs.Place.{placeFrom}
+use Rattle.streaming.specs.Block.{isOutput, linkedAt, countUnder, after, defaultBroken, lateBy, refusedBy, acceptedWith, afterWalk, afterHead, streamingOf}
+
+-- one entity: the output terminal 3, of type 0x0101
+table : Table
+table = record { count = 1; entities = record { id = 3; kind = 3; terminal = 0x0101; offset = 12 } ∷ replicate 31 noEntity; clock = 0 }
+
+header : ℕ → ℕ → ℕ → List ℕ
+header total p link = 0x0D ∷ 0x24 ∷ 0x01 ∷ p ∷ total ∷ 0x00 ∷ 0x81 ∷ 0x00 ∷ link ∷ 0x00 ∷ 0x00 ∷ 0x00 ∷ 0x00 ∷ []
+
+-- an MJPEG format with one frame, and a frame that offers 333,333 and 666,666 with the default x
+mjpeg : List ℕ
+mjpeg = 0x0B ∷ 0x24 ∷ 0x06 ∷ 0x01 ∷ 0x01 ∷ 0x00 ∷ 0x01 ∷ 0x00 ∷ 0x00 ∷ 0x00 ∷ 0x00 ∷ []
+
+frame : ℕ → List ℕ
+frame low =
+    0x22 ∷ 0x24 ∷ 0x07 ∷ 0x01 ∷ 0x00 ∷ 0x80 ∷ 0x02 ∷ 0xE0 ∷ 0x01 ∷ 0 ∷ 0 ∷ 0 ∷ 0 ∷ 0 ∷ 0 ∷ 0 ∷ 0 ∷ 0x00 ∷ 0x60 ∷ 0x09 ∷ 0x00 ∷ low ∷ 0x16 ∷ 0x05 ∷ 0x00 ∷ 0x02
+    ∷ 0x15 ∷ 0x16 ∷ 0x05 ∷ 0x00 ∷ 0x2A ∷ 0x2C ∷ 0x0A ∷ 0x00 ∷ []
+
+-- a header alone, with no formats
+bare : streamingOf table (header 13 0 3) .verdict ≡ Accepted
+unfolding table header streamingOf afterHead headRule headFlags firstFrom afterWalk walk walkFrom flags lengthBroken typeBroken kindFlags kindOf shape linkedAt findFrom isOutput after pick lateBy placeFrom acceptedWith
+bare = refl
+
+-- its link names nothing
+unlinked : streamingOf table (header 13 0 4) .verdict ≡ Refused 30 0
+unfolding table header streamingOf afterHead headRule headFlags firstFrom afterWalk walk walkFrom flags lengthBroken typeBroken kindFlags kindOf shape linkedAt findFrom isOutput after pick refusedBy
+unlinked = refl
+
+-- a format with its frame; and the frame whose default is not in its list
+filmed : streamingOf table (header 58 1 3 ++ (mjpeg ++ frame 0x15)) .verdict ≡ Accepted
+unfolding table header mjpeg frame streamingOf afterHead headRule headFlags firstFrom afterWalk walk walkFrom flags lengthBroken typeBroken kindFlags kindOf shape linkedAt findFrom isOutput after pick formatAt frameAt misplaced offersAt offered listAt rises among countUnder lateBy placeFrom defaultBroken acceptedWith
+filmed = refl
+
+unlisted : streamingOf table (header 58 1 3 ++ (mjpeg ++ frame 0x16)) .verdict ≡ Refused 34 24
+unfolding table header mjpeg frame streamingOf afterHead headRule headFlags firstFrom afterWalk walk walkFrom flags lengthBroken typeBroken kindFlags kindOf shape linkedAt findFrom isOutput after pick formatAt frameAt misplaced offersAt offered listAt rises among countUnder refusedBy
+unlisted = refl
