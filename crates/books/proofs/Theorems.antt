@@ -3,9 +3,9 @@
 use Prim.Native.Nat.{ℕ, zero, suc, _≤_}
 use mathlib.Core.Path.{_≡_, refl, sym, _∙_, ap, subst, fun-ext}
 use mathlib.Core.Bool.{Bool, true, false}
-use mathlib.Core.List.{List, [], _∷_, _++_}
+use mathlib.Core.List.{List, [], _∷_, _++_, map}
 use native.Mathlib.Omega.{arith}
-use lib.ListN.{length, getD}
+use lib.ListN.{length, getD, replicate}
 use lib.Dec.{ltb, eqb}
 use borrow.Author.Tests.{le-ltb}
 use Rattle.rules.specs.Numbered.{firstFrom, firstRow, orElse, Down}
@@ -35,6 +35,7 @@ use Rattle.books.proofs.Sound.{taken-small, record-sound}
 use Rattle.books.proofs.Answers.{transfer-says, lost-says, close-says}
 use Rattle.books.proofs.Whole.{delivered-whole}
 use Rattle.books.proofs.Print.{run-numbers}
+use Rattle.books.proofs.Samples.{opening, transfers, printed, by-rule, by-session}
 
 -- An opening that is not refused gives a fresh session of admissible sizes.
 pub opened : (frame payload room : ℕ) → openOf frame payload room .start ≡ Start.Open
@@ -103,3 +104,10 @@ pub only-full : (o : Opening) → sizesBroken o ≡ false → (xs : List Offer) 
     → refusal (after (fresh o) xs) (Offer.take buffer t) ≡ orElse (eqb (after (fresh o) xs .taken) 4294967295) 52 0
 only-full o e xs buffer t open₀ room small =
     rw (never-stuck o e xs, open₀, le-ltb (length buffer) (after (fresh o) xs .opening .frame) room, le-ltb 65536 (length t) small)
+
+-- 7. The ledger sample of document 01, about the rule and about the session, as computed equalities.
+pub sample-by-rule : numbersOf (entries opening (map Call.transfer transfers)) ≡ printed
+sample-by-rule = by-rule
+
+pub sample-by-session : ledgerOf (after (fresh opening) (map (Offer.take (replicate 256 0)) transfers)) .numbers ≡ printed
+sample-by-session = by-session
