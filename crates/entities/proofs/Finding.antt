@@ -3,9 +3,8 @@ use Prim.Native.Nat.{ℕ, zero, suc, _+_, _≤_, _<_}
 use mathlib.Core.Path.{_≡_, refl, sym, ap, _∙_}
 use mathlib.Core.Bool.{Bool, true, false}
 use mathlib.Core.List.{List, [], _∷_, map}
-use mathlib.Core.Logic.{_↔_}
 use lib.Dec.{eqb}
-use lib.ListN.{length, take, drop, getD, length-map, length-take, length-drop}
+use lib.ListN.{length, drop, getD, length-map, length-take, length-drop}
 use lib.Seq.{drop-cons, getD-take}
 use native.Mathlib.Numerals.{add-one}
 use native.Mathlib.Omega.{arith}
@@ -13,7 +12,7 @@ use borrow.Author.Tests.{eq-eqb, ne-eqb, eqb-true, eqb-false}
 use Rattle.rules.specs.Pick.{pick}
 use Rattle.rules.specs.First.{First}
 use Rattle.rules.proofs.Firsts.{first-unique}
-use Rattle.entities.specs.Table.{noEntity, entityAt, used, findFrom, foundIn}
+use Rattle.entities.specs.Table.{entityAt, used, findFrom, foundIn}
 use Rattle.entities.specs.declared.Entity.{Entity}
 use Rattle.entities.specs.declared.Table.{Table}
 use Rattle.entities.specs.declared.Found.{Found}
@@ -65,6 +64,49 @@ found-first l id = go (findFrom 0 l id) (sought l id 0)
     go : (r : Found) → Sought l id 0 r → First (Carries l id) (length l) (placeOf (length l) r)
     go r (hit j h f) = let z : 0 + j ≡ j = omega arith in rw z f
     go r (missed f) = f
+
+-- a place that is found is one of the list's
+pub found-within : (l : List Entity) (id j : ℕ) → findFrom 0 l id ≡ At j → j < length l
+found-within l id j e = go (findFrom 0 l id) (sought l id 0) e
+  where
+    go : (r : Found) → Sought l id 0 r → r ≡ At j → j < length l
+    go r (hit k h f) q = let z : 0 + k ≡ j = cc in omega arith
+    go r (missed f) q = absurd (let z : _≡_ {A = ℕ} 0 1 = cc in omega arith)
+
+-- the place that a scan of a list finds is the one that the search finds
+pub absent : (l : List Entity) (id : ℕ) → ((i : ℕ) → i < length l → Carries l id i → ⊥) → Nothing ≡ findFrom 0 l id
+absent l id h = go (findFrom 0 l id) refl
+  where
+    go : (f : Found) → findFrom 0 l id ≡ f → Nothing ≡ f
+    go Nothing e = refl
+    go (At j) e = let w = found-within l id j e in absurd (h j w ((rw e at (found-first l id)) .here w))
+
+pub present : (l : List Entity) (id r : ℕ) → r < length l → First (Carries l id) (length l) r → At r ≡ findFrom 0 l id
+present l id r h w = go (findFrom 0 l id) refl
+  where
+    go : (f : Found) → findFrom 0 l id ≡ f → At r ≡ f
+    go Nothing e = absurd ((rw e at (found-first l id)) .before r h (w .here h))
+    go (At j) e = ap At (first-unique (Carries l id) (length l) r j w (rw e at (found-first l id)))
+
+-- ---- the scan of all the places, used and unused
+module _ (t : Table) (id r : ℕ) (size : length (t .entities) ≡ 32) (w : First (Carries (t .entities) id) (length (t .entities)) r) where
+  used-carries : (i : ℕ) → i < length (used t) → Carries (used t) id i → Carries (t .entities) id i
+  used-carries i h e = let k : i < t .count = omega (arith, simp length-take at h) in rw getD-take at e
+
+  pub lent-none : t .count ≤ r → Nothing ≡ foundIn t id
+  lent-none h = absent (used t) id (λ i k e. w .before i (omega (arith, simp length-take at k)) (used-carries i k e))
+
+  pub lent-more : 32 ≤ r → Nothing ≡ foundIn t id
+  lent-more h = absent (used t) id (λ i k e. w .before i (omega (arith, simp length-take at k)) (used-carries i k e))
+
+  pub lent-at : r < t .count → r < 32 → At r ≡ foundIn t id
+  lent-at h b =
+      present (used t) id r (simp length-take (omega arith))
+      (record {
+        within = simp length-take (omega arith);
+        before = λ i k e. w .before i k (used-carries i (simp length-take (omega arith)) e);
+        here = λ k. rw getD-take (w .here (omega arith));
+      })
 
 -- ---- the search in a table, place by place
 pub length-of : (X Y : Type 0) (f : X → Y) (l : List X) (n : ℕ) → length (map f l) ≡ n → length l ≡ n

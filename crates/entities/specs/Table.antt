@@ -1,9 +1,11 @@
 -- The entity table: what an unused place holds, and which place an ID names.
 use Prim.Native.Nat.{ℕ, suc}
+use mathlib.Core.Path.{_≡_}
 use mathlib.Core.List.{List, [], _∷_}
-use lib.ListN.{take, getD, replicate}
+use lib.ListN.{length, take, getD, replicate}
 use lib.Dec.{eqb}
 use Rattle.rules.specs.Pick.{pick}
+use Rattle.rules.specs.First.{First}
 use Rattle.entities.specs.declared.Entity.{Entity}
 use Rattle.entities.specs.declared.Table.{Table}
 use Rattle.entities.specs.declared.Found.{Found}
@@ -28,6 +30,10 @@ used t = take (t .count) (t .entities)
 unfoldable pub findFrom : ℕ → List Entity → ℕ → Found
 findFrom i [] id = Nothing
 findFrom i (e ∷ l) id = pick (eqb (e .id) id) (At i) (findFrom (suc i) l id)
+
+-- the same without a search: the first place of the list whose entity carries the ID, or the length where none does
+abbrev pub Finds : List Entity → ℕ → ℕ → Type 0
+Finds l id r = First (λ i. entityAt l i .id ≡ id) (length l) r
 
 -- finding an ID: the first used place whose entity carries it
 abbrev pub foundIn : Table → ℕ → Found

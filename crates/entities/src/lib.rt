@@ -1,6 +1,7 @@
 // The entity table of a control block: terminals and units in block order, unused places zero.
 ghost use mathlib.Core.Path.{_≡_};
-ghost use Rattle.entities.specs.Table.{foundIn, noTable};
+ghost use lib.Dec.{eqb};
+ghost use Rattle.entities.specs.Table.{foundIn, noTable, Finds};
 
 // A terminal or a unit: its ID, its subtype number, its terminal type or 0, and where its descriptor stands.
 pub struct Entity {
@@ -57,4 +58,47 @@ pub fn find(t: Table, id: u8) -> Found
         i = i + 1;
     }
     Found::Nothing
+}
+
+// The same, by the thin scan over the lent places.
+pub fn find_lent(t: Table, id: u8) -> Found
+    ensures { λ r. ⌜ r ≡ foundIn t id ⌝ }
+{
+    let n = t.count;
+    let entities = t.entities;
+    let i = scan_all(entities, id);
+    if 32 <= i {
+        return Found::Nothing;
+    }
+    if n <= i {
+        return Found::Nothing;
+    }
+    Found::At(i)
+}
+
+// The places are lent, and come back.
+fn scan_all(entities: [Entity; 32], id: u8) -> usize
+    ensures { λ r. ⌜ Finds entities id r ⌝ }
+{
+    scan(&entities, id)
+}
+
+// The first of the lent places whose entity carries the ID, or their number.
+pub fn scan(entities: &[Entity], id: u8) -> usize
+    ensures { λ r. ⌜ Finds (now (entities .entry)) id r ⌝ }
+{
+    let mut i: usize = 0;
+    while i < entities.len() {
+        if carries(entities[i], id) {
+            return i;
+        }
+        i += 1;
+    }
+    i
+}
+
+fn carries(e: Entity, id: u8) -> bool
+    ensures { λ r. ⌜ r ≡ eqb (e .id) id ⌝ }
+{
+    e.id == id
 }

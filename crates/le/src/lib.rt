@@ -1,7 +1,7 @@
 // Little-endian numbers at an offset of a slice.
 ghost use mathlib.Core.Path.{_≡_};
 ghost use Prim.Native.Nat.{_+_, _*_, _<_};
-ghost use lib.ListN.{length};
+ghost use lib.ListN.{length, getD};
 ghost use Rattle.le.specs.Le.{le16At, le32At};
 
 // A byte as a usize: asks nothing of its caller.
@@ -39,4 +39,14 @@ pub fn le32(s: &[u8], at: usize) -> u32
     ensures { λ r. ⌜ r ≡ le32At (now (s .entry)) at ⌝ }
 {
     join32(le16(s, at), le16(s, at + 2))
+}
+
+// The byte at an offset, or 0 past the end.
+pub fn byte_at(s: &[u8], at: usize) -> u8
+    ensures { λ r. ⌜ r ≡ getD (now (s .entry)) at 0 ⌝ }
+{
+    if at < s.len() {
+        return s[at];
+    }
+    0
 }

@@ -1,5 +1,7 @@
 -- The laws that every reader cites.
 pub mod Numbered
+pub mod Rows
+pub mod Ladder
 pub mod Firsts
 pub mod Padded
 pub mod Walks

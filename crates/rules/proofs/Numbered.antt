@@ -1,15 +1,20 @@
 -- The first flag that is up: it is broken, and none below it is; and the answer 0 where every flag is down.
-use Prim.Native.Nat.{ℕ, zero, suc, _≤_, _<_}
+use Prim.Native.Nat.{ℕ, zero, suc, _+_, _≤_, _<_}
 use mathlib.Core.Path.{_≡_, refl, sym}
 use mathlib.Core.List.{List, [], _∷_}
 use mathlib.Core.Bool.{Bool, true, false, true≢false}
 use mathlib.Core.Logic.{_⊎_, inl, inr, ⊎-elim, _↔_}
+use lib.ListN.{length}
 use native.Mathlib.Omega.{arith}
 use Rattle.rules.specs.Numbered.{firstFrom, Up, Down}
 
 pub up-above : (b : ℕ) (fs : List Bool) (k : ℕ) → Up b fs k → b ≤ k
 up-above b [] k u = absurd u
 up-above b (f ∷ fs) k u = ⊎-elim (λ p. omega (arith, p .0)) (λ r. omega (arith, up-above (suc b) fs k r)) u
+
+pub up-below : (b : ℕ) (fs : List Bool) (k : ℕ) → Up b fs k → k < b + length fs
+up-below b [] k u = absurd u
+up-below b (f ∷ fs) k u = ⊎-elim (λ p. omega (arith, p .0)) (λ r. omega (arith, up-below (suc b) fs k r)) u
 
 -- 0 is given where nothing is broken
 pub none-up : (b : ℕ) (fs : List Bool) → 0 < b → firstFrom b fs ≡ 0 → (k : ℕ) → Up b fs k → ⊥

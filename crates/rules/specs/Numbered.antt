@@ -1,8 +1,8 @@
 -- A numbered list of rules: a list of flags, for the rules b, b + 1, .., in which a flag is up where its rule is broken.
-use Prim.Native.Nat.{ℕ, suc}
+use Prim.Native.Nat.{ℕ, zero, suc}
 use mathlib.Core.Path.{_≡_}
 use mathlib.Core.List.{List, [], _∷_}
-use mathlib.Core.Bool.{Bool, true, false}
+use mathlib.Core.Bool.{Bool, true, false, _||_}
 use mathlib.Core.Logic.{_⊎_}
 
 -- the number, counted from b, of the first flag that is up; 0 where none is
@@ -20,3 +20,32 @@ Up b (f ∷ fs) k = ((k ≡ b) × (f ≡ true)) ⊎ Up (suc b) fs k
 abbrev pub Down : List Bool → Type 0
 Down [] = Unit {0}
 Down (f ∷ fs) = (f ≡ false) × Down fs
+
+-- Rules whose numbers do not follow each other, in the order in which they are checked.
+pub record Row : Type 0 where
+  pub number : ℕ
+  pub broken : Bool
+
+abbrev pub orElse : Bool → ℕ → ℕ → ℕ
+orElse true k r = k
+orElse false k r = r
+
+-- the number of the first that is broken, 0 where none is
+abbrev pub firstRow : List Row → ℕ
+firstRow [] = 0
+firstRow (r ∷ rs) = orElse (r .broken) (r .number) (firstRow rs)
+
+-- number k is given: its row is broken and no earlier one is
+pub data Given : List Row → ℕ → Type 0 where
+  here : (r : Row) (rs : List Row) → r .broken ≡ true → Given (r ∷ rs) (r .number)
+  later : (r : Row) (rs : List Row) (k : ℕ) → r .broken ≡ false → Given rs k → Given (r ∷ rs) k
+
+-- no row is broken
+abbrev pub NoneOf : List Row → Type 0
+NoneOf [] = Unit {0}
+NoneOf (r ∷ rs) = (r .broken ≡ false) × NoneOf rs
+
+-- a test is met at some number below n
+unfoldable pub anyBelow : ℕ → (ℕ → Bool) → Bool
+anyBelow zero f = false
+anyBelow (suc n) f = f n || anyBelow n f

@@ -1,0 +1,239 @@
+-- The bounds of each number, from the rule: none is above what rule 50 allows.
+use Prim.Native.Nat.{ℕ, zero, suc, _+_, _-_, _*_, _^_, _≤_, _<_}
+use mathlib.Core.Path.{_≡_, refl, sym, _∙_, ap}
+use mathlib.Core.Bool.{Bool, true, false, cond, not, _&&_}
+use mathlib.Core.List.{List, [], _∷_, _++_, map, append-nil}
+use mathlib.Core.Logic.{⊎-elim}
+use native.Mathlib.Omega.{arith}
+use native.Mathlib.Nat.{le-trans, add-zero, zero-add}
+use lib.Dec.{T, eqb, ltb, ltb→lt}
+use lib.ListN.{length, length-append, length-map}
+use borrow.Author.Tests.{ne-eqb}
+use Rattle.rules.proofs.Firsts.{lt-or-ge}
+use Rattle.payload.specs.declared.Opening.{Opening}
+use Rattle.payload.specs.declared.Stamp.{Stamp}
+use Rattle.payload.specs.declared.Stamp.the-variants.{Absent, At}
+use Rattle.frames.specs.declared.Reason.{Reason}
+use Rattle.frames.specs.declared.Reason.the-variants.{Gap, Error, Clock, Long, Cut, Empty}
+use Rattle.frames.specs.declared.Fault.{Fault}
+use Rattle.frames.specs.declared.Fault.the-variants.{Sound, Bad}
+use Rattle.ledger.specs.declared.Entry.{Entry}
+use Rattle.books.specs.Rule.{Call, Event, idle, unreadable, missing, readable, events, isOpen, Seen, readables, runs, frameOf, strayOf, complete, dataOf, firstStamp, fault, Item, verdict, settled, strays, judge, nothing, judged, framesOf, framesBy, loose, entryOf, entries, lineFor, lineOf, bytesIn, oneIn, partIn, total, stampList, stampsOf, stamps, noStamp, untimed, step, forward, back, between, received}
+use Rattle.books.proofs.Runs.{concat, runs-concat, Longest, runs-longest}
+use Rattle.books.proofs.Posts.{total-append}
+use Rattle.books.proofs.History.{map-append, stamps-append}
+use Rattle.books.proofs.Accounts.{loose-stamped}
+use Rattle.books.proofs.Received.{entries-bytes}
+
+total-le : (m l : Entry → ℕ) (xs : List Entry) → ((x : Entry) → m x ≤ l x) → total m xs ≤ total l xs
+total-le m l [] h = omega arith
+total-le m l (x ∷ xs) h = omega (arith, h x, total-le m l xs h)
+
+total-one : (xs : List Entry) → total (λ x. 1) xs ≡ length xs
+total-one [] = refl
+total-one (x ∷ xs) = omega (arith, total-one xs)
+
+one-le : (k : ℕ) (x : Entry) → oneIn k x ≤ 1
+one-le k x = go (eqb (lineOf x) k)
+  where
+    go : (b : Bool) → cond b 1 0 ≤ 1
+    go true = omega arith
+    go false = omega arith
+
+part-le : (k : ℕ) (x : Entry) → partIn k x ≤ bytesIn x
+part-le k x = go (eqb (lineOf x) k)
+  where
+    go : (b : Bool) → cond b (bytesIn x) 0 ≤ bytesIn x
+    go true = omega arith
+    go false = omega arith
+
+none-le : (s : Stamp) → noStamp s ≤ 1
+none-le Absent = omega arith
+none-le (At x) = omega arith
+
+untimed-le : (x : Entry) → untimed x ≤ 1
+untimed-le (Entry.Delivered d) = none-le (d .stamp)
+untimed-le (Entry.Dropped w n) = omega arith
+untimed-le (Entry.UnderWay n) = omega arith
+untimed-le (Entry.Stray n) = omega arith
+untimed-le (Entry.Unreadable n) = omega arith
+untimed-le (Entry.Headers n) = omega arith
+untimed-le Entry.Lost = omega arith
+untimed-le Entry.Idle = omega arith
+
+-- ---- a readable transfer makes at most one item
+strays-length : (ts : List Seen) → length (strays ts) ≡ length ts
+strays-length [] = refl
+strays-length (t ∷ ts) = ap suc (strays-length ts)
+
+stray-le : (ts : List Seen) → length (strayOf ts) ≤ length ts
+stray-le [] = omega arith
+stray-le (t ∷ ts) = go (t .header .eof) (stray-le ts)
+  where
+    go : (b : Bool) → length (strayOf ts) ≤ length ts → length (cond b ts (strayOf ts)) ≤ suc (length ts)
+    go true h = omega arith
+    go false h = omega arith
+
+stray-lt : (t : Seen) (ts : List Seen) → length (strayOf (t ∷ ts)) ≤ length ts
+stray-lt t ts = go (t .header .eof) (stray-le ts)
+  where
+    go : (b : Bool) → length (strayOf ts) ≤ length ts → length (cond b ts (strayOf ts)) ≤ length ts
+    go true h = omega arith
+    go false h = h
+
+judged-length : (o : Opening) (p : Bool) (rs : List (List Seen)) → Longest rs → length (judged o p rs) ≤ length (concat rs)
+judged-length o p [] h = omega arith
+judged-length o p ([] ∷ rs) h = absurd h
+judged-length o p ((t ∷ ts) ∷ rs) h =
+    omega (arith, judged-length o p rs (h .2), stray-lt t ts, strays-length (strayOf (t ∷ ts)), length-append ts (concat rs), length-append (judge o (p && nothing rs) (t ∷ ts)) (judged o p rs))
+
+readable-length : (b : Bool) (es : List Event) → length (readables b es) ≤ length es
+readable-length b [] = omega arith
+readable-length b (idle ∷ es) = omega (arith, readable-length b es)
+readable-length b (unreadable n ∷ es) = omega (arith, readable-length true es)
+readable-length b (missing ∷ es) = omega (arith, readable-length true es)
+readable-length b (readable h d ∷ es) = omega (arith, readable-length false es)
+
+frames-length : (o : Opening) (p : Bool) (es : List Event) → length (framesOf o p es) ≤ length es
+frames-length o p es = le-trans (judged-length o p (runs (readables false es)) (runs-longest (readables false es))) (rw runs-concat (readable-length false es))
+
+loose-length : (es : List Event) → length (loose es) ≡ length es
+loose-length [] = refl
+loose-length (idle ∷ es) = ap suc (loose-length es)
+loose-length (unreadable n ∷ es) = ap suc (loose-length es)
+loose-length (missing ∷ es) = ap suc (loose-length es)
+loose-length (readable h d ∷ es) = ap suc (loose-length es)
+
+-- ---- a frame's line is below 9, a loose entry's is not
+line-low : (w : Reason) → lineFor w < 9
+line-low Gap = omega arith
+line-low Error = omega arith
+line-low Clock = omega arith
+line-low Long = omega arith
+line-low Cut = omega arith
+line-low Empty = omega arith
+
+verdict-low : (w c : Bool) (q : Fault) (s : Stamp) (n : ℕ) → lineOf (verdict w c q s n) < 9
+verdict-low w true (Bad k) s n = line-low k
+verdict-low w true Sound s n = go (eqb n 0)
+  where
+    go : (b : Bool) → lineOf (cond b (Entry.Dropped Empty n) (Entry.Delivered (record { len = n; stamp = s }))) < 9
+    go true = omega arith
+    go false = omega arith
+verdict-low true false q s n = omega arith
+verdict-low false false (Bad k) s n = line-low k
+verdict-low false false Sound s n = omega arith
+
+one-none : (k : ℕ) (e : Entry) → (lineOf e ≡ k → ⊥) → oneIn k e ≡ 0
+one-none k e h = rw (ne-eqb (lineOf e) k h)
+
+module _ (k : ℕ) where
+  abbrev inItems : List Item → ℕ
+  inItems xs = total (oneIn k) (map entryOf xs)
+
+  strays-none : 8 < k → (ts : List Seen) → inItems (strays ts) ≡ 0
+  strays-none h [] = refl
+  strays-none h (t ∷ ts) = rw (one-none k (Entry.Stray (length (t .load))) (λ z. omega arith)) (zero-add _ ∙ strays-none h ts)
+
+  judged-none : 8 < k → (o : Opening) (p : Bool) (rs : List (List Seen)) → inItems (judged o p rs) ≡ 0
+  judged-none h o p [] = refl
+  judged-none h o p (r ∷ rs) =
+      let f : List Seen = frameOf r in
+      let v : Entry = verdict (p && nothing rs) (complete f) (fault o f) (firstStamp f) (length (dataOf f)) in
+      let l = verdict-low (p && nothing rs) (complete f) (fault o f) (firstStamp f) (length (dataOf f)) in
+      ap (total (oneIn k)) (map-append (judge o (p && nothing rs) r) (judged o p rs))
+      ∙ total-append (oneIn k) (map entryOf (judge o (p && nothing rs) r)) (map entryOf (judged o p rs))
+      ∙ omega (arith, one-none k v (λ z. omega arith), strays-none h (strayOf r), judged-none h o p rs)
+
+  loose-low : k < 9 → (es : List Event) → total (oneIn k) (loose es) ≡ 0
+  loose-low h [] = refl
+  loose-low h (idle ∷ es) = rw (one-none k Entry.Idle (λ z. omega arith)) (zero-add _ ∙ loose-low h es)
+  loose-low h (unreadable n ∷ es) = rw (one-none k (Entry.Unreadable n) (λ z. omega arith)) (zero-add _ ∙ loose-low h es)
+  loose-low h (missing ∷ es) = rw (one-none k Entry.Lost (λ z. omega arith)) (zero-add _ ∙ loose-low h es)
+  loose-low h (readable g d ∷ es) = rw (one-none k (Entry.Headers (g .len)) (λ z. omega arith)) (zero-add _ ∙ loose-low h es)
+
+-- ---- the bounds
+module _ (o : Opening) (cs : List Call) where
+  abbrev pub heard : ℕ
+  heard = length (events o cs)
+
+  split : (m : Entry → ℕ) → total m (entries o cs) ≡ total m (map entryOf (framesBy o cs)) + total m (loose (events o cs))
+  split m = total-append m (map entryOf (framesBy o cs)) (loose (events o cs))
+
+  in-frames : (m : Entry → ℕ) → ((x : Entry) → m x ≤ 1) → total m (map entryOf (framesBy o cs)) ≤ heard
+  in-frames m h =
+      omega (arith, total-le m (λ x. 1) (map entryOf (framesBy o cs)) h, total-one (map entryOf (framesBy o cs)), length-map (framesBy o cs) entryOf, frames-length o (isOpen cs) (events o cs))
+
+  in-loose : (m : Entry → ℕ) → ((x : Entry) → m x ≤ 1) → total m (loose (events o cs)) ≤ heard
+  in-loose m h = omega (arith, total-le m (λ x. 1) (loose (events o cs)) h, total-one (loose (events o cs)), loose-length (events o cs))
+
+  pub count-bound : (k : ℕ) → total (oneIn k) (entries o cs) ≤ heard
+  count-bound k =
+      ⊎-elim (λ h. omega (arith, split (oneIn k), loose-low k h (events o cs), in-frames (oneIn k) (one-le k)))
+      (λ h. omega (arith, split (oneIn k), judged-none k (omega arith) o (isOpen cs) (runs (readables false (events o cs))), in-loose (oneIn k) (one-le k)))
+      (lt-or-ge k 9)
+
+  loose-timed : (es : List Event) → total untimed (loose es) ≡ 0
+  loose-timed [] = refl
+  loose-timed (idle ∷ es) = zero-add _ ∙ loose-timed es
+  loose-timed (unreadable n ∷ es) = zero-add _ ∙ loose-timed es
+  loose-timed (missing ∷ es) = zero-add _ ∙ loose-timed es
+  loose-timed (readable h d ∷ es) = zero-add _ ∙ loose-timed es
+
+  pub untimed-bound : total untimed (entries o cs) ≤ heard
+  untimed-bound = omega (arith, split untimed, loose-timed (events o cs), in-frames untimed untimed-le)
+
+  -- no transfer taken is over 65,536 bytes (55)
+  pub bytes-bound : (k : ℕ) → received cs ≤ 65536 * heard → total (partIn k) (entries o cs) ≤ 65536 * heard
+  bytes-bound k h = omega (arith, total-le (partIn k) bytesIn (entries o cs) (part-le k), entries-bytes o cs)
+
+forward-le : (a b : ℕ) → forward a b ≤ 2 ^ 31
+forward-le a b = go (ltb (step a b) (2 ^ 31)) (λ h. ltb→lt (step a b) (2 ^ 31) h)
+  where
+    go : (x : Bool) → (T x → step a b < 2 ^ 31) → cond x (step a b) 0 ≤ 2 ^ 31
+    go true h = omega (arith, h tt)
+    go false h = omega arith
+
+back-le : (a b : ℕ) → back a b ≤ 1
+back-le a b = go (ltb (step a b) (2 ^ 31))
+  where
+    go : (x : Bool) → cond x 0 1 ≤ 1
+    go true = omega arith
+    go false = omega arith
+
+between-le : (f : ℕ → ℕ → ℕ) (m : ℕ) → ((a b : ℕ) → f a b ≤ m) → (l : List ℕ) → between f l ≤ m * length l
+between-le f m h [] = omega arith
+between-le f m h (a ∷ []) = omega arith
+between-le f m h (a ∷ b ∷ bs) = omega (arith, h a b, between-le f m h (b ∷ bs))
+
+list-le : (s : Stamp) → length (stampList s) ≤ 1
+list-le Absent = omega arith
+list-le (At x) = omega arith
+
+stamps-le : (x : Entry) → length (stampsOf x) ≤ 1
+stamps-le (Entry.Delivered d) = list-le (d .stamp)
+stamps-le (Entry.Dropped w n) = omega arith
+stamps-le (Entry.UnderWay n) = omega arith
+stamps-le (Entry.Stray n) = omega arith
+stamps-le (Entry.Unreadable n) = omega arith
+stamps-le (Entry.Headers n) = omega arith
+stamps-le Entry.Lost = omega arith
+stamps-le Entry.Idle = omega arith
+
+stamps-length : (xs : List Entry) → length (stamps xs) ≤ length xs
+stamps-length [] = omega arith
+stamps-length (x ∷ xs) = omega (arith, length-append (stampsOf x) (stamps xs), stamps-le x, stamps-length xs)
+
+module _ (o : Opening) (cs : List Call) where
+  framed : stamps (entries o cs) ≡ stamps (map entryOf (framesBy o cs))
+  framed = stamps-append (map entryOf (framesBy o cs)) (loose (events o cs)) ∙ ap (stamps (map entryOf (framesBy o cs)) ++_) (loose-stamped (events o cs)) ∙ append-nil _
+
+  stamped : length (stamps (entries o cs)) ≤ length (events o cs)
+  stamped =
+      rw framed (omega (arith, stamps-length (map entryOf (framesBy o cs)), length-map (framesBy o cs) entryOf, frames-length o (isOpen cs) (events o cs)))
+
+  pub ticks-bound : between forward (stamps (entries o cs)) ≤ 2 ^ 31 * length (events o cs)
+  ticks-bound = omega (arith, between-le forward (2 ^ 31) forward-le (stamps (entries o cs)), stamped)
+
+  pub backward-bound : between back (stamps (entries o cs)) ≤ length (events o cs)
+  backward-bound = omega (arith, between-le back 1 back-le (stamps (entries o cs)), stamped)

@@ -1,0 +1,142 @@
+-- The first run, and what is left of the list after it; and the rule on a list whose first run is part read.
+use Prim.Native.Nat.{ℕ, zero, suc, _+_}
+use mathlib.Core.Path.{_≡_, refl, sym, _∙_, ap}
+use mathlib.Core.Bool.{Bool, true, false, cond, not, _&&_, _||_, Bool·beq}
+use mathlib.Core.List.{List, [], _∷_, _++_, append-assoc, append-nil}
+use native.Mathlib.Nat.{add-zero, zero-add, add-assoc}
+use native.Mathlib.Omega.{arith}
+use lib.ListN.{length, length-append}
+use lib.Dec.{ltb, eqb}
+use borrow.Author.Tests.{eq-eqb}
+use Rattle.rules.specs.Pick.{pick}
+use Rattle.payload.specs.declared.Opening.{Opening}
+use Rattle.payload.specs.declared.Header.{Header}
+use Rattle.payload.specs.declared.Stamp.{Stamp}
+use Rattle.payload.specs.declared.Stamp.the-variants.{Absent, At}
+use Rattle.frames.specs.declared.Reason.{Reason}
+use Rattle.frames.specs.declared.Reason.the-variants.{Gap, Error, Clock, Long, Cut, Empty}
+use Rattle.frames.specs.declared.Fault.{Fault}
+use Rattle.frames.specs.declared.Fault.the-variants.{Sound, Bad}
+use Rattle.frames.specs.declared.Run.{Run}
+use Rattle.frames.specs.declared.Phase.{Phase}
+use Rattle.frames.specs.declared.Phase.the-variants.{Fresh, Under, Past}
+use Rattle.frames.specs.declared.Fate.{Fate}
+use Rattle.frames.specs.Track.{firstOf, clashOf, earlierOf, faultOf, joinedOf, completeOf, fateOf, phaseOf}
+use Rattle.ledger.specs.declared.Entry.{Entry}
+use Rattle.books.specs.Rule.{Seen, same, ahead, runs, frameOf, strayOf, complete, dataOf, _orStamp_, firstStamp, _or_, when, differs, faultAt, gapAfter, faultFrom, Item, verdict, settled, strays, judge, nothing, judged}
+use Rattle.books.specs.Demands.{fateItems}
+
+abbrev pub first : Bool → List Seen → List Seen
+first f [] = []
+first f (t ∷ ts) = cond (Bool·beq f (t .header .fid)) (t ∷ first f ts) []
+
+abbrev pub later : Bool → List Seen → List Seen
+later f [] = []
+later f (t ∷ ts) = cond (Bool·beq f (t .header .fid)) (later f ts) (t ∷ ts)
+
+pub runs-cut : (t : Seen) (ts : List Seen) → runs (t ∷ ts) ≡ (t ∷ first (t .header .fid) ts) ∷ runs (later (t .header .fid) ts)
+runs-cut t [] = refl
+runs-cut t (u ∷ us) = ap (ahead t) (runs-cut u us) ∙ go (t .header .fid) (u .header .fid) (runs-cut u us)
+  where
+    go : (f g : Bool) → runs (u ∷ us) ≡ (u ∷ first g us) ∷ runs (later g us)
+        → cond (Bool·beq f g) ((t ∷ u ∷ first g us) ∷ runs (later g us)) ((t ∷ []) ∷ (u ∷ first g us) ∷ runs (later g us))
+        ≡ (t ∷ cond (Bool·beq f g) (u ∷ first f us) []) ∷ runs (cond (Bool·beq f g) (later f us) (u ∷ us))
+    go true true e = refl
+    go false false e = refl
+    go true false e = ap ((t ∷ []) ∷_) (sym e)
+    go false true e = ap ((t ∷ []) ∷_) (sym e)
+
+-- what is owed of a frame part read: its fault so far q, its data so far D, its first stamp s; r is the rest of its run, rs the runs after it
+abbrev pub cont : Opening → Bool → Fault → List ℕ → Stamp → List Seen → List (List Seen) → List Item
+cont o p q D s r rs =
+    settled (p && nothing rs) (complete (frameOf r)) (q or faultFrom o (s orStamp firstStamp (frameOf r)) (length D) (frameOf r)) (s orStamp firstStamp (frameOf r)) (D ++ dataOf (frameOf r))
+    ∷ (strays (strayOf r) ++ judged o p rs)
+
+abbrev pub pass : Opening → Bool → List Seen → List (List Seen) → List Item
+pass o p r rs = strays r ++ judged o p rs
+
+-- the same by phase: a is whether an unreadable or lost transfer comes before the next readable one
+abbrev pub onward : Opening → Bool → Phase → Bool → List ℕ → List Seen → List (List Seen) → List Item
+onward o p Fresh a D r rs = judged o p rs
+onward o p (Past f) a D r rs = pass o p r rs
+onward o p (Under x) a D r rs = cont o p (x .fault or when a Gap) D (x .stamp) r rs
+
+or-assoc : (x y z : Fault) → x or (y or z) ≡ (x or y) or z
+or-assoc Sound y z = refl
+or-assoc (Bad w) y z = refl
+
+pub or-sound : (x : Fault) → x or Sound ≡ x
+or-sound Sound = refl
+or-sound (Bad w) = refl
+
+stamp-assoc : (x y z : Stamp) → x orStamp (y orStamp z) ≡ (x orStamp y) orStamp z
+stamp-assoc Absent y z = refl
+stamp-assoc (At w) y z = refl
+
+stamp-absent : (x : Stamp) → x orStamp Absent ≡ x
+stamp-absent Absent = refl
+stamp-absent (At w) = refl
+
+-- the tracker's words and the rule's
+pub first-or : (q : Fault) (b : Bool) (w : Reason) → firstOf q b w ≡ q or when b w
+first-or (Bad v) b w = refl
+first-or Sound true w = refl
+first-or Sound false w = refl
+
+earlier-or : (s t : Stamp) → earlierOf s t ≡ s orStamp t
+earlier-or Absent t = refl
+earlier-or (At x) t = refl
+
+-- a stamp is held to the frame's first, whether that came before it or is its own
+clash-or : (s t z : Stamp) → clashOf s t ≡ differs (s orStamp (t orStamp z)) t
+clash-or Absent Absent z = refl
+clash-or Absent (At x) z = rw (eq-eqb x x refl)
+clash-or (At y) Absent z = refl
+clash-or (At y) (At x) z = refl
+
+fault-or : (o : Opening) (x : Run) (h : Header) (d : ℕ) (z : Stamp) → faultOf o x h d ≡ x .fault or faultAt o (x .stamp orStamp (h .stamp orStamp z)) (x .bytes) h d
+fault-or o x h d z =
+    first-or (firstOf (firstOf (x .fault) (h .error) Error) (clashOf (x .stamp) (h .stamp)) Clock) (ltb (o .frame) (x .bytes + d)) Long
+    ∙ ap (λ y. y or l) (first-or (firstOf (x .fault) (h .error) Error) (clashOf (x .stamp) (h .stamp)) Clock
+    ∙ ap (λ y. y or when (clashOf (x .stamp) (h .stamp)) Clock) (first-or (x .fault) (h .error) Error)
+    ∙ ap (λ b. (x .fault or when (h .error) Error) or when b Clock) (clash-or (x .stamp) (h .stamp) z))
+    ∙ sym (or-assoc (x .fault or when (h .error) Error) c l)
+    ∙ sym (or-assoc (x .fault) (when (h .error) Error) (c or l))
+  where
+    l : Fault
+    l = when (ltb (o .frame) (x .bytes + d)) Long
+
+    c : Fault
+    c = when (differs (x .stamp orStamp (h .stamp orStamp z)) (h .stamp)) Clock
+
+module _ (o : Opening) (p : Bool) (r : List Seen) (rs : List (List Seen)) where
+  -- a complete frame
+  end-law : (q : Fault) (s : Stamp) (n : ℕ) (D : List ℕ) (way : Bool) (rest : List Item) → n ≡ length D
+      → settled way true q s D ∷ rest ≡ fateItems (completeOf q n s) n D ++ rest
+  unfolding pick
+  end-law (Bad w) s n D way rest e = rw e
+  end-law Sound s n D way rest e = rw e (go (eqb (length D) 0))
+    where
+      go : (b : Bool) → record { entry = cond b (Entry.Dropped Empty (length D)) (Entry.Delivered (record { len = length D; stamp = s })); load = D } ∷ rest
+          ≡ fateItems (pick b (Fate.Dropped Empty) (Fate.Delivered (record { len = length D; stamp = s }))) (length D) D ++ rest
+      go true = refl
+      go false = refl
+
+  -- one readable transfer of the frame's own run
+  pub take-law : (f : Bool) (q : Fault) (n m : ℕ) (s : Stamp) (D : List ℕ) (k : ℕ) (g e i : Bool) (st : Stamp) (d : List ℕ) (b a : Bool) → n ≡ length D
+      → let x : Run = record { fid = f; fault = q; bytes = n; fill = m; stamp = s } in
+      let h : Header = record { len = k; fid = g; eof = e; error = i; stamp = st } in
+      cont o p q D s (record { header = h; load = d; before = b; after = a } ∷ r) rs
+      ≡ fateItems (fateOf e (joinedOf o x h (length d))) (n + length d) (D ++ d) ++ onward o p (phaseOf e (joinedOf o x h (length d))) a (D ++ d) r rs
+  take-law f q n m s D k g false i st d b a u =
+      let x : Run = record { fid = f; fault = q; bytes = n; fill = m; stamp = s } in
+      let h : Header = record { len = k; fid = g; eof = false; error = i; stamp = st } in
+      let z : Stamp = firstStamp (frameOf r) in
+      let S : Stamp = s orStamp (st orStamp z) in
+      rw (fault-or o x h (length d) z, earlier-or s st, ← stamp-assoc s st z, ← or-assoc (q or faultAt o S n h (length d)) (when a Gap) _, ← or-assoc q (faultAt o S n h (length d)) _, length-append D d, append-assoc D d _, u)
+  take-law f q n m s D k g true i st d b a u =
+      let x : Run = record { fid = f; fault = q; bytes = n; fill = m; stamp = s } in
+      let h : Header = record { len = k; fid = g; eof = true; error = i; stamp = st } in
+      let S : Stamp = s orStamp (st orStamp Absent) in
+      rw (fault-or o x h (length d) Absent, earlier-or s st, append-nil d, or-sound (faultAt o S (length D) h (length d)), u, stamp-absent st)
+      (end-law (q or faultAt o (s orStamp st) (length D) h (length d)) (s orStamp st) (length D + length d) (D ++ d) (p && nothing rs) (strays r ++ judged o p rs) (sym (length-append D d)))

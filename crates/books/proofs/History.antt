@@ -1,0 +1,282 @@
+-- Over all the calls taken: the items that the answers enter are the rule's, and the ledger is what they post.
+use Prim.Native.Nat.{ℕ, zero, suc, _+_, _-_}
+use mathlib.Core.Path.{_≡_, refl, sym, _∙_, ap}
+use mathlib.Core.Bool.{Bool, true, false, cond, _&&_}
+use mathlib.Core.List.{List, [], _∷_, _++_, map, append-assoc, append-nil}
+use native.Mathlib.Nat.{add-zero, zero-add}
+use native.Mathlib.Omega.{arith}
+use lib.ListN.{length, drop, length-drop}
+use Rattle.rules.specs.Pick.{pick}
+use Rattle.payload.specs.declared.Opening.{Opening}
+use Rattle.payload.specs.declared.Header.{Header}
+use Rattle.payload.specs.declared.Reading.{Reading}
+use Rattle.payload.specs.declared.Reading.the-variants.{Idle, Unreadable, Readable}
+use Rattle.payload.specs.Transfer.{readingOf}
+use Rattle.frames.specs.declared.Fault.{Fault}
+use Rattle.frames.specs.declared.Fault.the-variants.{Sound, Bad}
+use Rattle.frames.specs.declared.Reason.the-variants.{Cut}
+use Rattle.frames.specs.declared.Phase.{Phase}
+use Rattle.frames.specs.declared.Phase.the-variants.{Fresh, Under, Past}
+use Rattle.frames.specs.declared.Ended.{Ended}
+use Rattle.frames.specs.declared.Ended.the-variants.{Nothing, Frame}
+use Rattle.frames.specs.declared.Fate.{Fate}
+use Rattle.frames.specs.declared.Answer.{Answer}
+use Rattle.frames.specs.declared.Turn.{Turn}
+use Rattle.frames.specs.Track.{sameOf, begunOf, joinTurn, strayTurn, turnBy, turnOf, spoiltBy, spoiltOf, closedBy, closedOf, whyOf}
+use Rattle.ledger.specs.declared.Entry.{Entry}
+use Rattle.ledger.specs.declared.Ledger.{Ledger}
+use Rattle.ledger.specs.Ledger.{postOf, endedOf, fatedOf, answeredOf}
+use Rattle.session.specs.declared.Session.{Session}
+use Rattle.session.specs.Session.{readOf, tookBy, tookOf, missedOf, shutOf}
+use Rattle.books.specs.Rule.{Call, Event, idle, unreadable, missing, readable, eventBy, events, isOpen, _or_, Item, entryOf, loose, total, stamps, stampsOf}
+use Rattle.books.specs.Calls.{nextCall, run}
+use Rattle.books.specs.Demands.{endedItems, fateItems}
+use Rattle.books.proofs.Made.{base, turnItems, Framed, turn-framed}
+use Rattle.books.proofs.Cut.{cont}
+use Rattle.books.proofs.Owed.{owed, Holds, read-law, idle-law, spoil-law, unread-law, spoil-holds, read-holds}
+use Rattle.books.proofs.Posts.{posts, posts-append, total-append}
+use Rattle.books.proofs.Taken.{Last, Proper}
+
+-- ---- what one call enters, with the data so far
+abbrev pub itemsBy : Reading → Session → List ℕ → List ℕ → List Item
+itemsBy Idle s D t = []
+itemsBy (Unreadable k) s D t = []
+itemsBy (Readable h) s D t =
+    turnItems (turnOf (s .opening) (s .track) h (length t - h .len)) D (base (s .track .phase) (h .fid) D ++ drop (h .len) t)
+
+abbrev pub dataBy : Reading → Session → List ℕ → List ℕ → List ℕ
+dataBy Idle s D t = D
+dataBy (Unreadable k) s D t = D
+dataBy (Readable h) s D t = base (s .track .phase) (h .fid) D ++ drop (h .len) t
+
+abbrev pub callItems : Session → List ℕ → Call → List Item
+callItems s D (Call.transfer t) = itemsBy (readingOf (s .opening) t) s D t
+callItems s D Call.lost = []
+callItems s D Call.close = endedItems (closedOf (s .track) .ended) (closedOf (s .track) .gone) D
+
+abbrev pub dataNext : Session → List ℕ → Call → List ℕ
+dataNext s D (Call.transfer t) = dataBy (readingOf (s .opening) t) s D t
+dataNext s D Call.lost = D
+dataNext s D Call.close = D
+
+abbrev pub items : Session → List ℕ → List Call → List Item
+items s D [] = []
+items s D (c ∷ cs) = callItems s D c ++ items (nextCall s c) (dataNext s D c) cs
+
+abbrev pub dataRun : Session → List ℕ → List Call → List ℕ
+dataRun s D [] = D
+dataRun s D (c ∷ cs) = dataRun (nextCall s c) (dataNext s D c) cs
+
+-- the frame under way
+abbrev pub afoot : Phase → List ℕ → List Item
+afoot Fresh D = []
+afoot (Past f) D = []
+afoot (Under x) D = record { entry = Entry.UnderWay (x .bytes); load = D } ∷ []
+
+-- ---- nothing more to come
+open-end : (o : Opening) (ph : Phase) (b : Bool) (D : List ℕ) → Holds ph D → owed o true ph b D [] ≡ afoot ph D
+open-end o Fresh b D e = refl
+open-end o (Past f) b D e = refl
+open-end o (Under x) b D e = rw (append-nil D, e)
+
+close-end : (o : Opening) (ph : Phase) (b : Bool) (D : List ℕ) → Holds ph D → owed o false ph b D [] ≡ endedItems (closedBy ph b .ended) (closedBy ph b .gone) D
+close-end o Fresh b D e = refl
+close-end o (Past f) b D e = refl
+close-end o (Under x) b D e = go (x .fault)
+  where
+    go : (q : Fault) → cont o false (q or Sound) D (x .stamp) [] [] ≡ endedItems (Frame (whyOf q Cut)) (x .bytes) D
+    go Sound = rw (append-nil D, e)
+    go (Bad w) = rw (append-nil D, e)
+
+closed-afoot : (ph : Phase) (b : Bool) (D : List ℕ) → afoot (closedBy ph b .track .phase) D ≡ []
+closed-afoot Fresh b D = refl
+closed-afoot (Past f) b D = refl
+closed-afoot (Under x) b D = refl
+
+turn-gap : (o : Opening) (h : Header) (n : ℕ) (ph : Phase) (b : Bool) → turnBy ph o b h n .track .gap ≡ false
+unfolding pick
+turn-gap o h n Fresh b = refl
+turn-gap o h n (Past f) b = go (sameOf f (h .fid))
+  where
+    go : (c : Bool) → pick c (strayTurn f n) (joinTurn o (begunOf b (h .fid)) h n Nothing 0) .track .gap ≡ false
+    go true = refl
+    go false = refl
+turn-gap o h n (Under x) b = go (sameOf (x .fid) (h .fid))
+  where
+    go : (c : Bool) → pick c (joinTurn o x h n Nothing 0) (joinTurn o (begunOf b (h .fid)) h n (Frame (whyOf (x .fault) Cut)) (x .bytes)) .track .gap ≡ false
+    go true = refl
+    go false = refl
+
+-- ---- the items are the rule's
+abbrev Right : Session → List ℕ → List Call → Type 0
+Right s D cs =
+    owed (s .opening) (isOpen cs) (s .track .phase) (s .track .gap) D (events (s .opening) cs)
+    ≡ items s D cs ++ afoot (run s cs .track .phase) (dataRun s D cs)
+
+read-right : (s : Session) (D : List ℕ) (t : List ℕ) (h : Header) (p : Bool) (es : List Event) → Holds (s .track .phase) D
+    → owed (s .opening) p (s .track .phase) (s .track .gap) D (readable h (drop (h .len) t) ∷ es)
+    ≡ itemsBy (Readable h) s D t ++ owed (s .opening) p (readOf s h (length t - h .len) .session .track .phase) (readOf s h (length t - h .len) .session .track .gap) (dataBy (Readable h) s D t) es
+unfolding turnOf readOf
+read-right s D t h p es e =
+    rw (turn-gap (s .opening) h (length t - h .len) (s .track .phase) (s .track .gap), ← length-drop (h .len) t)
+    (read-law (s .opening) p h (drop (h .len) t) es (s .track .phase) (s .track .gap) D e)
+
+pub read-keeps : (s : Session) (D : List ℕ) (t : List ℕ) (h : Header) → Holds (s .track .phase) D → Holds (readOf s h (length t - h .len) .session .track .phase) (dataBy (Readable h) s D t)
+unfolding turnOf readOf
+read-keeps s D t h e = rw (← length-drop (h .len) t) (read-holds (s .opening) h (drop (h .len) t) (s .track .phase) (s .track .gap) D e)
+
+transfer-right : (s : Session) (D t : List ℕ) (cs : List Call) (r : Reading) → Holds (s .track .phase) D
+    → (Holds (tookBy r s t .session .track .phase) (dataBy r s D t) → Right (tookBy r s t .session) (dataBy r s D t) cs)
+    → owed (s .opening) (isOpen cs) (s .track .phase) (s .track .gap) D (eventBy r t ∷ events (s .opening) cs)
+    ≡ (itemsBy r s D t ++ items (tookBy r s t .session) (dataBy r s D t) cs) ++ afoot (run (tookBy r s t .session) cs .track .phase) (dataRun (tookBy r s t .session) (dataBy r s D t) cs)
+unfolding spoiltOf readOf
+transfer-right s D t cs Idle e rec = idle-law (s .opening) (isOpen cs) (s .track .phase) (s .track .gap) D (events (s .opening) cs) ∙ rec e
+transfer-right s D t cs (Unreadable k) e rec =
+    unread-law (s .opening) (isOpen cs) (s .track .phase) (s .track .gap) D (length t) (events (s .opening) cs)
+    ∙ spoil-law (s .opening) (isOpen cs) (s .track .phase) (s .track .gap) D (events (s .opening) cs)
+    ∙ rec (spoil-holds (s .track .phase) D e)
+transfer-right s D t cs (Readable h) e rec =
+    read-right s D t h (isOpen cs) (events (s .opening) cs) e
+    ∙ ap (itemsBy (Readable h) s D t ++_) (rec (read-keeps s D t h e))
+    ∙ sym (append-assoc (itemsBy (Readable h) s D t) _ _)
+
+pub items-right : (cs : List Call) (s : Session) (D : List ℕ) → Proper cs → Holds (s .track .phase) D → Right s D cs
+unfolding tookOf spoiltOf closedOf
+items-right [] s D p e = open-end (s .opening) (s .track .phase) (s .track .gap) D e
+items-right (Call.transfer t ∷ cs) s D p e =
+    transfer-right s D t cs (readingOf (s .opening) t) e (λ f. items-right cs (tookOf s t .session) (dataNext s D (Call.transfer t)) p f)
+items-right (Call.lost ∷ cs) s D p e =
+    spoil-law (s .opening) (isOpen cs) (s .track .phase) (s .track .gap) D (events (s .opening) cs)
+    ∙ items-right cs (missedOf s) D p (spoil-holds (s .track .phase) D e)
+items-right (Call.close ∷ []) s D p e =
+    close-end (s .opening) (s .track .phase) (s .track .gap) D e
+    ∙ sym (rw (closed-afoot (s .track .phase) (s .track .gap) D) (append-nil _ ∙ append-nil _))
+items-right (Call.close ∷ (c ∷ cs)) s D p e = absurd p
+
+-- ---- the ledger is what the items and the loose entries post
+abbrev looseBy : Reading → List ℕ → List Entry
+looseBy Idle t = Entry.Idle ∷ []
+looseBy (Unreadable k) t = Entry.Unreadable (length t) ∷ []
+looseBy (Readable h) t = Entry.Headers (h .len) ∷ []
+
+abbrev callLoose : Session → Call → List Entry
+callLoose s (Call.transfer t) = looseBy (readingOf (s .opening) t) t
+callLoose s Call.lost = Entry.Lost ∷ []
+callLoose s Call.close = []
+
+-- what a call posts, in its order
+abbrev callPosted : Session → List ℕ → Call → List Entry
+callPosted s D c = callLoose s c ++ map entryOf (callItems s D c)
+
+abbrev pub posted : Session → List ℕ → List Call → List Entry
+posted s D [] = []
+posted s D (c ∷ cs) = callPosted s D c ++ posted (nextCall s c) (dataNext s D c) cs
+
+ended-posts : (l : Ledger) (e : Ended) (g : ℕ) (D : List ℕ) → endedOf l e g ≡ posts l (map entryOf (endedItems e g D))
+ended-posts l Nothing g D = refl
+ended-posts l (Frame w) g D = refl
+
+fated-posts : (l : Ledger) (f : Fate) (n : ℕ) (D : List ℕ) → Framed f → fatedOf l f n ≡ posts l (map entryOf (fateItems f n D))
+fated-posts l Fate.Idle n D h = absurd h
+fated-posts l Fate.Kept n D h = refl
+fated-posts l Fate.Stray n D h = refl
+fated-posts l (Fate.Delivered d) n D h = refl
+fated-posts l (Fate.Dropped w) n D h = refl
+fated-posts l (Fate.Unreadable k) n D h = absurd h
+
+pub map-append : (xs ys : List Item) → map entryOf (xs ++ ys) ≡ map entryOf xs ++ map entryOf ys
+map-append [] ys = refl
+map-append (x ∷ xs) ys = ap (entryOf x ∷_) (map-append xs ys)
+
+answered-posts : (l : Ledger) (a : Answer) (g n : ℕ) (D E : List ℕ) → Framed (a .fate) → answeredOf l a g n ≡ posts l (map entryOf (endedItems (a .ended) g D ++ fateItems (a .fate) n E))
+answered-posts l a g n D E h =
+    fated-posts (endedOf l (a .ended) g) (a .fate) n E h
+    ∙ ap (λ (x : Ledger). posts x (map entryOf (fateItems (a .fate) n E))) (ended-posts l (a .ended) g D)
+    ∙ sym (ap (posts l) (map-append (endedItems (a .ended) g D) (fateItems (a .fate) n E)) ∙ posts-append l (map entryOf (endedItems (a .ended) g D)) (map entryOf (fateItems (a .fate) n E)))
+
+took-posts : (s : Session) (D t : List ℕ) (r : Reading) → tookBy r s t .session .ledger ≡ posts (s .ledger) (looseBy r t ++ map entryOf (itemsBy r s D t))
+unfolding readOf turnOf
+took-posts s D t Idle = refl
+took-posts s D t (Unreadable k) = refl
+took-posts s D t (Readable h) =
+    let T : Turn = turnOf (s .opening) (s .track) h (length t - h .len) in
+    answered-posts (postOf (s .ledger) (Entry.Headers (h .len))) (T .answer) (T .gone) (T .bytes) D (dataBy (Readable h) s D t)
+    (turn-framed (s .opening) h (length t - h .len) (s .track .phase) (s .track .gap))
+
+call-posts : (s : Session) (D : List ℕ) (c : Call) → nextCall s c .ledger ≡ posts (s .ledger) (callPosted s D c)
+unfolding tookOf
+call-posts s D (Call.transfer t) = took-posts s D t (readingOf (s .opening) t)
+call-posts s D Call.lost = refl
+call-posts s D Call.close = ended-posts (s .ledger) (closedOf (s .track) .ended) (closedOf (s .track) .gone) D
+
+pub run-posts : (cs : List Call) (s : Session) (D : List ℕ) → run s cs .ledger ≡ posts (s .ledger) (posted s D cs)
+run-posts [] s D = refl
+run-posts (c ∷ cs) s D =
+    run-posts cs (nextCall s c) (dataNext s D c)
+    ∙ ap (λ (l : Ledger). posts l (posted (nextCall s c) (dataNext s D c) cs)) (call-posts s D c)
+    ∙ sym (posts-append (s .ledger) (callPosted s D c) (posted (nextCall s c) (dataNext s D c) cs))
+
+-- ---- and they are the same entries in another order
+took-opening : (s : Session) (t : List ℕ) (r : Reading) → tookBy r s t .session .opening ≡ s .opening
+unfolding readOf
+took-opening s t Idle = refl
+took-opening s t (Unreadable k) = refl
+took-opening s t (Readable h) = refl
+
+pub next-opening : (s : Session) (c : Call) → nextCall s c .opening ≡ s .opening
+unfolding tookOf
+next-opening s (Call.transfer t) = took-opening s t (readingOf (s .opening) t)
+next-opening s Call.lost = refl
+next-opening s Call.close = refl
+
+loose-one : (o : Opening) (s : Session) (c : Call) (cs : List Call) → s .opening ≡ o → Proper (c ∷ cs) → loose (events o (c ∷ cs)) ≡ callLoose s c ++ loose (events o cs)
+loose-one o s (Call.transfer t) cs e p = rw e (go (readingOf o t))
+  where
+    go : (r : Reading) → loose (eventBy r t ∷ events o cs) ≡ looseBy r t ++ loose (events o cs)
+    go Idle = refl
+    go (Unreadable k) = refl
+    go (Readable h) = refl
+loose-one o s Call.lost cs e p = refl
+loose-one o s Call.close [] e p = refl
+loose-one o s Call.close (c ∷ cs) e p = absurd p
+
+pub proper-rest : (c : Call) (cs : List Call) → Proper (c ∷ cs) → Proper cs
+proper-rest (Call.transfer t) cs p = p
+proper-rest Call.lost cs p = p
+proper-rest Call.close [] p = tt
+proper-rest Call.close (c ∷ cs) p = absurd p
+
+pub posted-total : (m : Entry → ℕ) (o : Opening) (cs : List Call) (s : Session) (D : List ℕ) → s .opening ≡ o → Proper cs
+    → total m (posted s D cs) ≡ total m (map entryOf (items s D cs)) + total m (loose (events o cs))
+posted-total m o [] s D e p = refl
+posted-total m o (c ∷ cs) s D e p =
+    let a : ℕ = total m (callLoose s c) in
+    let b : ℕ = total m (map entryOf (callItems s D c)) in
+    let q = total-append m (callPosted s D c) (posted (nextCall s c) (dataNext s D c) cs) in
+    let r = total-append m (callLoose s c) (map entryOf (callItems s D c)) in
+    let i = posted-total m o cs (nextCall s c) (dataNext s D c) (next-opening s c ∙ e) (proper-rest c cs p) in
+    let u = ap (total m) (map-append (callItems s D c) (items (nextCall s c) (dataNext s D c) cs)) ∙ total-append m (map entryOf (callItems s D c)) (map entryOf (items (nextCall s c) (dataNext s D c) cs)) in
+    let v = ap (total m) (loose-one o s c cs e p) ∙ total-append m (callLoose s c) (loose (events o cs)) in
+    omega arith
+
+pub stamps-append : (xs ys : List Entry) → stamps (xs ++ ys) ≡ stamps xs ++ stamps ys
+stamps-append [] ys = refl
+stamps-append (x ∷ xs) ys = ap (stampsOf x ++_) (stamps-append xs ys) ∙ sym (append-assoc (stampsOf x) (stamps xs) (stamps ys))
+
+loose-stamps : (s : Session) (c : Call) → stamps (callLoose s c) ≡ []
+loose-stamps s (Call.transfer t) = go (readingOf (s .opening) t)
+  where
+    go : (r : Reading) → stamps (looseBy r t) ≡ []
+    go Idle = refl
+    go (Unreadable k) = refl
+    go (Readable h) = refl
+loose-stamps s Call.lost = refl
+loose-stamps s Call.close = refl
+
+pub posted-stamps : (cs : List Call) (s : Session) (D : List ℕ) → stamps (posted s D cs) ≡ stamps (map entryOf (items s D cs))
+posted-stamps [] s D = refl
+posted-stamps (c ∷ cs) s D =
+    stamps-append (callPosted s D c) (posted (nextCall s c) (dataNext s D c) cs)
+    ∙ ap (λ (x : List ℕ). x ++ stamps (posted (nextCall s c) (dataNext s D c) cs)) (stamps-append (callLoose s c) (map entryOf (callItems s D c)) ∙ ap (λ (x : List ℕ). x ++ stamps (map entryOf (callItems s D c))) (loose-stamps s c))
+    ∙ ap (stamps (map entryOf (callItems s D c)) ++_) (posted-stamps cs (nextCall s c) (dataNext s D c))
+    ∙ sym (ap stamps (map-append (callItems s D c) (items (nextCall s c) (dataNext s D c) cs)) ∙ stamps-append (map entryOf (callItems s D c)) (map entryOf (items (nextCall s c) (dataNext s D c) cs)))

@@ -1,0 +1,66 @@
+-- What the tracker's turn enters, with the data D that the frame under way has had so far and the data E that the transfer's frame has with it.
+use Prim.Native.Nat.{ℕ, _+_}
+use mathlib.Core.Bool.{Bool, true, false, cond, Bool·beq}
+use mathlib.Core.List.{List, [], _++_}
+use lib.Dec.{eqb}
+use Rattle.rules.specs.Pick.{pick}
+use Rattle.payload.specs.declared.Opening.{Opening}
+use Rattle.payload.specs.declared.Header.{Header}
+use Rattle.payload.specs.declared.Stamp.{Stamp}
+use Rattle.frames.specs.declared.Reason.the-variants.{Cut, Empty}
+use Rattle.frames.specs.declared.Fault.{Fault}
+use Rattle.frames.specs.declared.Fault.the-variants.{Sound, Bad}
+use Rattle.frames.specs.declared.Run.{Run}
+use Rattle.frames.specs.declared.Ended.the-variants.{Nothing, Frame}
+use Rattle.frames.specs.declared.Fate.{Fate}
+use Rattle.frames.specs.declared.Phase.{Phase}
+use Rattle.frames.specs.declared.Phase.the-variants.{Fresh, Under, Past}
+use Rattle.frames.specs.declared.Turn.{Turn}
+use Rattle.frames.specs.Track.{sameOf, whyOf, begunOf, joinedOf, completeOf, fateOf, joinTurn, strayTurn, turnBy}
+use Rattle.books.specs.Rule.{Item}
+use Rattle.books.specs.Demands.{endedItems, fateItems}
+
+-- the data that the frame of a transfer with this FID has had before it
+abbrev pub base : Phase → Bool → List ℕ → List ℕ
+base Fresh fid D = []
+base (Under r) fid D = cond (Bool·beq (r .fid) fid) D []
+base (Past f) fid D = []
+
+abbrev pub turnItems : Turn → List ℕ → List ℕ → List Item
+turnItems t D E = endedItems (t .answer .ended) (t .gone) D ++ fateItems (t .answer .fate) (t .bytes) E
+
+-- a turn's fate is that of a readable transfer
+abbrev pub Framed : Fate → Type 0
+Framed Fate.Idle = ⊥
+Framed Fate.Kept = Unit {0}
+Framed Fate.Stray = Unit {0}
+Framed (Fate.Delivered d) = Unit {0}
+Framed (Fate.Dropped w) = Unit {0}
+Framed (Fate.Unreadable k) = ⊥
+
+complete-framed : (q : Fault) (n : ℕ) (s : Stamp) → Framed (completeOf q n s)
+unfolding pick
+complete-framed (Bad w) n s = tt
+complete-framed Sound n s = go (eqb n 0)
+  where
+    go : (b : Bool) → Framed (pick b (Fate.Dropped Empty) (Fate.Delivered (record { len = n; stamp = s })))
+    go true = tt
+    go false = tt
+
+fate-framed : (e : Bool) (x : Run) → Framed (fateOf e x)
+fate-framed true x = complete-framed (x .fault) (x .bytes) (x .stamp)
+fate-framed false x = tt
+
+pub turn-framed : (o : Opening) (h : Header) (n : ℕ) (ph : Phase) (b : Bool) → Framed (turnBy ph o b h n .answer .fate)
+unfolding pick
+turn-framed o h n Fresh b = fate-framed (h .eof) (joinedOf o (begunOf b (h .fid)) h n)
+turn-framed o h n (Past f) b = go (sameOf f (h .fid))
+  where
+    go : (c : Bool) → Framed (pick c (strayTurn f n) (joinTurn o (begunOf b (h .fid)) h n Nothing 0) .answer .fate)
+    go true = tt
+    go false = fate-framed (h .eof) (joinedOf o (begunOf b (h .fid)) h n)
+turn-framed o h n (Under x) b = go (sameOf (x .fid) (h .fid))
+  where
+    go : (c : Bool) → Framed (pick c (joinTurn o x h n Nothing 0) (joinTurn o (begunOf b (h .fid)) h n (Frame (whyOf (x .fault) Cut)) (x .bytes)) .answer .fate)
+    go true = fate-framed (h .eof) (joinedOf o x h n)
+    go false = fate-framed (h .eof) (joinedOf o (begunOf b (h .fid)) h n)

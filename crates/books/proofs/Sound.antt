@@ -1,0 +1,206 @@
+-- A session reached from a fresh one is never refused by 50.
+use Prim.Native.Nat.{ℕ, zero, suc, _+_, _-_, _*_, _^_, _≤_, _<_}
+use mathlib.Core.Path.{_≡_, refl, sym, _∙_, ap, subst}
+use mathlib.Core.Bool.{Bool, true, false, not, _||_}
+use mathlib.Core.List.{List, [], _∷_, _++_}
+use native.Mathlib.Omega.{arith}
+use lib.ListN.{length}
+use lib.Dec.{ltb, eqb}
+use borrow.Author.Tests.{le-ltb, eq-eqb, ltb-false}
+use Rattle.rules.specs.Pick.{pick}
+use Rattle.rules.specs.Numbered.{Row, firstRow, NoneOf, anyBelow}
+use Rattle.rules.proofs.Rows.{Numbered, row-none, any-none}
+use Rattle.payload.specs.declared.Opening.{Opening}
+use Rattle.payload.specs.declared.Header.{Header}
+use Rattle.payload.specs.declared.Reading.{Reading}
+use Rattle.payload.specs.declared.Reading.the-variants.{Idle, Unreadable, Readable}
+use Rattle.payload.specs.Transfer.{readingOf}
+use Rattle.frames.specs.declared.Reason.{Reason}
+use Rattle.frames.specs.declared.Reason.the-variants.{Gap, Error, Clock, Long, Cut}
+use Rattle.frames.specs.declared.Fault.{Fault}
+use Rattle.frames.specs.declared.Fault.the-variants.{Sound, Bad}
+use Rattle.frames.specs.declared.Run.{Run}
+use Rattle.frames.specs.declared.Phase.{Phase}
+use Rattle.frames.specs.declared.Phase.the-variants.{Fresh, Under, Past}
+use Rattle.frames.specs.declared.Ended.the-variants.{Nothing, Frame}
+use Rattle.frames.specs.Track.{firstOf, clashOf, sameOf, whyOf, begunOf, joinedOf, filledOf, faultOf, phaseOf, joinTurn, strayTurn, turnBy, turnOf, spoiltBy, spoiltOf, closedBy, closedOf}
+use Rattle.ledger.specs.declared.Ledger.{Ledger}
+use Rattle.ledger.specs.Ledger.{lostAt, idleAt, ticksAt, backwardAt, untimedAt}
+use Rattle.session.specs.declared.Session.{Session}
+use Rattle.session.specs.Refusals.{sizesBroken, unequal, fillBroken, accountBroken, accountsBroken, countsBroken, recordBroken, ledgerOf, takeRows}
+use Rattle.session.specs.Session.{fresh, readOf, tookBy, tookOf}
+use Rattle.books.specs.Rule.{Call, events, entries, total, oneIn, received}
+use Rattle.books.specs.Calls.{Offer, refusal, next, callOf, unless, taken, nextCall, run}
+use Rattle.books.specs.Demands.{Right}
+use Rattle.books.proofs.Taken.{Proper}
+use Rattle.books.proofs.Accounts.{count-right, bytes-right, all-right}
+use Rattle.books.proofs.Bounds.{count-bound, bytes-bound, ticks-bound, backward-bound, untimed-bound}
+use Rattle.books.proofs.History.{next-opening, proper-rest}
+
+-- ---- fill: within the frame, and in a frame without fault its bytes
+abbrev pub Snug : ℕ → Fault → ℕ → ℕ → Type 0
+Snug frame Sound fill bytes = (fill ≡ bytes) × (bytes ≤ frame)
+Snug frame (Bad w) fill bytes = fill ≤ frame
+
+abbrev pub Fit : ℕ → Phase → Type 0
+Fit frame Fresh = Unit {0}
+Fit frame (Past f) = Unit {0}
+Fit frame (Under x) = Snug frame (x .fault) (x .fill) (x .bytes)
+
+snug-spoilt : (frame : ℕ) (q : Fault) (w : Reason) (fill bytes : ℕ) → Snug frame q fill bytes → Snug frame (firstOf q true w) fill bytes
+snug-spoilt frame Sound w fill bytes e = omega arith
+snug-spoilt frame (Bad v) w fill bytes e = e
+
+pub snug-joined : (frame : ℕ) (q : Fault) (i c l : Bool) (fill bytes n : ℕ) → ltb frame (bytes + n) ≡ l → Snug frame q fill bytes
+    → Snug frame (firstOf (firstOf (firstOf q i Error) c Clock) l Long) (filledOf (firstOf (firstOf (firstOf q i Error) c Clock) l Long) fill n) (bytes + n)
+snug-joined frame (Bad w) i c l fill bytes n g e = e
+snug-joined frame Sound true c l fill bytes n g e = omega arith
+snug-joined frame Sound false true l fill bytes n g e = omega arith
+snug-joined frame Sound false false true fill bytes n g e = omega arith
+snug-joined frame Sound false false false fill bytes n g e = (omega arith, ltb-false frame (bytes + n) g)
+
+pub snug-begun : (frame : ℕ) (b : Bool) → Snug frame (firstOf Sound b Gap) 0 0
+snug-begun frame true = omega arith
+snug-begun frame false = (refl, omega arith)
+
+fit-join : (o : Opening) (h : Header) (n : ℕ) (x : Run) (e : Bool) → Fit (o .frame) (Under x) → Fit (o .frame) (phaseOf e (joinedOf o x h n))
+fit-join o h n x true f = tt
+fit-join o h n x false f =
+    snug-joined (o .frame) (x .fault) (h .error) (clashOf (x .stamp) (h .stamp)) (ltb (o .frame) (x .bytes + n)) (x .fill) (x .bytes) n refl f
+
+fit-turn : (o : Opening) (h : Header) (n : ℕ) (ph : Phase) (b : Bool) → Fit (o .frame) ph → Fit (o .frame) (turnBy ph o b h n .track .phase)
+unfolding pick
+fit-turn o h n Fresh b f = fit-join o h n (begunOf b (h .fid)) (h .eof) (snug-begun (o .frame) b)
+fit-turn o h n (Past g) b f = go (sameOf g (h .fid))
+  where
+    go : (c : Bool) → Fit (o .frame) (pick c (strayTurn g n) (joinTurn o (begunOf b (h .fid)) h n Nothing 0) .track .phase)
+    go true = tt
+    go false = fit-join o h n (begunOf b (h .fid)) (h .eof) (snug-begun (o .frame) b)
+fit-turn o h n (Under x) b f = go (sameOf (x .fid) (h .fid))
+  where
+    go : (c : Bool) → Fit (o .frame) (pick c (joinTurn o x h n Nothing 0) (joinTurn o (begunOf b (h .fid)) h n (Frame (whyOf (x .fault) Cut)) (x .bytes)) .track .phase)
+    go true = fit-join o h n x (h .eof) f
+    go false = fit-join o h n (begunOf b (h .fid)) (h .eof) (snug-begun (o .frame) b)
+
+fit-spoilt : (frame : ℕ) (ph : Phase) → Fit frame ph → Fit frame (spoiltBy ph)
+fit-spoilt frame Fresh f = f
+fit-spoilt frame (Past g) f = f
+fit-spoilt frame (Under x) f = snug-spoilt frame (x .fault) Gap (x .fill) (x .bytes) f
+
+fit-closed : (frame : ℕ) (ph : Phase) (b : Bool) → Fit frame (closedBy ph b .track .phase)
+fit-closed frame Fresh b = tt
+fit-closed frame (Past g) b = tt
+fit-closed frame (Under x) b = tt
+
+pub fit-took : (s : Session) (t : List ℕ) (r : Reading) → Fit (s .opening .frame) (s .track .phase) → Fit (s .opening .frame) (tookBy r s t .session .track .phase)
+unfolding readOf turnOf spoiltOf
+fit-took s t Idle f = f
+fit-took s t (Unreadable k) f = fit-spoilt (s .opening .frame) (s .track .phase) f
+fit-took s t (Readable h) f = fit-turn (s .opening) h (length t - h .len) (s .track .phase) (s .track .gap) f
+
+pub fit-next : (s : Session) (c : Call) → Fit (s .opening .frame) (s .track .phase) → Fit (s .opening .frame) (nextCall s c .track .phase)
+unfolding tookOf spoiltOf closedOf
+fit-next s (Call.transfer t) f = fit-took s t (readingOf (s .opening) t) f
+fit-next s Call.lost f = fit-spoilt (s .opening .frame) (s .track .phase) f
+fit-next s Call.close f = fit-closed (s .opening .frame) (s .track .phase) (s .track .gap)
+
+pub fit-run : (o : Opening) (cs : List Call) (s : Session) → s .opening ≡ o → Fit (o .frame) (s .track .phase) → Fit (o .frame) (run s cs .track .phase)
+fit-run o [] s e f = f
+fit-run o (c ∷ cs) s e f =
+    fit-run o cs (nextCall s c) (next-opening s c ∙ e) (subst (λ (q : Opening). Fit (q .frame) (nextCall s c .track .phase)) e (fit-next s c (subst (λ (q : Opening). Fit (q .frame) (s .track .phase)) (sym e) f)))
+
+fill-fits : (frame : ℕ) (ph : Phase) → Fit frame ph → fillBroken ph frame ≡ false
+unfolding fillBroken
+fill-fits frame Fresh f = refl
+fill-fits frame (Past g) f = refl
+fill-fits frame (Under x) f = go (x .fault) f
+  where
+    go : (q : Fault) → Snug frame q (x .fill) (x .bytes) → (ltb frame (x .fill) || unequal q (x .fill) (x .bytes)) ≡ false
+    go Sound e = rw (le-ltb frame (x .fill) (omega arith), eq-eqb (x .fill) (x .bytes) (e .0))
+    go (Bad w) e = rw (le-ltb frame (x .fill) e)
+
+-- ---- the opening and the transfers taken
+pub run-opening : (cs : List Call) (s : Session) → run s cs .opening ≡ s .opening
+run-opening [] s = refl
+run-opening (c ∷ cs) s = run-opening cs (nextCall s c) ∙ next-opening s c
+
+took-taken : (s : Session) (t : List ℕ) (r : Reading) → tookBy r s t .session .taken ≡ s .taken + 1
+unfolding readOf
+took-taken s t Idle = refl
+took-taken s t (Unreadable k) = refl
+took-taken s t (Readable h) = refl
+
+pub run-taken : (o : Opening) (cs : List Call) (s : Session) → Proper cs → run s cs .taken ≡ s .taken + length (events o cs)
+unfolding tookOf
+run-taken o [] s p = omega arith
+run-taken o (Call.transfer t ∷ cs) s p = omega (arith, run-taken o cs (nextCall s (Call.transfer t)) p, took-taken s t (readingOf (s .opening) t))
+run-taken o (Call.lost ∷ cs) s p = omega (arith, run-taken o cs (nextCall s Call.lost) p)
+run-taken o (Call.close ∷ []) s p = omega arith
+run-taken o (Call.close ∷ (c ∷ cs)) s p = absurd p
+
+-- no transfer taken is over 65,536 bytes
+abbrev pub Small : List Call → Type 0
+Small [] = Unit {0}
+Small (Call.transfer t ∷ cs) = (length t ≤ 65536) × Small cs
+Small (Call.lost ∷ cs) = Small cs
+Small (Call.close ∷ cs) = Small cs
+
+small-received : (o : Opening) (cs : List Call) → Small cs → received cs ≤ 65536 * length (events o cs)
+small-received o [] h = omega arith
+small-received o (Call.transfer t ∷ cs) h = omega (arith, h .0, small-received o cs (h .1))
+small-received o (Call.lost ∷ cs) h = omega (arith, small-received o cs h)
+small-received o (Call.close ∷ cs) h = omega arith
+
+take-rows : (s : Session) (room n : ℕ) → Numbered (takeRows s room n)
+take-rows s room n = (omega arith, (omega arith, (omega arith, (omega arith, (omega arith, tt)))))
+
+take-small : (s : Session) (room n : ℕ) → firstRow (takeRows s room n) ≡ 0 → n ≤ 65536
+take-small s room n e =
+    let d : NoneOf (takeRows s room n) = row-none (takeRows s room n) (take-rows s room n) e in
+    ltb-false 65536 n (d .1 .1 .1 .1 .0)
+
+pub taken-small : (s : Session) (xs : List Offer) → Small (taken s xs)
+taken-small s [] = tt
+taken-small s (x ∷ xs) = go x (refusal s x) refl (taken-small (next s x) xs)
+  where
+    go : (y : Offer) (k : ℕ) → refusal s y ≡ k → Small (taken (next s y) xs) → Small (unless k (callOf y) (taken (next s y) xs))
+    go y (suc k) e r = r
+    go (Offer.take b t) zero e r = (take-small s (length b) (length t) e, r)
+    go Offer.lost zero e r = r
+    go Offer.close zero e r = r
+
+-- ---- rule 50
+under : (n x m : ℕ) → x ≡ m → m ≤ n → ltb n x ≡ false
+under n x m e h = le-ltb n x (omega arith)
+
+module _ (o : Opening) (cs : List Call) (p : Proper cs) (small : Small cs) where
+  abbrev at-end : Session
+  at-end = run (fresh o) cs
+
+  counted : at-end .taken ≡ length (events o cs)
+  counted = run-taken o cs (fresh o) p ∙ omega arith
+
+  account-fine : (k : ℕ) → k < 11 → accountBroken (ledgerOf at-end) (at-end .taken) k ≡ false
+  account-fine k h =
+      rw (under (at-end .taken) _ _ (count-right o cs p k h) (rw counted (count-bound o cs k)), under (65536 * at-end .taken) _ _ (bytes-right o cs p k h) (rw counted (bytes-bound o cs k (small-received o cs small))))
+
+  accounts-fine : accountsBroken (ledgerOf at-end) (at-end .taken) ≡ false
+  unfolding accountsBroken
+  accounts-fine = any-none 11 (accountBroken (ledgerOf at-end) (at-end .taken)) account-fine
+
+  counts-fine : countsBroken (ledgerOf at-end) (at-end .taken) ≡ false
+  unfolding countsBroken
+  counts-fine =
+      let r : Right o cs (ledgerOf at-end) = all-right o cs p in
+      rw (
+        under (2 ^ 31 * at-end .taken) _ _ (r .ticks) (rw counted (ticks-bound o cs)),
+        under (at-end .taken) _ _ (r .losses) (rw counted (count-bound o cs 11)),
+        under (at-end .taken) _ _ (r .idles) (rw counted (count-bound o cs 12)),
+        under (at-end .taken) _ _ (r .backward) (rw counted (backward-bound o cs)),
+        under (at-end .taken) _ _ (r .plain) (rw counted (untimed-bound o cs)),
+      )
+
+  pub record-sound : sizesBroken o ≡ false → recordBroken at-end ≡ false
+  unfolding recordBroken
+  record-sound e =
+      rw (run-opening cs (fresh o), e, fill-fits (o .frame) (at-end .track .phase) (fit-run o cs (fresh o) refl tt), accounts-fine, counts-fine)

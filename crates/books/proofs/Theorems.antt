@@ -1,0 +1,105 @@
+-- THE THEOREMS, over the session's own open, take, lost and close: for every list of calls with any transfers and any lent buffers, from a fresh session, for all
+-- admissible sizes.
+use Prim.Native.Nat.{ℕ, zero, suc, _≤_}
+use mathlib.Core.Path.{_≡_, refl, sym, _∙_, ap, subst, fun-ext}
+use mathlib.Core.Bool.{Bool, true, false}
+use mathlib.Core.List.{List, [], _∷_, _++_}
+use native.Mathlib.Omega.{arith}
+use lib.ListN.{length, getD}
+use lib.Dec.{ltb, eqb}
+use borrow.Author.Tests.{le-ltb}
+use Rattle.rules.specs.Numbered.{firstFrom, firstRow, orElse, Down}
+use Rattle.rules.proofs.Numbered.{first-zero}
+use Rattle.payload.specs.declared.Opening.{Opening}
+use Rattle.frames.specs.declared.Answer.{Answer}
+use Rattle.frames.specs.declared.Delivery.{Delivery}
+use Rattle.frames.specs.declared.Ended.{Ended}
+use Rattle.frames.specs.declared.Fate.{Fate}
+use Rattle.ledger.specs.declared.Account.{Account}
+use Rattle.ledger.specs.declared.Ledger.{Ledger}
+use Rattle.ledger.specs.Ledger.{placeOf, bytesOf, ticksAt}
+use Rattle.session.specs.declared.Session.{Session}
+use Rattle.session.specs.declared.Start.{Start}
+use Rattle.session.specs.declared.Outcome.{Outcome}
+use Rattle.session.specs.declared.Report.{Report}
+use Rattle.session.specs.declared.Closing.{Closing}
+use Rattle.session.specs.Refusals.{openingFlags, sizesBroken, recordBroken, ledgerOf, takeRows}
+use Rattle.session.specs.Session.{fresh, openBy, openOf, takeOf, bufferBy, bufferOf, lostOf, closeOf}
+use Rattle.books.specs.Rule.{Call, entries, numbersOf, stamps, forward, between, received}
+use Rattle.books.specs.Calls.{Offer, refusal, next, after, taken, run}
+use Rattle.books.specs.Demands.{Right, accounts, over, allBytes, endedItems, Gains, Says, offers, bufferAfter, Whole}
+use Rattle.books.proofs.Taken.{next-refused, after-run, taken-proper}
+use Rattle.books.proofs.Accounts.{all-right}
+use Rattle.books.proofs.Received.{entries-bytes, over-all}
+use Rattle.books.proofs.Sound.{taken-small, record-sound}
+use Rattle.books.proofs.Answers.{transfer-says, lost-says, close-says}
+use Rattle.books.proofs.Whole.{delivered-whole}
+use Rattle.books.proofs.Print.{run-numbers}
+
+-- An opening that is not refused gives a fresh session of admissible sizes.
+pub opened : (frame payload room : ℕ) → openOf frame payload room .start ≡ Start.Open
+    → (openOf frame payload room .session ≡ fresh (record { frame = frame; payload = payload })) × (sizesBroken (record { frame = frame; payload = payload }) ≡ false)
+unfolding openOf openingFlags sizesBroken
+opened frame payload room e = go (firstFrom 45 (openingFlags frame payload room)) refl e
+  where
+    no : (k : ℕ) → Start.Refused k ≡ Start.Open → ⊥
+    no k q = let z : _≡_ {A = ℕ} 0 1 = cc in omega arith
+
+    go : (k : ℕ) → firstFrom 45 (openingFlags frame payload room) ≡ k → openBy k frame payload .start ≡ Start.Open
+        → (openBy k frame payload .session ≡ fresh (record { frame = frame; payload = payload })) × (sizesBroken (record { frame = frame; payload = payload }) ≡ false)
+    go zero q s = let d : Down (openingFlags frame payload room) = first-zero 45 (openingFlags frame payload room) (omega arith) q in (refl, rw (d .0, d .1 .0))
+    go (suc k) q s = absurd (no (suc k) s)
+
+-- 1. "A refused call changes no lent byte and no session", and "refusals 50 to 53 and 55 are not part of the history".
+pub refused-session : (s : Session) (x : Offer) (k : ℕ) → refusal s x ≡ suc k → next s x ≡ s
+refused-session = next-refused
+
+pub refused-buffer : (s : Session) (buffer t : List ℕ) (k : ℕ) → refusal s (Offer.take buffer t) ≡ suc k → bufferOf s buffer t ≡ buffer
+unfolding bufferOf
+refused-buffer s buffer t k e = ap (λ (n : ℕ). bufferBy n s buffer t) e
+
+pub history : (o : Opening) (xs : List Offer) → after (fresh o) xs ≡ run (fresh o) (taken (fresh o) xs)
+history o xs = after-run (fresh o) xs
+
+-- 2. "Each account is what document 01's rule gives from the opening sizes and the list of calls alone": every count and every byte, lost, idle, ticks, backward and untimed.
+pub accounts-right : (o : Opening) (xs : List Offer) → Right o (taken (fresh o) xs) (ledgerOf (after (fresh o) xs))
+accounts-right o xs = subst (λ (s : Session). Right o (taken (fresh o) xs) (ledgerOf s)) (sym (history o xs)) (all-right o (taken (fresh o) xs) (taken-proper (fresh o) xs))
+
+-- the same of all the numbers at once, in the order of print
+pub numbers-right : (o : Opening) (xs : List Offer) → ledgerOf (after (fresh o) xs) .numbers ≡ numbersOf (entries o (taken (fresh o) xs))
+numbers-right o xs = ap (λ (s : Session). ledgerOf s .numbers) (history o xs) ∙ run-numbers o (taken (fresh o) xs) (taken-proper (fresh o) xs)
+
+-- 3. "Together they are the bytes received, and the ticks are the sum of forward steps."
+pub nothing-missing : (o : Opening) (xs : List Offer) → allBytes (ledgerOf (after (fresh o) xs)) ≡ received (taken (fresh o) xs)
+nothing-missing o xs =
+    ap (λ (f : Account → ℕ). over f accounts) (fun-ext (accounts-right o xs .bytes)) ∙ over-all (entries o (taken (fresh o) xs)) ∙ entries-bytes o (taken (fresh o) xs)
+
+pub ticks-right : (o : Opening) (xs : List Offer) → getD (ledgerOf (after (fresh o) xs) .numbers) ticksAt 0 ≡ between forward (stamps (entries o (taken (fresh o) xs)))
+ticks-right o xs = accounts-right o xs .ticks
+
+-- 4. Each answer is the rule's: what a call says of an ended frame and of its own transfer is what the rule gains by that call.
+pub answer-right : (o : Opening) (xs : List Offer) (buffer t : List ℕ) (a : Answer) → takeOf (after (fresh o) xs) (length buffer) t .outcome ≡ Outcome.Taken a → Says o (taken (fresh o) xs) (Call.transfer t) a
+answer-right = transfer-says
+
+pub report-right : (o : Opening) (xs : List Offer) → lostOf (after (fresh o) xs) .report ≡ Report.Noted → Gains o (taken (fresh o) xs) Call.lost []
+report-right = lost-says
+
+pub close-right : (o : Opening) (xs : List Offer) (e : Ended) → closeOf (after (fresh o) xs) .closing ≡ Closing.Closed e
+    → (n : ℕ) × (d : List ℕ) × Gains o (taken (fresh o) xs) Call.close (endedItems e n d)
+close-right = close-says
+
+-- 5. "A frame handed out is exactly the payload bytes of one whole frame, in order": with one buffer that nobody else writes and that is never shorter than the frame size.
+pub whole : (o : Opening) (buffer : List ℕ) (calls : List Call) → o .frame ≤ length buffer → (t : List ℕ) (a : Answer) (d : Delivery)
+    → takeOf (after (fresh o) (offers (fresh o) buffer calls)) (length (bufferAfter (fresh o) buffer calls)) t .outcome ≡ Outcome.Taken a → a .fate ≡ Fate.Delivered d
+    → Whole o (taken (fresh o) (offers (fresh o) buffer calls) ++ (Call.transfer t ∷ [])) d (bufferOf (after (fresh o) (offers (fresh o) buffer calls)) (bufferAfter (fresh o) buffer calls) t)
+whole o buffer calls room t a d e f = delivered-whole o buffer calls room t a d e f
+
+-- 6. A session reached from a fresh one is never refused by 50; with a buffer of the frame size and transfers of at most 65,536 bytes, an open one is refused by 52 alone.
+pub never-stuck : (o : Opening) → sizesBroken o ≡ false → (xs : List Offer) → recordBroken (after (fresh o) xs) ≡ false
+never-stuck o e xs =
+    ap recordBroken (history o xs) ∙ record-sound o (taken (fresh o) xs) (taken-proper (fresh o) xs) (taken-small (fresh o) xs) e
+
+pub only-full : (o : Opening) → sizesBroken o ≡ false → (xs : List Offer) (buffer t : List ℕ) → after (fresh o) xs .closed ≡ false → after (fresh o) xs .opening .frame ≤ length buffer → length t ≤ 65536
+    → refusal (after (fresh o) xs) (Offer.take buffer t) ≡ orElse (eqb (after (fresh o) xs .taken) 4294967295) 52 0
+only-full o e xs buffer t open₀ room small =
+    rw (never-stuck o e xs, open₀, le-ltb (length buffer) (after (fresh o) xs .opening .frame) room, le-ltb 65536 (length t) small)

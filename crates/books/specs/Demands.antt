@@ -1,0 +1,122 @@
+-- What is demanded of a session after any calls: the statements that proofs/Theorems.antt proves.
+use Prim.Native.Nat.{ℕ, suc, _+_, _≤_}
+use mathlib.Core.Path.{_≡_}
+use mathlib.Core.Bool.{true, false}
+use mathlib.Core.List.{List, [], _∷_, _++_}
+use lib.ListN.{length, getD, take}
+use Rattle.payload.specs.declared.Opening.{Opening}
+use Rattle.frames.specs.declared.Fault.the-variants.{Sound}
+use Rattle.frames.specs.declared.Ended.{Ended}
+use Rattle.frames.specs.declared.Ended.the-variants.{Nothing, Frame}
+use Rattle.frames.specs.declared.Fate.{Fate}
+use Rattle.frames.specs.declared.Answer.{Answer}
+use Rattle.frames.specs.declared.Delivery.{Delivery}
+use Rattle.ledger.specs.declared.Account.{Account}
+use Rattle.ledger.specs.declared.Entry.{Entry}
+use Rattle.ledger.specs.declared.Ledger.{Ledger}
+use Rattle.ledger.specs.Ledger.{placeOf, countOf, bytesOf, lostAt, idleAt, ticksAt, backwardAt, untimedAt}
+use Rattle.session.specs.declared.Session.{Session}
+use Rattle.session.specs.Session.{bufferOf}
+use Rattle.books.specs.Rule.{Call, events, Seen, readables, runs, frameOf, strayOf, complete, dataOf, firstStamp, fault, Item, framesBy, entries, oneIn, partIn, total, stamps, untimed, forward, back, between, received}
+use Rattle.books.specs.Calls.{Offer, next}
+
+-- THE LEDGER AND THE RULE: every number of a ledger is what the rule gives from the opening and the calls taken.
+pub record Right (o : Opening) (cs : List Call) (l : Ledger) : Type 0 where
+  pub counts : (a : Account) → countOf l (placeOf a) ≡ total (oneIn (placeOf a)) (entries o cs)
+  pub bytes : (a : Account) → bytesOf l (placeOf a) ≡ total (partIn (placeOf a)) (entries o cs)
+  pub losses : getD (l .numbers) lostAt 0 ≡ total (oneIn 11) (entries o cs)
+  pub idles : getD (l .numbers) idleAt 0 ≡ total (oneIn 12) (entries o cs)
+  pub ticks : getD (l .numbers) ticksAt 0 ≡ between forward (stamps (entries o cs))
+  pub backward : getD (l .numbers) backwardAt 0 ≡ between back (stamps (entries o cs))
+  pub plain : getD (l .numbers) untimedAt 0 ≡ total untimed (entries o cs)
+
+-- NOTHING GOES MISSING: the byte accounts together
+abbrev pub accounts : List Account
+accounts =
+    Account.Delivered
+    ∷ Account.Gap
+    ∷ Account.Error
+    ∷ Account.Clock
+    ∷ Account.Long
+    ∷ Account.Cut
+    ∷ Account.Empty
+    ∷ Account.UnderWay
+    ∷ Account.Stray
+    ∷ Account.Unreadable
+    ∷ Account.Headers
+    ∷ []
+
+abbrev pub over : (Account → ℕ) → List Account → ℕ
+over f [] = 0
+over f (a ∷ rest) = f a + over f rest
+
+abbrev pub allBytes : Ledger → ℕ
+allBytes l = over (λ a. bytesOf l (placeOf a)) accounts
+
+-- WHAT AN ANSWER SAYS: the frame that was ended, and the transfer's own fate, as items of the rule
+abbrev pub endedItems : Ended → ℕ → List ℕ → List Item
+endedItems Nothing n d = []
+endedItems (Frame why) n d = record { entry = Entry.Dropped why n; load = d } ∷ []
+
+abbrev pub fateItems : Fate → ℕ → List ℕ → List Item
+fateItems Fate.Idle n d = []
+fateItems Fate.Kept n d = []
+fateItems Fate.Stray n d = record { entry = Entry.Stray n; load = d } ∷ []
+fateItems (Fate.Delivered x) n d = record { entry = Entry.Delivered x; load = d } ∷ []
+fateItems (Fate.Dropped why) n d = record { entry = Entry.Dropped why n; load = d } ∷ []
+fateItems (Fate.Unreadable k) n d = []
+
+-- a frame under way, of data d, or none
+pub data UnderWay : List Item → Type 0 where
+  none : UnderWay []
+  one : (n : ℕ) (d : List ℕ) → UnderWay (record { entry = Entry.UnderWay n; load = d } ∷ [])
+
+-- what the rule gains by one call more: what was settled stays, the frame under way goes on, and what the answer says is settled besides
+pub record Gains (o : Opening) (cs : List Call) (c : Call) (says : List Item) : Type 0 where
+  pub settled : List Item
+  pub was : List Item
+  pub is : List Item
+  pub before : framesBy o cs ≡ settled ++ was
+  pub now : framesBy o (cs ++ (c ∷ [])) ≡ (settled ++ says) ++ is
+  pub was-way : UnderWay was
+  pub is-way : UnderWay is
+
+-- what the answer to a transfer says: some frame of n bytes was ended, and the fate has m bytes
+pub record Says (o : Opening) (cs : List Call) (c : Call) (a : Answer) : Type 0 where
+  pub n : ℕ
+  pub m : ℕ
+  pub d : List ℕ
+  pub e : List ℕ
+  pub gains : Gains o cs c (endedItems (a .ended) n d ++ fateItems (a .fate) m e)
+
+-- ONE BUFFER that nobody else writes: the calls offered with it, and what it holds after them
+abbrev pub offerWith : List ℕ → Call → Offer
+offerWith b (Call.transfer t) = Offer.take b t
+offerWith b Call.lost = Offer.lost
+offerWith b Call.close = Offer.close
+
+abbrev pub bufferNext : Session → List ℕ → Call → List ℕ
+bufferNext s b (Call.transfer t) = bufferOf s b t
+bufferNext s b Call.lost = b
+bufferNext s b Call.close = b
+
+abbrev pub offers : Session → List ℕ → List Call → List Offer
+offers s b [] = []
+offers s b (k ∷ ks) = offerWith b k ∷ offers (next s (offerWith b k)) (bufferNext s b k) ks
+
+abbrev pub bufferAfter : Session → List ℕ → List Call → List ℕ
+bufferAfter s b [] = b
+bufferAfter s b (k ∷ ks) = bufferAfter (next s (offerWith b k)) (bufferNext s b k) ks
+
+-- DELIVERED IS WHOLE: after these calls the last run's frame is complete, without fault and has no stray after it; the buffer's first bytes are its payload bytes, in
+-- order, as many as the delivery says, and the delivery's stamp is the frame's first.
+pub record Whole (o : Opening) (cs : List Call) (d : Delivery) (buffer : List ℕ) : Type 0 where
+  pub earlier : List (List Seen)
+  pub last : List Seen
+  pub cut : runs (readables false (events o cs)) ≡ earlier ++ (last ∷ [])
+  pub ended : complete (frameOf last) ≡ true
+  pub sound : fault o (frameOf last) ≡ Sound
+  pub alone : strayOf last ≡ []
+  pub payload : take (d .len) buffer ≡ dataOf (frameOf last)
+  pub size : d .len ≡ length (dataOf (frameOf last))
+  pub stamp : d .stamp ≡ firstStamp (frameOf last)

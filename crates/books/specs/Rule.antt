@@ -1,0 +1,307 @@
+-- Document 01, "The frame rule, from the list alone", "Steps" and the accounts. List functions only: no state, and nothing of the session but the reading of
+-- one transfer.
+use Prim.Native.Nat.{ℕ, _+_, _-_, _%_, _^_}
+use mathlib.Core.Bool.{Bool, true, false, cond, not, _&&_, _||_, Bool·beq}
+use mathlib.Core.List.{List, [], _∷_, _++_, map}
+use lib.ListN.{length, drop}
+use lib.Dec.{ltb, eqb}
+use Rattle.payload.specs.declared.Opening.{Opening}
+use Rattle.payload.specs.declared.Header.{Header}
+use Rattle.payload.specs.declared.Stamp.{Stamp}
+use Rattle.payload.specs.declared.Stamp.the-variants.{Absent, At}
+use Rattle.payload.specs.declared.Reading.{Reading}
+use Rattle.payload.specs.declared.Reading.the-variants.{Idle, Unreadable, Readable}
+use Rattle.payload.specs.Transfer.{readingOf}
+use Rattle.frames.specs.declared.Reason.{Reason}
+use Rattle.frames.specs.declared.Reason.the-variants.{Gap, Error, Clock, Long, Cut, Empty}
+use Rattle.frames.specs.declared.Fault.{Fault}
+use Rattle.frames.specs.declared.Fault.the-variants.{Sound, Bad}
+use Rattle.ledger.specs.declared.Entry.{Entry}
+
+-- THE LIST holds the calls taken in order: transfers with their bytes, lost reports, close.
+pub data Call : Type 0 where
+  transfer : List ℕ → Call
+  lost : Call
+  close : Call
+
+-- What each is: idle; unreadable, of so many bytes; lost; or readable, with its header and its data.
+pub data Event : Type 0 where
+  idle : Event
+  unreadable : ℕ → Event
+  missing : Event
+  readable : Header → List ℕ → Event
+
+abbrev pub eventBy : Reading → List ℕ → Event
+eventBy Idle t = idle
+eventBy (Unreadable k) t = unreadable (length t)
+eventBy (Readable h) t = readable h (drop (h .len) t)
+
+abbrev pub events : Opening → List Call → List Event
+events o [] = []
+events o (transfer t ∷ cs) = eventBy (readingOf o t) t ∷ events o cs
+events o (lost ∷ cs) = missing ∷ events o cs
+events o (close ∷ cs) = []
+
+-- the session is open until close
+abbrev pub isOpen : List Call → Bool
+isOpen [] = true
+isOpen (transfer t ∷ cs) = isOpen cs
+isOpen (lost ∷ cs) = isOpen cs
+isOpen (close ∷ cs) = false
+
+-- THE READABLE TRANSFERS IN ORDER, each with whether an unreadable or lost one comes before it, or after it, with no readable one between.
+pub record Seen : Type 0 where
+  pub header : Header
+  pub load : List ℕ
+  pub before : Bool
+  pub after : Bool
+
+abbrev pub spoiled : List Event → Bool
+spoiled [] = false
+spoiled (idle ∷ es) = spoiled es
+spoiled (unreadable n ∷ es) = true
+spoiled (missing ∷ es) = true
+spoiled (readable h d ∷ es) = false
+
+abbrev pub readables : Bool → List Event → List Seen
+readables b [] = []
+readables b (idle ∷ es) = readables b es
+readables b (unreadable n ∷ es) = readables true es
+readables b (missing ∷ es) = readables true es
+readables b (readable h d ∷ es) = record { header = h; load = d; before = b; after = spoiled es } ∷ readables false es
+
+-- CUT INTO THE LONGEST RUNS OF EQUAL FID (proofs/Runs.antt shows that these are the longest).
+abbrev pub same : Seen → Seen → Bool
+same t u = Bool·beq (t .header .fid) (u .header .fid)
+
+abbrev pub ahead : Seen → List (List Seen) → List (List Seen)
+ahead t [] = (t ∷ []) ∷ []
+ahead t ([] ∷ rs) = (t ∷ []) ∷ rs
+ahead t ((u ∷ us) ∷ rs) = cond (same t u) ((t ∷ u ∷ us) ∷ rs) ((t ∷ []) ∷ (u ∷ us) ∷ rs)
+
+abbrev pub runs : List Seen → List (List Seen)
+runs [] = []
+runs (t ∷ ts) = ahead t (runs ts)
+
+-- IN EACH RUN the part up to and including its first EOF (all of it, if none) is a frame; what follows is stray.
+abbrev pub frameOf : List Seen → List Seen
+frameOf [] = []
+frameOf (t ∷ ts) = t ∷ cond (t .header .eof) [] (frameOf ts)
+
+abbrev pub strayOf : List Seen → List Seen
+strayOf [] = []
+strayOf (t ∷ ts) = cond (t .header .eof) ts (strayOf ts)
+
+-- a frame is complete if it has an EOF
+abbrev pub complete : List Seen → Bool
+complete [] = false
+complete (t ∷ ts) = t .header .eof || complete ts
+
+-- its payload bytes, in order
+abbrev pub dataOf : List Seen → List ℕ
+dataOf [] = []
+dataOf (t ∷ ts) = t .load ++ dataOf ts
+
+-- its first stamp
+infixr 30 _orStamp_
+abbrev pub _orStamp_ : Stamp → Stamp → Stamp
+Absent orStamp s = s
+At x orStamp s = At x
+
+abbrev pub firstStamp : List Seen → Stamp
+firstStamp [] = Absent
+firstStamp (t ∷ ts) = t .header .stamp orStamp firstStamp ts
+
+-- FAULTS. The earliest names the frame; within one transfer the order is error, clock, long. A gap has its own moment: before the frame's first transfer, or
+-- after one of it that has no EOF.
+infixr 30 _or_
+abbrev pub _or_ : Fault → Fault → Fault
+Sound or y = y
+Bad w or y = Bad w
+
+abbrev pub when : Bool → Reason → Fault
+when true w = Bad w
+when false w = Sound
+
+-- clock: the frame's first stamp, and a stamp that differs from it
+abbrev pub differs : Stamp → Stamp → Bool
+differs s Absent = false
+differs Absent (At y) = false
+differs (At x) (At y) = not (eqb x y)
+
+-- of one transfer, where s is the frame's first stamp and n the data before it
+abbrev pub faultAt : Opening → Stamp → ℕ → Header → ℕ → Fault
+faultAt o s n h d = when (h .error) Error or when (differs s (h .stamp)) Clock or when (ltb (o .frame) (n + d)) Long
+
+abbrev pub gapAfter : Seen → Bool
+gapAfter t = not (t .header .eof) && t .after
+
+abbrev pub faultFrom : Opening → Stamp → ℕ → List Seen → Fault
+faultFrom o s n [] = Sound
+faultFrom o s n (t ∷ ts) = faultAt o s n (t .header) (length (t .load)) or when (gapAfter t) Gap or faultFrom o s (n + length (t .load)) ts
+
+abbrev pub gapBefore : List Seen → Bool
+gapBefore [] = false
+gapBefore (t ∷ ts) = t .before
+
+abbrev pub fault : Opening → List Seen → Fault
+fault o ts = when (gapBefore ts) Gap or faultFrom o (firstStamp ts) 0 ts
+
+-- WHAT BECOMES OF IT: an entry of the ledger, with the payload bytes that it stands for.
+pub record Item : Type 0 where
+  pub entry : Entry
+  pub load : List ℕ
+
+-- Complete: its fault, or empty if it has no data, else delivered. Without EOF: under way while its run is the last and the session open; else ended, by its
+-- fault, or cut.
+abbrev pub verdict : Bool → Bool → Fault → Stamp → ℕ → Entry
+verdict way true (Bad w) s n = Entry.Dropped w n
+verdict way true Sound s n = cond (eqb n 0) (Entry.Dropped Empty n) (Entry.Delivered (record { len = n; stamp = s }))
+verdict true false q s n = Entry.UnderWay n
+verdict false false (Bad w) s n = Entry.Dropped w n
+verdict false false Sound s n = Entry.Dropped Cut n
+
+abbrev pub settled : Bool → Bool → Fault → Stamp → List ℕ → Item
+settled way c q s d = record { entry = verdict way c q s (length d); load = d }
+
+abbrev pub strays : List Seen → List Item
+strays [] = []
+strays (t ∷ ts) = record { entry = Entry.Stray (length (t .load)); load = t .load } ∷ strays ts
+
+abbrev pub judge : Opening → Bool → List Seen → List Item
+judge o way r =
+    settled way (complete (frameOf r)) (fault o (frameOf r)) (firstStamp (frameOf r)) (dataOf (frameOf r)) ∷ strays (strayOf r)
+
+abbrev pub nothing : List (List Seen) → Bool
+nothing [] = true
+nothing (r ∷ rs) = false
+
+abbrev pub judged : Opening → Bool → List (List Seen) → List Item
+judged o open₀ [] = []
+judged o open₀ (r ∷ rs) = judge o (open₀ && nothing rs) r ++ judged o open₀ rs
+
+-- the frames and strays of a list, in order
+abbrev pub framesOf : Opening → Bool → List Event → List Item
+framesOf o open₀ es = judged o open₀ (runs (readables false es))
+
+-- the entries of the transfers and reports by themselves: a readable one's header, and all others
+abbrev pub loose : List Event → List Entry
+loose [] = []
+loose (idle ∷ es) = Entry.Idle ∷ loose es
+loose (unreadable n ∷ es) = Entry.Unreadable n ∷ loose es
+loose (missing ∷ es) = Entry.Lost ∷ loose es
+loose (readable h d ∷ es) = Entry.Headers (h .len) ∷ loose es
+
+abbrev pub entryOf : Item → Entry
+entryOf x = x .entry
+
+-- ALL ENTRIES of the calls taken
+abbrev pub framesBy : Opening → List Call → List Item
+framesBy o cs = framesOf o (isOpen cs) (events o cs)
+
+abbrev pub entries : Opening → List Call → List Entry
+entries o cs = map entryOf (framesBy o cs) ++ loose (events o cs)
+
+-- THE ACCOUNTS: how many entries an account has, and how many bytes they have together.
+abbrev pub lineFor : Reason → ℕ
+lineFor Gap = 1
+lineFor Error = 2
+lineFor Clock = 3
+lineFor Long = 4
+lineFor Cut = 5
+lineFor Empty = 6
+
+-- the line of print that an entry counts in, from 0
+abbrev pub lineOf : Entry → ℕ
+lineOf (Entry.Delivered d) = 0
+lineOf (Entry.Dropped w n) = lineFor w
+lineOf (Entry.UnderWay n) = 7
+lineOf (Entry.Stray n) = 8
+lineOf (Entry.Unreadable n) = 9
+lineOf (Entry.Headers n) = 10
+lineOf Entry.Lost = 11
+lineOf Entry.Idle = 12
+
+abbrev pub bytesIn : Entry → ℕ
+bytesIn (Entry.Delivered d) = d .len
+bytesIn (Entry.Dropped w n) = n
+bytesIn (Entry.UnderWay n) = n
+bytesIn (Entry.Stray n) = n
+bytesIn (Entry.Unreadable n) = n
+bytesIn (Entry.Headers n) = n
+bytesIn Entry.Lost = 0
+bytesIn Entry.Idle = 0
+
+abbrev pub oneIn : ℕ → Entry → ℕ
+oneIn k e = cond (eqb (lineOf e) k) 1 0
+
+abbrev pub partIn : ℕ → Entry → ℕ
+partIn k e = cond (eqb (lineOf e) k) (bytesIn e) 0
+
+abbrev pub total : (Entry → ℕ) → List Entry → ℕ
+total m [] = 0
+total m (e ∷ es) = m e + total m es
+
+-- STEPS, between consecutive delivered frames that have a stamp; a delivered frame with no stamp is untimed and passed over.
+abbrev pub stampList : Stamp → List ℕ
+stampList Absent = []
+stampList (At x) = x ∷ []
+
+abbrev pub stampsOf : Entry → List ℕ
+stampsOf (Entry.Delivered d) = stampList (d .stamp)
+stampsOf (Entry.Dropped w n) = []
+stampsOf (Entry.UnderWay n) = []
+stampsOf (Entry.Stray n) = []
+stampsOf (Entry.Unreadable n) = []
+stampsOf (Entry.Headers n) = []
+stampsOf Entry.Lost = []
+stampsOf Entry.Idle = []
+
+abbrev pub stamps : List Entry → List ℕ
+stamps [] = []
+stamps (e ∷ es) = stampsOf e ++ stamps es
+
+abbrev pub noStamp : Stamp → ℕ
+noStamp Absent = 1
+noStamp (At x) = 0
+
+abbrev pub untimed : Entry → ℕ
+untimed (Entry.Delivered d) = noStamp (d .stamp)
+untimed (Entry.Dropped w n) = 0
+untimed (Entry.UnderWay n) = 0
+untimed (Entry.Stray n) = 0
+untimed (Entry.Unreadable n) = 0
+untimed (Entry.Headers n) = 0
+untimed Entry.Lost = 0
+untimed Entry.Idle = 0
+
+-- later minus earlier modulo 2^32; read as signed, it is forward below 2^31 and else negative
+abbrev pub step : ℕ → ℕ → ℕ
+step earlier later = (later + 2 ^ 32 - earlier) % 2 ^ 32
+
+abbrev pub forward : ℕ → ℕ → ℕ
+forward a b = cond (ltb (step a b) (2 ^ 31)) (step a b) 0
+
+abbrev pub back : ℕ → ℕ → ℕ
+back a b = cond (ltb (step a b) (2 ^ 31)) 0 1
+
+abbrev pub between : (ℕ → ℕ → ℕ) → List ℕ → ℕ
+between f [] = 0
+between f (a ∷ []) = 0
+between f (a ∷ b ∷ bs) = f a b + between f (b ∷ bs)
+
+-- BYTES RECEIVED: of all transfers taken
+abbrev pub received : List Call → ℕ
+received [] = 0
+received (transfer t ∷ cs) = length t + received cs
+received (lost ∷ cs) = received cs
+received (close ∷ cs) = 0
+
+-- THE PRINT: the numbers of the sixteen lines, in order
+abbrev pub account : ℕ → List Entry → List ℕ → List ℕ
+account k es rest = total (oneIn k) es ∷ total (partIn k) es ∷ rest
+
+abbrev pub numbersOf : List Entry → List ℕ
+numbersOf es =
+    account 0 es (account 1 es (account 2 es (account 3 es (account 4 es (account 5 es (account 6 es (account 7 es (account 8 es (account 9 es (account 10 es
+    (total (oneIn 11) es ∷ total (oneIn 12) es ∷ between forward (stamps es) ∷ between back (stamps es) ∷ total untimed es ∷ [])))))))))))

@@ -1,0 +1,188 @@
+-- A block is accepted exactly when no rule is broken; refused by k at o exactly when k is the first broken rule in the table's order, at the first place that
+-- breaks it. An accepted table lists the block's entities, and every source names one that is no output terminal.
+use Prim.Native.Nat.{ℕ, zero, suc, _<_}
+use mathlib.Core.Path.{_≡_, refl, sym, ap, _∙_}
+use mathlib.Core.List.{List}
+use mathlib.Core.Logic.{_↔_}
+use lib.ListN.{length}
+use native.Mathlib.Omega.{arith}
+use Rattle.rules.specs.Numbered.{firstFrom}
+use Rattle.rules.specs.First.{First}
+use Rattle.rules.specs.Walk.{Outcome.done, walk, Clean, FirstBreak}
+use Rattle.rules.specs.declared.Verdict.{Verdict}
+use Rattle.rules.specs.declared.Verdict.the-variants.{Accepted, Refused}
+use Rattle.rules.proofs.Numbered.{none-up, none-first, first-up, first-low, up-first, up-above, up-below}
+use Rattle.rules.proofs.Walks.{walk-done, walk-stop}
+use Rattle.entities.specs.Table.{noTable, entityAt, findFrom}
+use Rattle.entities.specs.declared.Entity.{Entity}
+use Rattle.entities.specs.declared.Found.{Found}
+use Rattle.entities.specs.declared.Found.the-variants.{At, Nothing}
+use Rattle.entities.proofs.Finding.{found-within}
+use Rattle.control_rules.specs.Rules.{headFlags, flags, entityFlags}
+use Rattle.sources.specs.Sources.{sourcesOf, sourceAt, Breaks13, Breaks14, Breaks15, None, Judged, Judged.thirteen, Judged.fourteen, Judged.fifteen, Judged.fine}
+use Rattle.control.specs.Reading.{course, refusedBy, tableOf, ControlIs, ControlIs.block, ControlIs.descriptor, ControlIs.source, ControlIs.sound}
+use Rattle.control.specs.Broken.{BlockBreaks, BlockRight, Entities, Kept, Sound, FirstEntity, FirstBroken, FirstBroken.by-block, FirstBroken.by-descriptor, FirstBroken.by-13, FirstBroken.by-14, FirstBroken.by-15}
+use Rattle.control.specs.declared.Control.{Control}
+use Rattle.control.proofs.Walking.{steady}
+use Rattle.control.proofs.Unique.{verdict-apart, same-seen, read-unique}
+
+-- ---- none, and the first, of a list's entities
+module _ (l : List Entity) (P : ℕ → Type 0) where
+  kept-none : Kept l P → None l P
+  kept-none h = record { within = omega arith; before = h; here = λ x. absurd (omega arith) }
+
+  to-entity : (i : ℕ) → i < length l → First P (length l) i → FirstEntity l P (entityAt l i .offset)
+  to-entity i h f = record { place = i; inside = h; broken = f .here h; earliest = f .before; at = refl }
+
+  from-entity : (o : ℕ) (e : FirstEntity l P o) → First P (length l) (e .place)
+  from-entity o e = let h = e .inside in record { within = omega arith; before = e .earliest; here = λ x. e .broken }
+
+module _ (s : List ℕ) where
+  -- ---- the block and its descriptors
+  right : firstFrom 1 (headFlags s) ≡ 0 → BlockRight s
+  right z = none-up 1 (headFlags s) (omega arith) z
+
+  unbroken : BlockRight s → firstFrom 1 (headFlags s) ≡ 0
+  unbroken h = none-first 1 (headFlags s) h
+
+  walked : (l : List Entity) → walk (course s) ≡ done l → Entities s l × Clean (course s)
+  walked l e = walk-done (course s) (steady s) l .0 e
+
+  walks : (l : List Entity) → Entities s l → Clean (course s) → walk (course s) ≡ done l
+  walks l r h = walk-done (course s) (steady s) l .1 (r, h)
+
+  -- a block whose descriptors are right has one list of entities
+  pub one-list : Clean (course s) → (a b : List Entity) → Entities s a → Entities s b → a ≡ b
+  one-list h a b p q = same-seen a b (sym (walks a p h) ∙ walks b q h)
+
+  -- ---- accepted
+  judged-kept : (l : List Entity) (v : Verdict) → Judged s l v → v ≡ Accepted → Kept l (Breaks13 s l) × Kept l (Breaks14 s l) × Kept l (Breaks15 s l)
+  judged-kept l v (thirteen i h f) e = absurd (verdict-apart _ _ e)
+  judged-kept l v (fourteen i h f g) e = absurd (verdict-apart _ _ e)
+  judged-kept l v (fifteen i h f g k) e = absurd (verdict-apart _ _ e)
+  judged-kept l v (fine f g k) e = (f .before, g .before, k .before)
+
+  to-sound : {c : Control} → ControlIs s c → c .verdict ≡ Accepted → Sound s
+  to-sound (block k e) q = absurd (verdict-apart _ _ q)
+  to-sound (descriptor k o z y) q = absurd (verdict-apart _ _ q)
+  to-sound (source l k o z y v) q = absurd (verdict-apart _ _ q)
+  to-sound (sound l z y v) q =
+      let w = walked l y in
+      record { block = right z; descriptors = w .1; sources = λ m r. let e : m ≡ l = one-list (w .1) m l r (w .0) in rw e (judged-kept l Accepted v refl) }
+
+  not-judged : (l : List Entity) (v : Verdict) → Judged s l v → Kept l (Breaks13 s l) × Kept l (Breaks14 s l) × Kept l (Breaks15 s l) → v ≡ Accepted
+  not-judged l v (thirteen i h f) k = absurd (k .0 i h (f .here h))
+  not-judged l v (fourteen i h f g) k = absurd (k .1 i h (g .here h))
+  not-judged l v (fifteen i h f g j) k = absurd (k .2 i h (j .here h))
+  not-judged l v (fine f g j) k = refl
+
+  from-sound : {c : Control} → ControlIs s c → Sound s → c .verdict ≡ Accepted
+  from-sound (block k e) d = absurd (d .block (suc k) (first-up 1 (headFlags s) k e))
+  from-sound (descriptor k o z y) d = let f = walk-stop (course s) (steady s) k o .0 y in absurd (d .descriptors (f .seen) o (f .there) (f .inside) k (f .broken))
+  from-sound (source l k o z y v) d = absurd (verdict-apart k o (not-judged l (Refused k o) v (d .sources l (walked l y .0))))
+  from-sound (sound l z y v) d = refl
+
+  -- ACCEPTED exactly when no rule is broken
+  pub accepted : (c : Control) → ControlIs s c → (c .verdict ≡ Accepted) ↔ Sound s
+  accepted c r = (to-sound r, from-sound r)
+
+  -- ---- refused
+  same-broken : (a b k o : ℕ) → Refused a b ≡ Refused k o → FirstBroken s a b → FirstBroken s k o
+  same-broken a b k o e f = let p : a ≡ k = cc in let q : b ≡ o = cc in rw (← p, ← q) f
+
+  judged-broken : (l : List Entity) (v : Verdict) → BlockRight s → Clean (course s) → Entities s l → Judged s l v → (k o : ℕ) → v ≡ Refused k o → FirstBroken s k o
+  judged-broken l v z h r (thirteen i b f) k o e = same-broken _ _ k o e (by-13 l _ z h r (to-entity l (Breaks13 s l) i b f))
+  judged-broken l v z h r (fourteen i b f g) k o e = same-broken _ _ k o e (by-14 l _ z h r (f .before) (to-entity l (Breaks14 s l) i b g))
+  judged-broken l v z h r (fifteen i b f g j) k o e = same-broken _ _ k o e (by-15 l _ z h r (f .before) (g .before) (to-entity l (Breaks15 s l) i b j))
+  judged-broken l v z h r (fine f g j) k o e = absurd (verdict-apart k o (sym e))
+
+  to-first : {c : Control} → ControlIs s c → (k o : ℕ) → c .verdict ≡ Refused k o → FirstBroken s k o
+  to-first (block j e) k o q = same-broken _ _ k o q (by-block (suc j) (first-up 1 (headFlags s) j e) (λ i. first-low 1 (headFlags s) j i e))
+  to-first (descriptor j p z y) k o q = same-broken _ _ k o q (by-descriptor j p (right z) (walk-stop (course s) (steady s) j p .0 y))
+  to-first (source l j p z y v) k o q = same-broken _ _ k o q (judged-broken l _ (right z) (walked l y .1) (walked l y .0) v j p refl)
+  to-first (sound l z y v) k o q = absurd (verdict-apart k o (sym q))
+
+  at-place : (k : ℕ) (l : List Entity) (P : ℕ → Type 0) (o : ℕ) (e : FirstEntity l P o) → Judged s l (Refused k (entityAt l (e .place) .offset)) → Judged s l (Refused k o)
+  at-place k l P o e j = rw (e .at) at j
+
+  pub from-first : {k o : ℕ} → FirstBroken s k o → ControlIs s (refusedBy k o)
+  from-first (by-block zero b l) = absurd (omega (arith, up-above 1 (headFlags s) zero b))
+  from-first (by-block (suc k) b l) = block k (up-first 1 (headFlags s) (suc k) b l)
+  from-first (by-descriptor k o z f) = descriptor k o (unbroken z) (walk-stop (course s) (steady s) k o .1 f)
+  from-first (by-13 l o z h r e) =
+      source l 13 o (unbroken z) (walks l r h) (at-place 13 l (Breaks13 s l) o e (thirteen (e .place) (e .inside) (from-entity l (Breaks13 s l) o e)))
+  from-first (by-14 l o z h r a e) =
+      source l 14 o (unbroken z) (walks l r h)
+      (at-place 14 l (Breaks14 s l) o e (fourteen (e .place) (e .inside) (kept-none l (Breaks13 s l) a) (from-entity l (Breaks14 s l) o e)))
+  from-first (by-15 l o z h r a b e) =
+      source l 15 o (unbroken z) (walks l r h)
+      (at-place 15 l (Breaks15 s l) o e (fifteen (e .place) (e .inside) (kept-none l (Breaks13 s l) a) (kept-none l (Breaks14 s l) b) (from-entity l (Breaks15 s l) o e)))
+
+  -- REFUSED by k at o exactly when k is the first broken rule, at the first place that breaks it
+  pub refused : (c : Control) → ControlIs s c → (k o : ℕ) → (c .verdict ≡ Refused k o) ↔ FirstBroken s k o
+  refused c r k o = (to-first r k o, λ f. ap (λ (x : Control). x .verdict) (read-unique s r (from-first f)))
+
+  -- ---- 15
+  -- nothing earlier is broken, and the first entity that is on a loop stands at o
+  pub record Looped (o : ℕ) : Type 0 where
+    pub block : BlockRight s
+    pub descriptors : Clean (course s)
+    pub seen : List Entity
+    pub entities : Entities s seen
+    pub found : Kept seen (Breaks13 s seen)
+    pub plain : Kept seen (Breaks14 s seen)
+    pub loop : FirstEntity seen (Breaks15 s seen) o
+
+  pub few-head : (k : ℕ) → BlockBreaks s k → k < 5
+  unfolding headFlags
+  few-head k u = up-below 1 (headFlags s) k u
+
+  pub few-flags : {k o : ℕ} → FirstBreak (course s) k o → k < 13
+  unfolding flags entityFlags
+  few-flags {k} {o} f = up-below 5 (course s .flags (f .seen) o) k (f .broken)
+
+  to-loop : {k o : ℕ} → FirstBroken s k o → k ≡ 15 → Looped o
+  to-loop (by-block k b l) e = absurd (omega (arith, few-head k b))
+  to-loop (by-descriptor k o z f) e = absurd (omega (arith, few-flags f))
+  to-loop (by-13 l o z h r f) e = absurd (omega arith)
+  to-loop (by-14 l o z h r a f) e = absurd (omega arith)
+  to-loop (by-15 l o z h r a b f) e = record { block = z; descriptors = h; seen = l; entities = r; found = a; plain = b; loop = f }
+
+  -- 15 is given exactly when nothing earlier is broken and some chain of sources returns to its start; at the first entity on such a chain
+  pub fifteen-given : (c : Control) → ControlIs s c → (o : ℕ) → (c .verdict ≡ Refused 15 o) ↔ Looped o
+  fifteen-given c r o = (
+    λ e. to-loop (to-first r 15 o e) refl,
+    λ p. refused c r 15 o .1 (by-15 (p .seen) o (p .block) (p .descriptors) (p .entities) (p .found) (p .plain) (p .loop)),
+  )
+
+  -- ---- the table
+  -- an accepted table lists exactly the block's entities, in block order
+  pub lists : {c : Control} → ControlIs s c → c .verdict ≡ Accepted → (seen : List Entity) × Entities s seen × (c .table ≡ tableOf s seen)
+  lists (block k e) q = absurd (verdict-apart _ _ q)
+  lists (descriptor k o z y) q = absurd (verdict-apart _ _ q)
+  lists (source l k o z y v) q = absurd (verdict-apart _ _ q)
+  lists (sound l z y v) q = (l, walked l y .0, refl)
+
+  -- a refused one is all zero
+  pub zero-table : {c : Control} → ControlIs s c → (k o : ℕ) → c .verdict ≡ Refused k o → c .table ≡ noTable
+  zero-table (block j e) k o q = refl
+  zero-table (descriptor j p z y) k o q = refl
+  zero-table (source l j p z y v) k o q = refl
+  zero-table (sound l z y v) k o q = absurd (verdict-apart k o (sym q))
+
+  -- every source of an accepted block names an entity that is no output terminal
+  pub record Named (l : List Entity) (e : Entity) (q : ℕ) : Type 0 where
+    pub place : ℕ
+    pub inside : place < length l
+    pub found : findFrom 0 l (sourceAt s e q) ≡ At place
+    pub plain : entityAt l place .kind ≡ 3 → ⊥
+
+  pub named : {c : Control} → ControlIs s c → c .verdict ≡ Accepted → (l : List Entity) → Entities s l → (i : ℕ) → i < length l → (q : ℕ) → q < sourcesOf s (entityAt l i) → Named l (entityAt l i) q
+  named r a l m i h q b = go (findFrom 0 l (sourceAt s (entityAt l i) q)) refl
+    where
+      d : Kept l (Breaks13 s l) × Kept l (Breaks14 s l) × Kept l (Breaks15 s l)
+      d = to-sound r a .sources l m
+
+      go : (f : Found) → findFrom 0 l (sourceAt s (entityAt l i) q) ≡ f → Named l (entityAt l i) q
+      go Nothing e = absurd (d .0 i h (q, b, e))
+      go (At j) e = record { place = j; inside = found-within l (sourceAt s (entityAt l i) q) j e; found = e; plain = λ k. d .1 i h (q, b, (j, e, k)) }

@@ -1,0 +1,69 @@
+// Reads the class-specific descriptors of a VideoControl interface: rules 1 to 15, and the entity table.
+ghost use mathlib.Core.Path.{_≡_};
+ghost use Prim.Native.Nat.{_≤_, _<_};
+ghost use lib.ListN.{length};
+ghost use Rattle.rules.specs.Numbered.{firstFrom};
+ghost use Rattle.control_rules.specs.Rules.{headFlags};
+ghost use Rattle.control.specs.Reading.{ControlIs, refusedBy};
+use entities::Table;
+use rules::Verdict;
+
+// The verdict, and the entity table: all zero where the block is refused.
+pub struct Control {
+    pub verdict: Verdict,
+    pub table: Table,
+}
+
+// Reads a control block.
+pub fn read(block: &[u8]) -> Control
+    ensures { λ r. ⌜ ControlIs (now (block .entry)) r ⌝ }
+{
+    let broken = control_rules::head_rule(block);
+    if broken != 0 {
+        return refused(broken, 0);
+    }
+    walk(block)
+}
+
+// The walk over the descriptors, header first; then their sources.
+fn walk(s: &[u8]) -> Control
+    requires { ⌜ firstFrom 1 (headFlags (now s)) ≡ 0 ⌝ }
+    ensures { λ r. ⌜ ControlIs (now (s .entry)) r ⌝ }
+{
+    let mut table = entities::no_table();
+    let mut marks = marks::none();
+    let mut at: usize = 0;
+    while at < s.len() {
+        let count = table.count;
+        let broken = control_rules::rule_at(s, at, count, &marks);
+        if broken != 0 {
+            return refused(broken, at);
+        }
+        if control_rules::is_entity(s[at + 2]) {
+            marks::with(&mut marks, s[at + 3]);
+            table.entities[count] = control_rules::entity_at(s, at);
+            table.count = count + 1;
+        }
+        at = at + le::wide(s[at]);
+    }
+    match sources::judge(s, table) {
+        Verdict::Accepted => {
+            table.clock = le::le32(s, 7);
+            Control {
+                verdict: Verdict::Accepted,
+                table,
+            }
+        }
+        Verdict::Refused { number, offset } => refused(number, offset),
+    }
+}
+
+fn refused(number: u8, offset: usize) -> Control
+    ensures { λ r. ⌜ r ≡ refusedBy number offset ⌝ }
+{
+    let table = entities::no_table();
+    Control {
+        verdict: Verdict::Refused { number, offset },
+        table,
+    }
+}

@@ -1,0 +1,4 @@
+-- The laws that belong to no one function.
+pub mod Mapping
+pub mod Unique
+pub mod ExactlyWhen

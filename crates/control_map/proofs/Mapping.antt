@@ -1,0 +1,123 @@
+-- What finding an ID in an accepted block's table says of its controls.
+use Prim.Native.Nat.{ℕ, zero, suc, _-_, _≤_, _<_}
+use mathlib.Core.Path.{_≡_, refl, sym, _∙_}
+use mathlib.Core.List.{List}
+use mathlib.Core.Bool.{Bool, true, false}
+use lib.ListN.{length, replicate, length-take}
+use lib.Seq.{take-at}
+use lib.Dec.{eqb}
+use borrow.Author.Tests.{eqb-true, eqb-false}
+use native.Mathlib.Omega.{arith}
+use Rattle.rules.specs.Pick.{pick}
+use Rattle.rules.specs.First.{First}
+use Rattle.rules.specs.Walk.{Clean}
+use Rattle.rules.proofs.Padded.{pad-at}
+use Rattle.rules.specs.declared.Verdict.the-variants.{Accepted}
+use Rattle.rules.specs.declared.Verdict.the-variants as verdicts
+use Rattle.entities.specs.Table.{noEntity, noTable, entityAt, used, findFrom, foundIn}
+use Rattle.entities.specs.declared.Entity.{Entity}
+use Rattle.entities.specs.declared.Table.{Table}
+use Rattle.entities.specs.declared.Found.{Found}
+use Rattle.entities.specs.declared.Found.the-variants.{At, Nothing}
+use Rattle.entities.proofs.Finding.{Carries, found-first, found-within}
+use Rattle.entities.proofs.Finding as finding
+use Rattle.control_rules.specs.Descriptors.{kindOf, controlsPlace}
+use Rattle.control_rules.proofs.Shortest.{by-kind}
+use Rattle.control.specs.Reading.{course, tableOf, acceptedWith, ControlIs}
+use Rattle.control.specs.declared.Control.{Control}
+use Rattle.control.proofs.Listed.{Distinct, ids-differ}
+use Rattle.control.proofs.ExactlyWhen.{accepted, lists, zero-table}
+use Rattle.control_map.specs.Map.{placeOf, AcceptedWith, Mapped, controlsOf, MapIs, MapIs.own, MapIs.given, MapIs.sixteen}
+use Rattle.control_map.specs.declared.Map.{Map}
+use Rattle.control_map.specs.declared.Map.the-variants.{Refused}
+
+-- ---- an accepted block has clean descriptors and entities with IDs of their own
+pub clean : (s : List ℕ) (l : List Entity) → AcceptedWith s l → Clean (course s)
+clean s l a = accepted s (acceptedWith s l) (a .accepted) .0 refl .descriptors
+
+pub distinct : (s : List ℕ) (l : List Entity) → AcceptedWith s l → Distinct l
+distinct s l a = ids-differ s (clean s l a) (a .entities)
+
+-- two mapped entities of one ID are one
+pub mapped-once : (s : List ℕ) (l : List Entity) → AcceptedWith s l → (id i j : ℕ) → Mapped l id i → entityAt l j .id ≡ id → j < length l → i ≡ j
+mapped-once s l a id i j m e h = distinct s l a i j (m .inside) h (m .named ∙ sym e)
+
+-- ---- the table that the code holds
+used-of : (s : List ℕ) (t : Table) (l : List Entity) → t ≡ tableOf s l → used t ≡ l
+used-of s t l e = rw e (take-at l (replicate (32 - length l) noEntity) (length l) refl)
+
+place-of : (s : List ℕ) (t : Table) (l : List Entity) → t ≡ tableOf s l → (i : ℕ) → entityAt (t .entities) i ≡ entityAt l i
+place-of s t l e i = rw e (pad-at 32 noEntity l i)
+
+pub in-table : (t : Table) (id i : ℕ) (f : Found) → length (t .entities) ≡ 32 → f ≡ foundIn t id → f ≡ At i → i < 32
+in-table t id i f z e a =
+    let h : i < length (used t) = found-within (used t) id i (sym e ∙ a) in
+    let k : length (used t) ≤ length (t .entities) = simp length-take (omega arith) in
+    omega arith
+
+module _ (s : List ℕ) (t : Table) (c : ControlIs s (record { verdict = Accepted; table = t })) where
+  the-list : (l : List Entity) × AcceptedWith s l × (t ≡ tableOf s l)
+  the-list =
+      let x = lists s c refl in
+      (x .0, record { entities = x .1; accepted = rw (x .2) at c }, x .2)
+
+  all-used : used t ≡ the-list .0
+  all-used = used-of s t (the-list .0) (the-list .2)
+
+  at-place : (i : ℕ) → entityAt (t .entities) i ≡ entityAt (the-list .0) i
+  at-place i = place-of s t (the-list .0) (the-list .2) i
+
+  module _ (id : ℕ) (f : Found) (e : f ≡ foundIn t id) where
+    here : findFrom 0 (the-list .0) id ≡ f
+    here = rw (← all-used) (sym e)
+
+    pub map-nothing : (r : Map) → f ≡ Nothing → r ≡ Refused 16 0 → MapIs s id r
+    map-nothing r n q =
+        let l = the-list .0 in
+        let w : First (Carries l id) (length l) (finding.placeOf (length l) Nothing) = rw (here, n) at (found-first l id) in
+        rw q (sixteen l (the-list .1) (λ i m. w .before i (m .inside) (m .named)))
+
+    module _ (i : ℕ) (a : f ≡ At i) where
+      pub map-at : (r : Map) → r ≡ pick (eqb (placeOf (entityAt (t .entities) i)) 0) (Refused 16 0) (controlsOf s (entityAt (t .entities) i)) → MapIs s id r
+      unfolding pick
+      map-at r q = rw (q, at-place i) (go (eqb (placeOf x) 0) refl)
+        where
+          l : List Entity
+          l = the-list .0
+
+          x : Entity
+          x = entityAt l i
+
+          inside : i < length l
+          inside = found-within l id i (here ∙ a)
+
+          w : First (Carries l id) (length l) i
+          w = rw (here, a) at (found-first l id)
+
+          go : (b : Bool) → eqb (placeOf x) 0 ≡ b → MapIs s id (pick b (Refused 16 0) (controlsOf s x))
+          go true z =
+              sixteen l (the-list .1)
+              (λ j m. let y : j ≡ i = mapped-once s l (the-list .1) id j i m (w .here inside) inside in
+              let k = rw y at (m .some) in
+              omega (arith, eqb-true (placeOf x) 0 z))
+          go false z = given l (the-list .1) i (record { inside = inside; named = w .here inside; some = let n = eqb-false (placeOf x) 0 z in pos (placeOf x) n })
+            where
+              pos : (n : ℕ) → (n ≡ 0 → ⊥) → 0 < n
+              pos zero k = absurd (k refl)
+              pos (suc n) k = omega arith
+
+-- ---- by the block's verdict
+pub map-own : (s : List ℕ) (id : ℕ) (c : Control) → ControlIs s c → (k o : ℕ) → c .verdict ≡ verdicts.Refused k o → MapIs s id (Refused k o)
+map-own s id c r k o e =
+    let t : c .table ≡ noTable = zero-table s r k o e in
+    own k o (rw (← e, ← t) r)
+
+pub accepted-table : (s : List ℕ) (c : Control) → ControlIs s c → c .verdict ≡ Accepted → ControlIs s (record { verdict = Accepted; table = c .table })
+accepted-table s c r e = rw (← e) r
+
+-- ---- what the default of the match says
+pub place-else : (t x : ℕ) → (x ≡ 2 → ⊥) → (x ≡ 5 → ⊥) → 0 ≡ controlsPlace (kindOf x) t
+unfolding controlsPlace
+place-else t =
+    by-kind (λ x k. (x ≡ 2 → ⊥) → (x ≡ 5 → ⊥) → 0 ≡ controlsPlace k t)
+    (λ a b. refl) (λ a b. absurd (a refl)) (λ a b. refl) (λ a b. refl) (λ a b. absurd (b refl)) (λ a b. refl) (λ a b. refl) (λ a b. refl) (λ n l a b. refl)

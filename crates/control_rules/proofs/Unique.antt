@@ -1,0 +1,21 @@
+-- Each promise leaves one answer: it says which.
+use Prim.Native.Nat.{ℕ}
+use mathlib.Core.Path.{_≡_, sym, _∙_}
+use mathlib.Core.List.{List}
+use mathlib.Core.Bool.{Bool}
+use Rattle.rules.specs.Numbered.{firstFrom}
+use Rattle.entities.specs.declared.Entity.{Entity}
+use Rattle.control_rules.specs.Descriptors.{kindOf, isEntity}
+use Rattle.control_rules.specs.Rules.{headFlags, flags, entityOf}
+
+pub head-rule-unique : (s : List ℕ) (a b : ℕ) → a ≡ firstFrom 1 (headFlags s) → b ≡ firstFrom 1 (headFlags s) → a ≡ b
+head-rule-unique s a b p q = p ∙ sym q
+
+pub rule-at-unique : (s : List ℕ) (o n : ℕ) (u : Bool) (a b : ℕ) → a ≡ firstFrom 5 (flags s o u n) → b ≡ firstFrom 5 (flags s o u n) → a ≡ b
+rule-at-unique s o n u a b p q = p ∙ sym q
+
+pub entity-at-unique : (s : List ℕ) (o : ℕ) (a b : Entity) → a ≡ entityOf s o → b ≡ entityOf s o → a ≡ b
+entity-at-unique s o a b p q = p ∙ sym q
+
+pub is-entity-unique : (x : ℕ) (a b : Bool) → a ≡ isEntity (kindOf x) → b ≡ isEntity (kindOf x) → a ≡ b
+is-entity-unique x a b p q = p ∙ sym q

@@ -1,0 +1,122 @@
+-- Document 01, "Control block": the table of descriptors, a line for each subtype. `s` is the block, and the descriptor starts at `o`.
+use Prim.Native.Nat.{ℕ, zero, suc, _+_, _≤_}
+use mathlib.Core.Path.{_≡_}
+use mathlib.Core.List.{List}
+use mathlib.Core.Bool.{Bool, true, false, _&&_}
+use lib.ListN.{length, getD}
+use lib.Dec.{leb, eqb}
+use Rattle.le.specs.Le.{byte, le16At}
+use Rattle.rules.specs.Pick.{pick}
+
+-- what a subtype number says, with one case for everything unknown
+pub data Kind : Type 0 where
+  header input output selector processing extension encoding unknown : Kind
+
+unfoldable pub kindOf : ℕ → Kind
+kindOf zero = unknown
+kindOf (suc zero) = header
+kindOf (suc (suc zero)) = input
+kindOf (suc (suc (suc zero))) = output
+kindOf (suc (suc (suc (suc zero)))) = selector
+kindOf (suc (suc (suc (suc (suc zero))))) = processing
+kindOf (suc (suc (suc (suc (suc (suc zero)))))) = extension
+kindOf (suc (suc (suc (suc (suc (suc (suc zero))))))) = encoding
+kindOf (suc (suc (suc (suc (suc (suc (suc (suc n)))))))) = unknown
+
+-- bLength, and the kind by the subtype
+abbrev pub lenAt : List ℕ → ℕ → ℕ
+lenAt s o = getD s o 0
+
+abbrev pub kindAt : List ℕ → ℕ → Kind
+kindAt s o = kindOf (byte s o 2)
+
+-- the terminal type of a camera
+abbrev pub camera : ℕ
+camera = 0x0201
+
+-- ---- length and control size
+
+-- the length is `size`, and the control size, at `k`, is 3
+unfoldable pub fixedAt : List ℕ → ℕ → ℕ → ℕ → Bool
+fixedAt s o size k = eqb (lenAt s o) size && eqb (byte s o k) 3
+
+-- the length is `base` and as many more as the byte at `k` says
+unfoldable pub countedAt : List ℕ → ℕ → ℕ → ℕ → Bool
+countedAt s o base k = eqb (lenAt s o) (base + byte s o k)
+
+-- at least 8; exactly 18 for a camera, whose byte 14 is 3
+unfoldable pub inputAt : List ℕ → ℕ → Bool
+inputAt s o = leb 8 (lenAt s o) && pick (eqb (le16At s (o + 4)) camera) (fixedAt s o 18 14) true
+
+-- 24+p+n: p at 21, and n at 22+p
+unfoldable pub extensionAt : List ℕ → ℕ → Bool
+extensionAt s o = eqb (lenAt s o) (24 + byte s o 21 + getD s (o + 22 + byte s o 21) 0)
+
+unfoldable pub shape : Kind → List ℕ → ℕ → Bool
+shape header s o = countedAt s o 12 11
+shape input s o = inputAt s o
+shape output s o = leb 9 (lenAt s o)
+shape selector s o = countedAt s o 6 4
+shape processing s o = fixedAt s o 13 7
+shape extension s o = extensionAt s o
+shape encoding s o = fixedAt s o 13 6
+shape unknown s o = true
+
+-- ---- what stands in the entity table: the kind, and the terminal type or 0
+unfoldable pub isEntity : Kind → Bool
+isEntity header = false
+isEntity input = true
+isEntity output = true
+isEntity selector = true
+isEntity processing = true
+isEntity extension = true
+isEntity encoding = true
+isEntity unknown = false
+
+unfoldable pub terminalOf : Kind → List ℕ → ℕ → ℕ
+terminalOf header s o = 0
+terminalOf input s o = le16At s (o + 4)
+terminalOf output s o = le16At s (o + 4)
+terminalOf selector s o = 0
+terminalOf processing s o = 0
+terminalOf extension s o = 0
+terminalOf encoding s o = 0
+terminalOf unknown s o = 0
+
+-- ---- sources: how many, and where the first of them stands
+unfoldable pub sourceCount : Kind → List ℕ → ℕ → ℕ
+sourceCount header s o = 0
+sourceCount input s o = 0
+sourceCount output s o = 1
+sourceCount selector s o = byte s o 4
+sourceCount processing s o = 1
+sourceCount extension s o = byte s o 21
+sourceCount encoding s o = 1
+sourceCount unknown s o = 0
+
+unfoldable pub sourcePlace : Kind → ℕ
+sourcePlace header = 0
+sourcePlace input = 0
+sourcePlace output = 7
+sourcePlace selector = 5
+sourcePlace processing = 4
+sourcePlace extension = 22
+sourcePlace encoding = 4
+sourcePlace unknown = 0
+
+-- ---- controls: where the three bytes stand, by the kind and the terminal type; 0 where there are none
+unfoldable pub controlsPlace : Kind → ℕ → ℕ
+controlsPlace header t = 0
+controlsPlace input t = pick (eqb t camera) 15 0
+controlsPlace output t = 0
+controlsPlace selector t = 0
+controlsPlace processing t = 8
+controlsPlace extension t = 0
+controlsPlace encoding t = 0
+controlsPlace unknown t = 0
+
+-- ---- a descriptor that lies in the block and has its kind's length and control size
+pub record Shaped (k : Kind) (s : List ℕ) (o : ℕ) : Type 0 where
+  pub long : 3 ≤ lenAt s o
+  pub inside : o + lenAt s o ≤ length s
+  pub right : shape k s o ≡ true

@@ -1,0 +1,72 @@
+use native.Mathlib.Omega.{arith}
+use lib.ListN.{length}
+use Prim.Native.Nat.{_-_}
+use Rattle.describe.proofs.Spelling.{Spelling, no-digits, spelling, below-digits, above-digits, too-large, one-more, spelt-all}
+use borrow.Author.Needs.{needs}
+use Rattle.describe.proofs.control_bytes.id_of.Statement.{statement}
+use Rattle.describe.proofs.control_bytes.id_of.Tie as tie
+
+abbrev Inv-loop : tie.InvT-loop
+Inv-loop digits value₀ i₀ value i = Spelling digits value i
+
+abbrev μ-loop : tie.MeasureT-loop
+μ-loop digits value₀ i₀ value i = length digits - i
+
+returns : tie.Need-returns Inv-loop μ-loop
+returns c = no-digits _ (c .if1 .taken)
+
+loop-holds : tie.Need-loop-holds Inv-loop μ-loop
+loop-holds c = spelling _ (c .if1 .left)
+
+shared-slice-read-d : tie.Need-shared-slice-read-d Inv-loop μ-loop
+shared-slice-read-d c = search needs
+
+returns-2 : tie.Need-returns-2 Inv-loop μ-loop
+returns-2 c = below-digits _ _ _ (c .before .before .before .loop .inv) (omega arith) (c .if2 .taken)
+
+returns-3 : tie.Need-returns-3 Inv-loop μ-loop
+returns-3 c = above-digits _ _ _ (c .before .before .before .before .loop .inv) (omega arith) (omega arith) (omega arith)
+
+mul-value : tie.Need-mul-value Inv-loop μ-loop
+mul-value c = search needs
+
+cast-value : tie.Need-cast-value Inv-loop μ-loop
+cast-value c = search needs
+
+add-value : tie.Need-add-value Inv-loop μ-loop
+add-value c = search needs
+
+returns-4 : tie.Need-returns-4 Inv-loop μ-loop
+returns-4 c = too-large _ _ _ (c .before .before .before .before .before .loop .inv) (omega arith) (omega arith) (omega arith) (omega arith)
+
+add-i : tie.Need-add-i Inv-loop μ-loop
+add-i c = search needs
+
+loop-less : tie.Need-loop-less Inv-loop μ-loop
+loop-less c = search needs
+
+loop-again : tie.Need-loop-again Inv-loop μ-loop
+loop-again c = one-more _ _ _ (c .before .before .before .before .before .loop .inv) (omega arith) (omega arith) (omega arith) (omega arith)
+
+returns-5 : tie.Need-returns-5 Inv-loop μ-loop
+returns-5 c = spelt-all _ _ _ (c .before .loop .inv) (omega arith)
+
+pub id-of-spec : {M : Type 1} → statement M
+id-of-spec =
+    tie.close
+    (tie.spec
+    Inv-loop
+    μ-loop
+    returns
+    loop-holds
+    shared-slice-read-d
+    returns-2
+    returns-3
+    mul-value
+    cast-value
+    add-value
+    returns-4
+    add-i
+    loop-less
+    loop-again
+    returns-5)

@@ -1,0 +1,165 @@
+-- Where a transfer's data is written lies within the frame, and stays so from call to call.
+use Prim.Native.Nat.{ℕ, _+_, _≤_}
+use mathlib.Core.Path.{_≡_, refl}
+use mathlib.Core.Bool.{Bool, true, false, true≢false}
+use native.Mathlib.Omega.{arith}
+use lib.Dec.{ltb, eqb}
+use borrow.Author.Tests.{ltb-false}
+use Rattle.rules.specs.Pick.{pick-all}
+use Rattle.payload.specs.declared.Opening.{Opening}
+use Rattle.payload.specs.declared.Header.{Header}
+use Rattle.frames.specs.declared.Reason.{Reason}
+use Rattle.payload.specs.declared.Stamp.{Stamp}
+use Rattle.frames.specs.declared.Reason.the-variants.{Gap, Error, Clock, Long, Cut}
+use Rattle.frames.specs.declared.Fault.{Fault}
+use Rattle.frames.specs.declared.Fault.the-variants.{Sound, Bad}
+use Rattle.frames.specs.declared.Run.{Run}
+use Rattle.frames.specs.declared.Phase.{Phase}
+use Rattle.frames.specs.declared.Phase.the-variants.{Fresh, Under, Past}
+use Rattle.frames.specs.declared.Track.{Track}
+use Rattle.frames.specs.declared.Ended.{Ended}
+use Rattle.frames.specs.declared.Ended.the-variants.{Nothing, Frame}
+use Rattle.frames.specs.declared.Fate.{Fate}
+use Rattle.frames.specs.declared.Fate.the-variants.{Idle, Kept, Stray, Delivered, Dropped, Unreadable}
+use Rattle.frames.specs.declared.Turn.{Turn}
+use Rattle.frames.specs.Track.{firstOf, clashOf, whyOf, sameOf, filledOf, writtenOf, begunOf, faultOf, joinedOf, completeOf, fateOf, phaseOf, joinTurn, strayTurn, turnBy, turnOf, spoiltBy, spoiltOf, closedBy, closedOf, underBytes}
+
+-- a frame is filled to no more than the frame size, and while it has no fault with all its data
+pub record Filled (o : Opening) (r : Run) : Type 0 where
+  pub within : r .fill ≤ o .frame
+  pub whole : r .fault ≡ Sound → r .fill ≡ r .bytes
+
+abbrev pub FilledBy : Opening → Phase → Type 0
+FilledBy o Fresh = Unit {0}
+FilledBy o (Past fid) = Unit {0}
+FilledBy o (Under r) = Filled o r
+
+-- ---- no fault now: none before, and none by this
+first-sound : (f : Fault) (bad : Bool) (why : Reason) → firstOf f bad why ≡ Sound → (f ≡ Sound) × (bad ≡ false)
+first-sound (Bad w) bad why e = let z : _≡_ {A = ℕ} 0 1 = cc in absurd (omega arith)
+first-sound Sound true why e = let z : _≡_ {A = ℕ} 0 1 = cc in absurd (omega arith)
+first-sound Sound false why e = (refl, refl)
+
+module _ (o : Opening) (r : Run) (h : Header) (n : ℕ) where
+  -- a frame without fault had none before, and is no longer than the frame size
+  pub sound-before : faultOf o r h n ≡ Sound → (r .fault ≡ Sound) × (r .bytes + n ≤ o .frame)
+  sound-before e =
+      let l = first-sound (firstOf (firstOf (r .fault) (h .error) Error) (clashOf (r .stamp) (h .stamp)) Clock)
+      (ltb (o .frame) (r .bytes + n)) Long e in
+      let k = first-sound (firstOf (r .fault) (h .error) Error) (clashOf (r .stamp) (h .stamp)) Clock (l .0) in
+      (first-sound (r .fault) (h .error) Error (k .0) .0, ltb-false (o .frame) (r .bytes + n) (l .1))
+
+  module _ (q : Filled o r) where
+    writes : (f : Fault) → faultOf o r h n ≡ f → r .fill + writtenOf f n ≤ o .frame
+    writes Sound e = let s = sound-before e in let w = q .whole (s .0) in omega arith
+    writes (Bad w) e = omega (arith, q .within)
+
+    fills : (f : Fault) → faultOf o r h n ≡ f → filledOf f (r .fill) n ≤ o .frame
+    fills Sound e = let s = sound-before e in let w = q .whole (s .0) in omega arith
+    fills (Bad w) e = omega (arith, q .within)
+
+    whole : (f : Fault) → faultOf o r h n ≡ f → f ≡ Sound → filledOf f (r .fill) n ≡ r .bytes + n
+    whole Sound e g = let w = q .whole (sound-before e .0) in omega arith
+    whole (Bad w) e g = let z : _≡_ {A = ℕ} 0 1 = cc in absurd (omega arith)
+
+    -- what a transfer that joins writes lies within the frame
+    pub join-inside : r .fill + writtenOf (faultOf o r h n) n ≤ o .frame
+    join-inside = writes (faultOf o r h n) refl
+
+    pub join-filled : Filled o (joinedOf o r h n)
+    join-filled = record { within = fills (faultOf o r h n) refl; whole = whole (faultOf o r h n) refl }
+
+pub begun-filled : (o : Opening) (gap fid : Bool) → Filled o (begunOf gap fid)
+begun-filled o gap fid = record { within = omega arith; whole = λ e. refl }
+
+-- ---- a readable transfer
+phase-filled : (o : Opening) (eof : Bool) (r : Run) → Filled o r → FilledBy o (phaseOf eof r)
+phase-filled o true r q = tt
+phase-filled o false r q = q
+
+-- a delivered frame's length is its bytes
+abbrev pub LengthOf : Fate → ℕ → Type 0
+LengthOf Idle n = Unit {0}
+LengthOf Kept n = Unit {0}
+LengthOf Stray n = Unit {0}
+LengthOf (Delivered d) n = d .len ≡ n
+LengthOf (Dropped why) n = Unit {0}
+LengthOf (Unreadable k) n = Unit {0}
+
+-- what a readable transfer with n bytes of data leads to, from the phase p
+pub record Sits (o : Opening) (p : Phase) (n : ℕ) (x : Turn) : Type 0 where
+  -- what is written is no more than its data and lies within the frame
+  pub short : x .len ≤ n
+  pub inside : x .at + x .len ≤ o .frame
+  -- no more bytes are entered than have come
+  pub gone : x .gone ≤ underBytes p
+  pub bytes : x .bytes ≤ underBytes p + n
+  pub long : LengthOf (x .answer .fate) (x .bytes)
+  -- and the next frame under way is filled as this one
+  pub filled : FilledBy o (x .track .phase)
+
+complete-long : (f : Fault) (n : ℕ) (s : Stamp) → LengthOf (completeOf f n s) n
+complete-long (Bad why) n s = tt
+complete-long Sound n s = pick-all (λ x. LengthOf x n) (eqb n 0) _ _ tt refl
+
+fate-long : (eof : Bool) (r : Run) → LengthOf (fateOf eof r) (r .bytes)
+fate-long true r = complete-long (r .fault) (r .bytes) (r .stamp)
+fate-long false r = tt
+
+no-more : (f : Fault) (n : ℕ) → writtenOf f n ≤ n
+no-more Sound n = omega arith
+no-more (Bad w) n = omega arith
+
+module _ (o : Opening) (h : Header) (n : ℕ) where
+  joins : (p : Phase) (r : Run) (e : Ended) (gone : ℕ) → Filled o r → r .bytes ≤ underBytes p → gone ≤ underBytes p →
+      Sits o p n (joinTurn o r h n e gone)
+  joins p r e gone q l g =
+      record {
+        short = no-more (faultOf o r h n) n;
+        inside = join-inside o r h n q;
+        gone = g;
+        bytes = omega arith;
+        long = fate-long (h .eof) (joinedOf o r h n);
+        filled = phase-filled o (h .eof) (joinedOf o r h n) (join-filled o r h n q);
+      }
+
+  begins : (p : Phase) (gap : Bool) (e : Ended) (gone : ℕ) → gone ≤ underBytes p → Sits o p n (joinTurn o (begunOf gap (h .fid)) h n e gone)
+  begins p gap e gone g = joins p (begunOf gap (h .fid)) e gone (begun-filled o gap (h .fid)) (omega arith) g
+
+  strays : (p : Phase) (fid : Bool) → Sits o p n (strayTurn fid n)
+  strays p fid = record { short = omega arith; inside = omega arith; gone = omega arith; bytes = omega arith; long = tt; filled = tt }
+
+  sits : (p : Phase) (gap : Bool) → FilledBy o p → Sits o p n (turnBy p o gap h n)
+  sits Fresh gap q = begins Fresh gap Nothing 0 (omega arith)
+  sits (Under r) gap q =
+      pick-all (Sits o (Under r) n) (sameOf (r .fid) (h .fid)) _ _ (joins (Under r) r Nothing 0 q (omega arith) (omega arith))
+      (begins (Under r) gap (Frame (whyOf (r .fault) Cut)) (r .bytes) (omega arith))
+  sits (Past fid) gap q = pick-all (Sits o (Past fid) n) (sameOf fid (h .fid)) _ _ (strays (Past fid) fid)
+      (begins (Past fid) gap Nothing 0 (omega arith))
+
+  pub turn-sits : (t : Track) → FilledBy o (t .phase) → Sits o (t .phase) n (turnOf o t h n)
+  unfolding turnOf
+  turn-sits t q = sits (t .phase) (t .gap) q
+
+-- ---- an unreadable or lost transfer
+not-sound : (f : Fault) (w : Reason) → firstOf f true w ≡ Sound → ⊥
+not-sound f w e = true≢false (first-sound f true w e .1)
+
+spoils : (o : Opening) (p : Phase) → FilledBy o p → FilledBy o (spoiltBy p)
+spoils o Fresh q = tt
+spoils o (Past fid) q = tt
+spoils o (Under r) q = record { within = q .within; whole = λ e. absurd (not-sound (r .fault) Gap e) }
+
+pub spoilt-filled : (o : Opening) (t : Track) → FilledBy o (t .phase) → FilledBy o (spoiltOf t .phase)
+unfolding spoiltOf
+spoilt-filled o t q = spoils o (t .phase) q
+
+-- ---- close
+closes : (p : Phase) (gap : Bool) → closedBy p gap .gone ≤ underBytes p
+closes Fresh gap = omega arith
+closes (Past fid) gap = omega arith
+closes (Under r) gap = omega arith
+
+pub closed-gone : (t : Track) → closedOf t .gone ≤ underBytes (t .phase)
+unfolding closedOf
+closed-gone t = closes (t .phase) (t .gap)

@@ -1,0 +1,4 @@
+-- Laws of the frame under way.
+pub mod Turns
+pub mod Bounds
+pub mod Unique

@@ -1,0 +1,86 @@
+-- What a call makes of the frame under way, one law for each way through the code.
+use Prim.Native.Nat.{ℕ, _+_, _<_, _^_}
+use mathlib.Core.Path.{_≡_, refl}
+use mathlib.Core.Bool.{Bool, true, false}
+use native.Mathlib.Omega.{arith}
+use lib.Dec.{eqb}
+use borrow.Author.Tests.{eq-eqb, ne-eqb}
+use Rattle.rules.specs.Pick.{yes, no, said-yes, said-no}
+use Rattle.payload.specs.declared.Opening.{Opening}
+use Rattle.payload.specs.declared.Header.{Header}
+use Rattle.payload.specs.declared.Stamp.{Stamp}
+use Rattle.frames.specs.declared.Reason.{Reason}
+use Rattle.frames.specs.declared.Reason.the-variants.{Cut, Empty}
+use Rattle.frames.specs.declared.Fault.{Fault}
+use Rattle.frames.specs.declared.Fault.the-variants.{Sound, Bad}
+use Rattle.frames.specs.declared.Fate.the-variants.{Delivered, Dropped}
+use Rattle.frames.specs.declared.Run.{Run}
+use Rattle.frames.specs.declared.Phase.{Phase}
+use Rattle.frames.specs.declared.Phase.the-variants.{Fresh, Under, Past}
+use Rattle.frames.specs.declared.Track.{Track}
+use Rattle.frames.specs.declared.Ended.the-variants.{Nothing, Frame}
+use Rattle.frames.specs.declared.Turn.{Turn}
+use Rattle.frames.specs.Track.{whyOf, sameOf, begunOf, joinTurn, strayTurn, turnOf, completeOf, closedBy, closedOf, Roomy}
+
+-- ---- a readable transfer
+module _ (o : Opening) (t : Track) (h : Header) (n : ℕ) (x : Turn) where
+  pub turn-fresh : (b : Run) → t .phase ≡ Fresh → b ≡ begunOf (t .gap) (h .fid) → x ≡ joinTurn o b h n Nothing 0 → x ≡ turnOf o t h n
+  unfolding turnOf
+  turn-fresh b p e q = rw p (rw e at q)
+
+  -- the frame goes on
+  pub turn-on : (r : Run) (s : Bool) → t .phase ≡ Under r → s ≡ sameOf (r .fid) (h .fid) → s ≡ true → x ≡ joinTurn o r h n Nothing 0 →
+      x ≡ turnOf o t h n
+  unfolding turnOf
+  turn-on r s p e y q = rw p (said-yes s (sameOf (r .fid) (h .fid)) x _ _ e y q)
+
+  -- another FID ends the frame and begins the next
+  pub turn-ends :
+      (r : Run) (s : Bool) (w : Reason) (b : Run) → t .phase ≡ Under r → s ≡ sameOf (r .fid) (h .fid) → s ≡ false → w ≡ whyOf (r .fault) Cut →
+      b ≡ begunOf (t .gap) (h .fid) → x ≡ joinTurn o b h n (Frame w) (r .bytes) → x ≡ turnOf o t h n
+  unfolding turnOf
+  turn-ends r s w b p e y v g q = rw p (said-no s (sameOf (r .fid) (h .fid)) x _ _ e y (rw (v, g) at q))
+
+  pub turn-stray : (fid s : Bool) → t .phase ≡ Past fid → s ≡ sameOf fid (h .fid) → s ≡ true → x ≡ strayTurn fid n → x ≡ turnOf o t h n
+  unfolding turnOf
+  turn-stray fid s p e y q = rw p (said-yes s (sameOf fid (h .fid)) x _ _ e y q)
+
+  pub turn-past : (fid s : Bool) (b : Run) → t .phase ≡ Past fid → s ≡ sameOf fid (h .fid) → s ≡ false → b ≡ begunOf (t .gap) (h .fid) →
+      x ≡ joinTurn o b h n Nothing 0 → x ≡ turnOf o t h n
+  unfolding turnOf
+  turn-past fid s b p e y g q = rw p (said-no s (sameOf fid (h .fid)) x _ _ e y (rw g at q))
+
+-- ---- a complete frame
+module _ (f : Fault) (n : ℕ) (s : Stamp) where
+  pub complete-bad : (w : Reason) → f ≡ Bad w → Dropped w ≡ completeOf f n s
+  complete-bad w e = rw e
+
+  pub complete-empty : f ≡ Sound → n ≡ 0 → Dropped Empty ≡ completeOf f n s
+  complete-empty e z = rw e (yes (eqb n 0) _ _ _ (eq-eqb n 0 z) refl)
+
+  pub complete-whole : f ≡ Sound → (n ≡ 0 → ⊥) → Delivered (record { len = n; stamp = s }) ≡ completeOf f n s
+  complete-whole e z = rw e (no (eqb n 0) _ _ _ (ne-eqb n 0 z) refl)
+
+-- ---- close
+closed-by-fresh : (p : Phase) (gap : Bool) → p ≡ Fresh →
+    record { track = record { phase = p; gap = gap }; ended = Nothing; gone = 0 } ≡ closedBy p gap
+closed-by-fresh p gap e = rw e
+
+closed-by-past : (p : Phase) (gap fid : Bool) → p ≡ Past fid →
+    record { track = record { phase = p; gap = gap }; ended = Nothing; gone = 0 } ≡ closedBy p gap
+closed-by-past p gap fid e = rw e
+
+pub closed-fresh : (t : Track) → t .phase ≡ Fresh → record { track = t; ended = Nothing; gone = 0 } ≡ closedOf t
+unfolding closedOf
+closed-fresh t e = closed-by-fresh (t .phase) (t .gap) e
+
+pub closed-past : (t : Track) (fid : Bool) → t .phase ≡ Past fid → record { track = t; ended = Nothing; gone = 0 } ≡ closedOf t
+unfolding closedOf
+closed-past t fid e = closed-by-past (t .phase) (t .gap) fid e
+
+-- ---- no sum wraps
+pub begun-room : (b : Run) (gap fid : Bool) (n : ℕ) → b ≡ begunOf gap fid → n < 2 ^ 62 → (b .bytes + n < 2 ^ 63) × (b .fill + n < 2 ^ 63)
+begun-room b gap fid n e l = rw e (omega arith, omega arith)
+
+pub under-room : (p : Phase) (r : Run) (n : ℕ) → p ≡ Under r → Roomy p → n < 2 ^ 62 → (r .bytes + n < 2 ^ 63) × (r .fill + n < 2 ^ 63)
+under-room p r n e m l = let w : Roomy (Under r) = rw e at m in (omega arith, omega arith)

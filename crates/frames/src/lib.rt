@@ -1,0 +1,364 @@
+// The frame under way: turns a readable transfer into an answer. It never sees the ledger.
+ghost use mathlib.Core.Path.{_≡_};
+ghost use Prim.Native.Nat.{_+_, _<_, _^_};
+ghost use Rattle.frames.specs.Track.{firstOf, clashOf, earlierOf, whyOf, sameOf, begunOf, joinedOf, filledOf, writtenOf, completeOf, fateOf, phaseOf, joinTurn, strayTurn, turnOf, spoiltOf, closedOf, Roomy};
+use payload::Header;
+use payload::Opening;
+use payload::Stamp;
+
+// Why a frame was not delivered. The first four are faults.
+pub enum Reason {
+    Gap,
+    Error,
+    Clock,
+    Long,
+    Cut,
+    Empty,
+}
+
+pub enum Fault {
+    Sound,
+    Bad(Reason),
+}
+
+// A frame under way: its run's FID, its earliest fault, its data so far, how much of it is written, and its first stamp.
+pub struct Run {
+    pub fid: bool,
+    pub fault: Fault,
+    pub bytes: u64,
+    pub fill: usize,
+    pub stamp: Stamp,
+}
+
+pub enum Phase {
+    // No readable transfer yet.
+    Fresh,
+    // In a frame.
+    Under(Run),
+    // After a frame, in a run of this FID.
+    Past(bool),
+}
+
+pub struct Track {
+    pub phase: Phase,
+    // An unreadable or lost transfer came since the last readable one.
+    pub gap: bool,
+}
+
+// What became of a frame that a transfer's FID, or close, ended.
+pub enum Ended {
+    Nothing,
+    Frame(Reason),
+}
+
+// A delivered frame's length and stamp.
+pub struct Delivery {
+    pub len: u64,
+    pub stamp: Stamp,
+}
+
+// What became of the transfer itself. Kept: the frame is still under way, faulted or not.
+pub enum Fate {
+    Idle,
+    Kept,
+    Stray,
+    Delivered(Delivery),
+    Dropped(Reason),
+    // The number, 61 to 66.
+    Unreadable(u8),
+}
+
+pub struct Answer {
+    pub ended: Ended,
+    pub fate: Fate,
+}
+
+// What a readable transfer leads to.
+pub struct Turn {
+    pub track: Track,
+    pub answer: Answer,
+    // The bytes of the frame that the FID ended, and those of the transfer's own fate: its frame's, or a stray's.
+    pub gone: u64,
+    pub bytes: u64,
+    // How much of its data is written, and where.
+    pub at: usize,
+    pub len: usize,
+}
+
+// What close leads to.
+pub struct Shut {
+    pub track: Track,
+    pub ended: Ended,
+    pub gone: u64,
+}
+
+// The earlier fault stands.
+fn first_of(f: Fault, bad: bool, why: Reason) -> Fault
+    ensures { λ r. ⌜ r ≡ firstOf f bad why ⌝ }
+{
+    match f {
+        Fault::Bad(_) => f,
+        Fault::Sound => if bad { Fault::Bad(why) } else { Fault::Sound },
+    }
+}
+
+// Two stamps that differ.
+fn clash(a: Stamp, b: Stamp) -> bool
+    ensures { λ r. ⌜ r ≡ clashOf a b ⌝ }
+{
+    match a {
+        Stamp::Absent => false,
+        Stamp::At(x) => match b {
+            Stamp::Absent => false,
+            Stamp::At(y) => x != y,
+        },
+    }
+}
+
+// The first stamp of two.
+fn earlier(a: Stamp, b: Stamp) -> Stamp
+    ensures { λ r. ⌜ r ≡ earlierOf a b ⌝ }
+{
+    match a {
+        Stamp::Absent => b,
+        Stamp::At(_) => a,
+    }
+}
+
+fn why_of(f: Fault, other: Reason) -> Reason
+    ensures { λ r. ⌜ r ≡ whyOf f other ⌝ }
+{
+    match f {
+        Fault::Sound => other,
+        Fault::Bad(why) => why,
+    }
+}
+
+fn same(a: bool, b: bool) -> bool
+    ensures { λ r. ⌜ r ≡ sameOf a b ⌝ }
+{
+    if a { b } else { !b }
+}
+
+// How much is written once n bytes have come.
+fn filled(f: Fault, fill: usize, n: usize) -> usize
+    requires { ⌜ fill + n < 2 ^ 63 ⌝ }
+    ensures { λ r. ⌜ r ≡ filledOf f fill n ⌝ }
+{
+    match f {
+        Fault::Sound => fill + n,
+        Fault::Bad(_) => fill,
+    }
+}
+
+// How many of n bytes are written.
+fn written(f: Fault, n: usize) -> usize
+    ensures { λ r. ⌜ r ≡ writtenOf f n ⌝ }
+{
+    match f {
+        Fault::Sound => n,
+        Fault::Bad(_) => 0,
+    }
+}
+
+// A frame begins.
+fn begun(gap: bool, fid: bool) -> Run
+    ensures { λ r. ⌜ r ≡ begunOf gap fid ⌝ }
+{
+    let fault = first_of(Fault::Sound, gap, Reason::Gap);
+    Run {
+        fid,
+        fault,
+        bytes: 0,
+        fill: 0,
+        stamp: Stamp::Absent,
+    }
+}
+
+// A transfer with n bytes of data joins a frame: error, clock, long, in this order.
+fn joined(o: Opening, r: Run, h: Header, n: usize) -> Run
+    requires { ⌜ (r .bytes + n < 2 ^ 63) × (r .fill + n < 2 ^ 63) ⌝ }
+    ensures { λ x. ⌜ x ≡ joinedOf o r h n ⌝ }
+{
+    let a = r.stamp;
+    let b = h.stamp;
+    let bytes = r.bytes + n as u64;
+    let long = (o.frame as u64) < bytes;
+    let f = r.fault;
+    let e = first_of(f, h.error, Reason::Error);
+    let c = first_of(e, clash(a, b), Reason::Clock);
+    let fault = first_of(c, long, Reason::Long);
+    let fill = filled(fault, r.fill, n);
+    let stamp = earlier(a, b);
+    Run {
+        fid: r.fid,
+        fault,
+        bytes,
+        fill,
+        stamp,
+    }
+}
+
+// A complete frame with its earliest fault, its bytes and its stamp.
+fn complete(f: Fault, len: u64, stamp: Stamp) -> Fate
+    ensures { λ x. ⌜ x ≡ completeOf f len stamp ⌝ }
+{
+    match f {
+        Fault::Bad(why) => Fate::Dropped(why),
+        Fault::Sound => {
+            if len == 0 {
+                return Fate::Dropped(Reason::Empty);
+            }
+            Fate::Delivered(Delivery { len, stamp })
+        }
+    }
+}
+
+// The fate of a transfer of the frame r, which is r with it.
+fn fate_of(eof: bool, r: Run) -> Fate
+    ensures { λ x. ⌜ x ≡ fateOf eof r ⌝ }
+{
+    if eof {
+        let f = r.fault;
+        let stamp = r.stamp;
+        complete(f, r.bytes, stamp)
+    } else {
+        Fate::Kept
+    }
+}
+
+fn phase_of(eof: bool, r: Run) -> Phase
+    ensures { λ x. ⌜ x ≡ phaseOf eof r ⌝ }
+{
+    if eof {
+        Phase::Past(r.fid)
+    } else {
+        Phase::Under(r)
+    }
+}
+
+// A transfer with n bytes of data joins the frame r.
+fn join(o: Opening, r: Run, h: Header, n: usize, ended: Ended, gone: u64) -> Turn
+    requires { ⌜ (r .bytes + n < 2 ^ 63) × (r .fill + n < 2 ^ 63) ⌝ }
+    ensures { λ x. ⌜ x ≡ joinTurn o r h n ended gone ⌝ }
+{
+    let at = r.fill;
+    let next = joined(o, r, h, n);
+    let f = next.fault;
+    let len = written(f, n);
+    let bytes = next.bytes;
+    let fate = fate_of(h.eof, next);
+    let phase = phase_of(h.eof, next);
+    Turn {
+        track: Track { phase, gap: false },
+        answer: Answer { ended, fate },
+        gone,
+        bytes,
+        at,
+        len,
+    }
+}
+
+// A transfer with n bytes of data after its run's frame.
+fn stray(fid: bool, n: usize) -> Turn
+    ensures { λ x. ⌜ x ≡ strayTurn fid n ⌝ }
+{
+    Turn {
+        track: Track {
+            phase: Phase::Past(fid),
+            gap: false,
+        },
+        answer: Answer {
+            ended: Ended::Nothing,
+            fate: Fate::Stray,
+        },
+        gone: 0,
+        bytes: n as u64,
+        at: 0,
+        len: 0,
+    }
+}
+
+impl Track {
+    // Inner: a readable transfer with n bytes of data. The session has looked at the sizes (50).
+    pub fn turn(self, o: Opening, h: Header, n: usize) -> Turn
+        requires { ⌜ (Roomy (self .phase)) × (n < 2 ^ 62) ⌝ }
+        ensures { λ x. ⌜ x ≡ turnOf o self h n ⌝ }
+    {
+        let phase = self.phase;
+        match phase {
+            Phase::Fresh => join(o, begun(self.gap, h.fid), h, n, Ended::Nothing, 0),
+            Phase::Under(r) => {
+                if same(r.fid, h.fid) {
+                    return join(o, r, h, n, Ended::Nothing, 0);
+                }
+                let f = r.fault;
+                let why = why_of(f, Reason::Cut);
+                join(o, begun(self.gap, h.fid), h, n, Ended::Frame(why), r.bytes)
+            }
+            Phase::Past(fid) => {
+                if same(fid, h.fid) {
+                    return stray(fid, n);
+                }
+                join(o, begun(self.gap, h.fid), h, n, Ended::Nothing, 0)
+            }
+        }
+    }
+
+    // After an unreadable or lost transfer: a gap for the frame under way, and for one that begins next.
+    pub fn spoilt(self) -> Track
+        ensures { λ x. ⌜ x ≡ spoiltOf self ⌝ }
+    {
+        let phase = self.phase;
+        match phase {
+            Phase::Fresh => Track { phase, gap: true },
+            Phase::Past(_) => Track { phase, gap: true },
+            Phase::Under(r) => {
+                let f = r.fault;
+                let fault = first_of(f, true, Reason::Gap);
+                let stamp = r.stamp;
+                Track {
+                    phase: Phase::Under(Run {
+                        fid: r.fid,
+                        fault,
+                        bytes: r.bytes,
+                        fill: r.fill,
+                        stamp,
+                    }),
+                    gap: true,
+                }
+            }
+        }
+    }
+
+    // Close ends a frame under way.
+    pub fn shut(self) -> Shut
+        ensures { λ x. ⌜ x ≡ closedOf self ⌝ }
+    {
+        let phase = self.phase;
+        match phase {
+            Phase::Fresh => Shut {
+                track: self,
+                ended: Ended::Nothing,
+                gone: 0,
+            },
+            Phase::Past(_) => Shut {
+                track: self,
+                ended: Ended::Nothing,
+                gone: 0,
+            },
+            Phase::Under(r) => {
+                let f = r.fault;
+                let why = why_of(f, Reason::Cut);
+                Shut {
+                    track: Track {
+                        phase: Phase::Past(r.fid),
+                        gap: self.gap,
+                    },
+                    ended: Ended::Frame(why),
+                    gone: r.bytes,
+                }
+            }
+        }
+    }
+}

@@ -1,0 +1,4 @@
+-- The laws that belong to no one function.
+pub mod Bits
+pub mod Chains
+pub mod Unique

@@ -1,0 +1,3 @@
+pub mod Tests
+pub mod Deciding
+pub mod Unique

@@ -1,0 +1,4 @@
+-- Laws of the ledger.
+pub mod Rooms
+pub mod Steps
+pub mod Unique

@@ -1,0 +1,143 @@
+// Reads a trace in constant memory, record by record.
+ghost use mathlib.Core.Path.{_≡_};
+ghost use Prim.Native.Nat.{_≤_, _<_};
+ghost use lib.ListN.{length};
+use crate::print;
+use trace::State;
+use trace::Trace;
+
+// A trace, and how many bytes of its next record have come.
+struct Reader {
+    trace: Trace,
+    have: usize,
+}
+
+fn is_good(t: Trace) -> bool {
+    let state = t.state;
+    match state {
+        State::Good => true,
+        State::Bad(_) => false,
+        State::Refused(_, _) => false,
+    }
+}
+
+// One byte more of a record that came in pieces.
+fn push(r: Reader, frame: &mut [u8], piece: &mut [u8], b: u8) -> Reader
+    requires { ⌜ (r .have < 64) × (length (now piece) ≡ 64) ⌝ }
+    ensures { λ x. ⌜ x .have < 64 ⌝ }
+{
+    let at = r.have;
+    let t = r.trace;
+    piece[at] = b;
+    if at < 63 {
+        return Reader {
+            trace: t,
+            have: at + 1,
+        };
+    }
+    Reader {
+        trace: t.step(frame, piece),
+        have: 0,
+    }
+}
+
+// Whole records straight from the input, and bytes of one that is in pieces.
+fn feed(r: Reader, frame: &mut [u8], piece: &mut [u8], input: &[u8]) -> Reader
+    requires { ⌜ (r .have < 64) × (length (now piece) ≡ 64) ⌝ }
+    ensures { λ x. ⌜ x .have < 64 ⌝ }
+{
+    let mut reader = r;
+    let mut at = 0;
+    while at < input.len() {
+        if reader.have == 0 {
+            if 64 <= input.len() - at {
+                let end = at + 64;
+                let t = reader.trace;
+                reader = Reader {
+                    trace: t.step(frame, &input[at..end]),
+                    have: 0,
+                };
+                at = end;
+                continue;
+            }
+        }
+        reader = push(reader, frame, piece, input[at]);
+        at += 1;
+    }
+    reader
+}
+
+// What is left over at the end of the input is a partial record.
+fn last(r: Reader, frame: &mut [u8], piece: &[u8]) -> Trace
+    requires { ⌜ (r .have < 64) × (length (now piece) ≡ 64) ⌝ }
+{
+    let have = r.have;
+    let t = r.trace;
+    if have == 0 {
+        return t;
+    }
+    t.step(frame, &piece[0..have])
+}
+
+// What the whole input came to, and whether every read went well.
+struct Input {
+    reader: Reader,
+    whole: bool,
+}
+
+// Reads to the end of the input, or to the first record that decides.
+fn read_all(fd: i32, frame: &mut [u8], piece: &mut [u8], input: &mut [u8]) -> Input
+    requires { ⌜ length (now piece) ≡ 64 ⌝ }
+    ensures { λ x. ⌜ x .reader .have < 64 ⌝ }
+{
+    let mut reader = Reader {
+        trace: Trace::new(),
+        have: 0,
+    };
+    // A proved loop has to end, and nothing says that a file does: no run uses this number up.
+    let mut turns = u64::MAX;
+    while 0 < turns {
+        let got = libc::read(fd, input);
+        if got < 0 {
+            return Input {
+                reader,
+                whole: false,
+            };
+        }
+        let n = io::count(got, input);
+        if n == 0 {
+            return Input {
+                reader,
+                whole: true,
+            };
+        }
+        reader = feed(reader, frame, piece, &input[..n]);
+        let t = reader.trace;
+        if !is_good(t) {
+            return Input {
+                reader,
+                whole: true,
+            };
+        }
+        turns -= 1;
+    }
+    Input {
+        reader,
+        whole: false,
+    }
+}
+
+// Reads all of a descriptor and prints the ledger; a read that fails gets one line, and no ledger.
+pub fn run(fd: i32, name: &[u8]) {
+    let mut frame = [0u8; 256];
+    let mut piece = [0u8; 64];
+    let mut input = io::large_buffer();
+    let read = read_all(fd, &mut frame, &mut piece, &mut input);
+    if !read.whole {
+        os::fail(name);
+        return;
+    }
+    let reader = read.reader;
+    let trace = last(reader, &mut frame, &piece);
+    print::print(trace.finish());
+}

@@ -1,0 +1,36 @@
+// Prints the ledger of a trace, from the named file or from standard input.
+mod input;
+mod print;
+
+use libc::STDERR_FILENO;
+use libc::STDIN_FILENO;
+
+// A file that cannot be opened gets one line, and nothing else is done.
+fn from_file() {
+    let mut path = io::buffer();
+    let n = os::arg(1, &mut path);
+    if os::errno() != 0 {
+        os::fail(b"file name");
+        return;
+    }
+    let fd = os::open_read(&path[..n]);
+    if fd < 0 {
+        os::fail(&path[..n]);
+        return;
+    }
+    input::run(fd, &path[..n]);
+    libc::close(fd);
+}
+
+fn main() {
+    let n = os::arg_count();
+    if 2 < n {
+        io::write_all(STDERR_FILENO, b"usage: palkodhen ledger [FILE]\n");
+        return;
+    }
+    if n == 2 {
+        from_file();
+        return;
+    }
+    input::run(STDIN_FILENO, b"standard input");
+}

@@ -1,0 +1,4 @@
+-- Laws of one transfer.
+pub mod Readings
+pub mod Samples
+pub mod Unique

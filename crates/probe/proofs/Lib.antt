@@ -1,0 +1,6 @@
+pub mod Tests
+pub mod Each
+pub mod Checking
+pub mod RoundTrip
+pub mod Exactly
+pub mod Unique

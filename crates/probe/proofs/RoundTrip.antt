@@ -1,0 +1,144 @@
+-- Reading what was written gives the fields back, and writing what was read gives the 48 bytes back. A refused write changes no byte, and no byte
+-- past the first 48 ever changes.
+use Prim.Native.Nat.{ℕ, zero, suc, _+_, _*_, _/_, _%_, _^_, _≤_, _<_}
+use mathlib.Core.Path.{_≡_, refl, sym, ap, _∙_}
+use mathlib.Core.List.{List, [], _∷_, _++_, append-nil}
+use mathlib.Core.Bool.{Bool, true, false}
+use lib.ListN.{length, getD, take, drop, length-append, length-drop}
+use lib.Seq.{drop-cons, take-at, drop-at, take-all}
+use lib.Dec.{ltb, eqb}
+use borrow.Author.Tests.{eq-eqb, lt-ltb, le-ltb, ltb-true, ltb-false}
+use native.Mathlib.Omega.{arith}
+use native.Mathlib.Nat.{mod-eq-of-lt, div-eq-of-lt, div-add-mod', add-mul-div-right, add-mul-mod-self-right, div-div-eq-div-mul}
+use native.Mathlib.Numerals.{add-one}
+use Rattle.le.specs.Le.{le16At, le32At}
+use Rattle.rules.specs.Pick.{pick}
+use Rattle.rules.specs.declared.Verdict.{Verdict}
+use Rattle.rules.specs.declared.Verdict.the-variants.{Accepted, Refused}
+use Rattle.probe.specs.Fields.{probeLength, bytesAt, fieldsOf, bytesOf, probeOf, roomVerdict, written}
+use Rattle.probe.specs.declared.Probe.{Probe}
+use Rattle.probe.specs.declared.Fields.{Fields}
+use Rattle.probe.proofs.Tests.{bytes-length, read-whole, write-whole, write-short}
+
+-- the fields of more than one byte are numbers of their width, and the layout has eight bytes: what the type of a probe says
+pub record Held (p : Probe) : Type 0 where
+  pub hint : p .hint < 2 ^ 16
+  pub interval : p .interval < 2 ^ 32
+  pub «key_rate» : p .«key_rate» < 2 ^ 16
+  pub «p_rate» : p .«p_rate» < 2 ^ 16
+  pub quality : p .quality < 2 ^ 16
+  pub window : p .window < 2 ^ 16
+  pub delay : p .delay < 2 ^ 16
+  pub «frame_size» : p .«frame_size» < 2 ^ 32
+  pub «payload_size» : p .«payload_size» < 2 ^ 32
+  pub clock : p .clock < 2 ^ 32
+  pub «rate_modes» : p .«rate_modes» < 2 ^ 16
+  pub layout : length (p .layout) ≡ 8
+
+-- every element is a byte: what the type of a slice says
+abbrev pub Bytes : List ℕ → Type 0
+Bytes s = (i : ℕ) → getD s i 0 < 256
+
+-- ---- numbers and their bytes
+low : (a b : ℕ) → a < 256 → (a + b * 256) % 256 ≡ a
+low a b h = add-mul-mod-self-right a b 256 ∙ mod-eq-of-lt h
+
+rest : (a b : ℕ) → a < 256 → (a + b * 256) / 256 ≡ b
+rest a b h = let e : a / 256 ≡ 0 = div-eq-of-lt h in add-mul-div-right a b {z = 256} (omega arith) ∙ (rw e (omega arith))
+
+two-back : (x : ℕ) → x < 2 ^ 16 → x % 256 + x / 256 % 256 * 256 ≡ x
+two-back x h = omega arith
+
+four-back : (x : ℕ) → x < 2 ^ 32 → x % 256 + x / 256 % 256 * 256 + (x / 65536 % 256 + x / 16777216 % 256 * 256) * 65536 ≡ x
+four-back x h =
+    let y : x / 65536 ≡ x / 256 / 256 = sym (div-div-eq-div-mul x 256 256) in
+    let z : x / 16777216 ≡ x / 256 / 256 / 256 = sym (ap (λ (k : ℕ). k / 256) (div-div-eq-div-mul x 256 256) ∙ div-div-eq-div-mul x 65536 256) in
+    let w : x / 16777216 < 256 = omega arith in
+    let m : x / 16777216 % 256 ≡ x / 16777216 = mod-eq-of-lt w in
+    omega (arith, div-add-mod' x 256, div-add-mod' (x / 256) 256, div-add-mod' (x / 256 / 256) 256)
+
+high : (a b : ℕ) → a < 256 → b < 256 → (a + b * 256) / 256 % 256 ≡ b
+high a b h k = rw (rest a b h, mod-eq-of-lt k)
+
+-- a number of four bytes, and its bytes
+pub record Four (n a b c d : ℕ) : Type 0 where
+  pub byte-0 : n % 256 ≡ a
+  pub byte-1 : n / 256 % 256 ≡ b
+  pub byte-2 : n / 65536 % 256 ≡ c
+  pub byte-3 : n / 16777216 % 256 ≡ d
+
+four-bytes : (a b c d : ℕ) → a < 256 → b < 256 → c < 256 → d < 256 → Four (a + b * 256 + (c + d * 256) * 65536) a b c d
+four-bytes a b c d h k l m =
+    let x : a + b * 256 + (c + d * 256) * 65536 ≡ a + (b + (c + d * 256) * 256) * 256 = omega arith in
+    rw x (go (a + (b + (c + d * 256) * 256) * 256) (low a (b + (c + d * 256) * 256) h) (rest a (b + (c + d * 256) * 256) h))
+  where
+    go : (n : ℕ) → n % 256 ≡ a → n / 256 ≡ b + (c + d * 256) * 256 → Four n a b c d
+    go n e f =
+        let y : n / 65536 ≡ c + d * 256 = sym (div-div-eq-div-mul n 256 256) ∙ (rw f (rest b (c + d * 256) k)) in
+        let z : n / 16777216 ≡ d = sym (div-div-eq-div-mul n 65536 256) ∙ (rw y (rest c d l)) in
+        record { byte-0 = e; byte-1 = rw f (low b (c + d * 256) k); byte-2 = rw y (low c d l); byte-3 = rw z (mod-eq-of-lt m) }
+
+-- ---- a list and its bytes
+bytes-drop : (s : List ℕ) (o n : ℕ) → o + n ≡ length s → bytesAt s o n ≡ drop o s
+bytes-drop s o zero e = sym (nothing (drop o s) (simp length-drop (omega arith)))
+  where
+    nothing : (l : List ℕ) → length l ≡ 0 → l ≡ []
+    nothing [] e = refl
+    nothing (x ∷ l) e = absurd (omega arith)
+bytes-drop s o (suc n) e = rw (drop-cons s o 0 (omega arith), ← add-one o, bytes-drop s (o + 1) n (omega arith))
+
+pub bytes-all : (s : List ℕ) (n : ℕ) → length s ≡ n → bytesAt s 0 n ≡ s
+bytes-all s n e = bytes-drop s 0 n (omega arith)
+
+-- ---- fields to bytes to fields
+pub fields-back : (p : Probe) (rest : List ℕ) → Held p → fieldsOf (bytesOf p ++ rest) ≡ p
+unfolding fieldsOf bytesOf
+fields-back p rest h = rw (two-back (p .hint) (h .hint), four-back (p .interval) (h .interval), two-back (p .«key_rate») (h .«key_rate»), two-back (p .«p_rate») (h .«p_rate»), two-back (p .quality) (h .quality), two-back (p .window) (h .window), two-back (p .delay) (h .delay), four-back (p .«frame_size») (h .«frame_size»), four-back (p .«payload_size») (h .«payload_size»), four-back (p .clock) (h .clock), two-back (p .«rate_modes») (h .«rate_modes»), bytes-all (p .layout) 8 (h .layout))
+
+-- ---- bytes to fields to bytes
+pub bytes-back : (s : List ℕ) → Bytes s → bytesOf (fieldsOf s) ≡ bytesAt s 0 48
+unfolding fieldsOf bytesOf
+bytes-back s h =
+    let q4 = four-bytes (getD s 4 0) (getD s 5 0) (getD s 6 0) (getD s 7 0) (h 4) (h 5) (h 6) (h 7) in
+    let q18 = four-bytes (getD s 18 0) (getD s 19 0) (getD s 20 0) (getD s 21 0) (h 18) (h 19) (h 20) (h 21) in
+    let q22 = four-bytes (getD s 22 0) (getD s 23 0) (getD s 24 0) (getD s 25 0) (h 22) (h 23) (h 24) (h 25) in
+    let q26 = four-bytes (getD s 26 0) (getD s 27 0) (getD s 28 0) (getD s 29 0) (h 26) (h 27) (h 28) (h 29) in
+    rw (low (getD s 0 0) (getD s 1 0) (h 0), high (getD s 0 0) (getD s 1 0) (h 0) (h 1), q4 .byte-0, q4 .byte-1, q4 .byte-2, q4 .byte-3, low (getD s 8 0) (getD s 9 0) (h 8), high (getD s 8 0) (getD s 9 0) (h 8) (h 9), low (getD s 10 0) (getD s 11 0) (h 10), high (getD s 10 0) (getD s 11 0) (h 10) (h 11), low (getD s 12 0) (getD s 13 0) (h 12), high (getD s 12 0) (getD s 13 0) (h 12) (h 13), low (getD s 14 0) (getD s 15 0) (h 14), high (getD s 14 0) (getD s 15 0) (h 14) (h 15), low (getD s 16 0) (getD s 17 0) (h 16), high (getD s 16 0) (getD s 17 0) (h 16) (h 17), q18 .byte-0, q18 .byte-1, q18 .byte-2, q18 .byte-3, q22 .byte-0, q22 .byte-1, q22 .byte-2, q22 .byte-3, q26 .byte-0, q26 .byte-1, q26 .byte-2, q26 .byte-3, low (getD s 38 0) (getD s 39 0) (h 38), high (getD s 38 0) (getD s 39 0) (h 38) (h 39))
+
+module _ (p : Probe) (room : List ℕ) where
+  whole-is : probeLength ≤ length room → written p room ≡ bytesOf p ++ drop probeLength room
+  unfolding written pick
+  whole-is h = rw (le-ltb (length room) probeLength h)
+
+  short-is : length room < probeLength → written p room ≡ room
+  unfolding written pick
+  short-is h = rw (lt-ltb (length room) probeLength h)
+
+  -- a refused write changes no byte
+  pub refused-keeps : (k o : ℕ) → roomVerdict room ≡ Refused k o → written p room ≡ room
+  unfolding roomVerdict pick
+  refused-keeps k o e = go (ltb (length room) probeLength) refl
+    where
+      go : (b : Bool) → ltb (length room) probeLength ≡ b → written p room ≡ room
+      go true q = short-is (ltb-true (length room) probeLength q)
+      go false q = let w : Accepted ≡ Refused k o = rw q at e in let z : _≡_ {A = ℕ} 0 1 = cc in absurd (omega arith)
+
+  -- bytes past the first 48 never change
+  pub past-kept : drop probeLength (written p room) ≡ drop probeLength room
+  past-kept = go (ltb (length room) probeLength) refl
+    where
+      go : (b : Bool) → ltb (length room) probeLength ≡ b → drop probeLength (written p room) ≡ drop probeLength room
+      go true q = rw (short-is (ltb-true (length room) probeLength q))
+      go false q = rw (whole-is (ltb-false (length room) probeLength q)) (drop-at (bytesOf p) (drop probeLength room) probeLength (bytes-length p))
+
+  -- reading the first 48 bytes of what was written gives the fields back
+  pub read-written : Held p → probeLength ≤ length room → probeOf (take probeLength (written p room)) ≡ record { verdict = Accepted; probe = p }
+  read-written h l = rw (whole-is l, take-at (bytesOf p) (drop probeLength room) probeLength (bytes-length p)) (sym (read-whole (bytesOf p) p (bytes-length p) (sym back)))
+    where
+      back : fieldsOf (bytesOf p) ≡ p
+      back = ap fieldsOf (sym (append-nil (bytesOf p))) ∙ fields-back p [] h
+
+-- writing what was read gives the 48 bytes back, and leaves the rest
+pub write-read : (s room : List ℕ) → Bytes s → length s ≡ probeLength → probeLength ≤ length room → written (probeOf s .probe) room ≡ s ++ drop probeLength room
+write-read s room b e l =
+    rw (← read-whole s (fieldsOf s) e refl) (whole-is (fieldsOf s) room l ∙ ap (λ (x : List ℕ). x ++ drop probeLength room) (bytes-back s b ∙ bytes-all s 48 e))

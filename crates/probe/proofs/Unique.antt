@@ -1,0 +1,23 @@
+-- One answer of each public function, and one content of the room: any two that its promise allows are equal.
+use Prim.Native.Nat.{ℕ}
+use mathlib.Core.Path.{_≡_, sym, _∙_}
+use mathlib.Core.List.{List}
+use Rattle.rules.specs.declared.Verdict.{Verdict}
+use Rattle.entities.specs.declared.Table.{Table}
+use Rattle.probe.specs.Fields.{probeOf, roomVerdict, written}
+use Rattle.probe.specs.Check.{checkOf}
+use Rattle.probe.specs.declared.Probe.{Probe}
+use Rattle.probe.specs.declared.Fields.{Fields}
+
+pub read-unique : (s : List ℕ) (x y : Fields) → x ≡ probeOf s → y ≡ probeOf s → x ≡ y
+read-unique s x y p q = p ∙ sym q
+
+pub write-unique :
+    (p : Probe) (room : List ℕ) (v w : Verdict) (l m : List ℕ) →
+    (v ≡ roomVerdict room) × (l ≡ written p room) →
+    (w ≡ roomVerdict room) × (m ≡ written p room) →
+    (v ≡ w) × (l ≡ m)
+write-unique p room v w l m a b = (a .0 ∙ sym (b .0), a .1 ∙ sym (b .1))
+
+pub check-unique : (t : Table) (s b : List ℕ) (x y : Verdict) → x ≡ checkOf t s b → y ≡ checkOf t s b → x ≡ y
+check-unique t s b x y p q = p ∙ sym q

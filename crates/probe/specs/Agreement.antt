@@ -1,0 +1,92 @@
+-- When a check says yes, and by which number it refuses otherwise, in the words of document 01.
+use Prim.Native.Nat.{ℕ, _+_, _≤_, _<_}
+use mathlib.Core.Path.{_≡_}
+use mathlib.Core.List.{List}
+use lib.ListN.{length, getD}
+use Rattle.le.specs.Le.{byte}
+use Rattle.rules.specs.First.{First}
+use Rattle.entities.specs.declared.Table.{Table}
+use Rattle.intervals.specs.Intervals.{Offered}
+use Rattle.sizes.specs.Sizes.{frameMost, payloadLeast, payloadMost}
+use Rattle.streaming_rules.specs.Descriptors.{noFrame, kindAt, formatOf, kAt, intervalsAt}
+use Rattle.streaming.specs.Block.{Seen}
+use Rattle.streaming.specs.Reading.{Sound, Broken}
+use Rattle.probe.specs.Fields.{probeLength, fieldsOf}
+use Rattle.probe.specs.declared.Probe.{Probe}
+
+-- 42: the format is one of the block's
+abbrev pub FormatGiven : Seen → Probe → Type 0
+FormatGiven a p = (1 ≤ p .format) × (p .format ≤ length (a .formats))
+
+-- where the descriptor of the frame at place i stands
+abbrev pub offsetIn : Seen → ℕ → ℕ
+offsetIn a i = getD (a .frames) i noFrame .offset
+
+-- 43: the frame at place i is of that format, and its descriptor has that number
+abbrev pub FrameGiven : List ℕ → Seen → Probe → ℕ → Type 0
+FrameGiven s a p i = (getD (a .frames) i noFrame .format ≡ p .format) × (byte s (offsetIn a i) 3 ≡ p .frame)
+
+-- 44: the interval could be the default of the frame at o
+abbrev pub IntervalGiven : List ℕ → ℕ → Probe → Type 0
+IntervalGiven s o p = Offered s (o + intervalsAt) (byte s o (kAt (formatOf (kindAt s o)))) (p .interval)
+
+-- 45 and 46
+abbrev pub FrameSizeGood : Probe → Type 0
+FrameSizeGood p = (1 ≤ p .«frame_size») × (p .«frame_size» ≤ frameMost)
+
+abbrev pub PayloadSizeGood : Probe → Type 0
+PayloadSizeGood p = (payloadLeast ≤ p .«payload_size») × (p .«payload_size» ≤ payloadMost)
+
+-- the probe block has 48 bytes, and no rule of the streaming block is broken
+pub record Read (t : Table) (s b : List ℕ) (a : Seen) : Type 0 where
+  pub whole : length b ≡ probeLength
+  pub sound : Sound t s a
+
+-- every one of 41, the block's own rules and 42 to 46 holds
+pub record Yes (t : Table) (s b : List ℕ) : Type 0 where
+  pub seen : Seen
+  pub read : Read t s b seen
+  pub format : FormatGiven seen (fieldsOf b)
+  pub place : ℕ
+  pub within : place < length (seen .frames)
+  pub frame : First (FrameGiven s seen (fieldsOf b)) (length (seen .frames)) place
+  pub interval : IntervalGiven s (offsetIn seen place) (fieldsOf b)
+  pub frame-size : FrameSizeGood (fieldsOf b)
+  pub payload-size : PayloadSizeGood (fieldsOf b)
+
+-- the first that does not hold
+pub data No (t : Table) (s b : List ℕ) : ℕ → ℕ → Type 0 where
+  of-length : (length b ≡ probeLength → ⊥) → No t s b 41 0
+  of-block : (k o : ℕ) → length b ≡ probeLength → Broken t s k o → No t s b k o
+  of-format : (a : Seen) → Read t s b a → (FormatGiven a (fieldsOf b) → ⊥) → No t s b 42 0
+  of-frame : (a : Seen) → Read t s b a → FormatGiven a (fieldsOf b) → ((i : ℕ) → i < length (a .frames) → FrameGiven s a (fieldsOf b) i → ⊥) → No t s b 43 0
+  of-interval :
+      (a : Seen) →
+      Read t s b a →
+      FormatGiven a (fieldsOf b) →
+      (i : ℕ) →
+      i < length (a .frames) →
+      First (FrameGiven s a (fieldsOf b)) (length (a .frames)) i →
+      (IntervalGiven s (offsetIn a i) (fieldsOf b) → ⊥) →
+      No t s b 44 0
+  of-frame-size :
+      (a : Seen) →
+      Read t s b a →
+      FormatGiven a (fieldsOf b) →
+      (i : ℕ) →
+      i < length (a .frames) →
+      First (FrameGiven s a (fieldsOf b)) (length (a .frames)) i →
+      IntervalGiven s (offsetIn a i) (fieldsOf b) →
+      (FrameSizeGood (fieldsOf b) → ⊥) →
+      No t s b 45 0
+  of-payload-size :
+      (a : Seen) →
+      Read t s b a →
+      FormatGiven a (fieldsOf b) →
+      (i : ℕ) →
+      i < length (a .frames) →
+      First (FrameGiven s a (fieldsOf b)) (length (a .frames)) i →
+      IntervalGiven s (offsetIn a i) (fieldsOf b) →
+      FrameSizeGood (fieldsOf b) →
+      (PayloadSizeGood (fieldsOf b) → ⊥) →
+      No t s b 46 0

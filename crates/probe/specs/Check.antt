@@ -1,0 +1,66 @@
+-- Checking a probe block against a streaming block and its entity table: 41, the streaming block's own refusal, then 42 to 46.
+use Prim.Native.Nat.{ℕ, zero, suc}
+use mathlib.Core.List.{List, [], _∷_}
+use mathlib.Core.Bool.{Bool, true, false, not, _&&_, _||_}
+use lib.ListN.{length, getD}
+use lib.Dec.{ltb, leb, eqb}
+use Rattle.le.specs.Le.{byte}
+use Rattle.rules.specs.Pick.{pick}
+use Rattle.rules.specs.Numbered.{firstFrom}
+use Rattle.rules.specs.declared.Verdict.{Verdict}
+use Rattle.rules.specs.declared.Verdict.the-variants.{Accepted, Refused}
+use Rattle.entities.specs.declared.Table.{Table}
+use Rattle.sizes.specs.Sizes.{frameSizeBroken, payloadSizeBroken}
+use Rattle.streaming_rules.specs.Descriptors.{noFrame}
+use Rattle.streaming_rules.specs.Rules.{offersAt}
+use Rattle.streaming_rules.specs.declared.Frame.{Frame}
+use Rattle.streaming.specs.Place.{firstPlace}
+use Rattle.streaming.specs.Block.{streamingOf}
+use Rattle.streaming.specs.declared.Streaming.{Streaming}
+use Rattle.probe.specs.Fields.{probeLength, fieldsOf}
+use Rattle.probe.specs.declared.Probe.{Probe}
+
+-- the frame at place i of the table
+abbrev pub frameIn : List Frame → ℕ → Frame
+frameIn l i = getD l i noFrame
+
+-- 42: the format number is not 1 to the number of formats
+unfoldable pub formatMissing : ℕ → ℕ → Bool
+formatMissing number count = eqb number 0 || ltb count number
+
+-- the frame has this number, of this format: its number is byte 3 of its descriptor in the block s
+unfoldable pub hasNumber : List ℕ → ℕ → ℕ → Frame → Bool
+hasNumber s format number f = eqb (f .format) format && eqb (byte s (f .offset) 3) number
+
+-- the place of that frame among the n of the table, or n where there is none
+abbrev pub framePlace : List ℕ → List Frame → ℕ → ℕ → ℕ → ℕ
+framePlace s l n format number = firstPlace (λ i. hasNumber s format number (frameIn l i)) n
+
+-- 44 to 46, with the frame whose descriptor stands at o
+unfoldable pub frameFlags : List ℕ → ℕ → Probe → List Bool
+frameFlags s o p =
+    not (offersAt s o (p .interval))
+    ∷ frameSizeBroken (p .«frame_size»)
+    ∷ payloadSizeBroken (p .«payload_size»)
+    ∷ []
+
+-- 42 to 46, of a block that was accepted
+unfoldable pub checkFlags : List ℕ → Streaming → Probe → List Bool
+checkFlags s a p =
+    let i = framePlace s (a .frames) (a .«frame_count») (p .format) (p .frame) in
+    formatMissing (p .format) (a .«format_count»)
+    ∷ leb (a .«frame_count») i
+    ∷ frameFlags s (frameIn (a .frames) i .offset) p
+
+-- no number: yes
+unfoldable pub given : ℕ → Verdict
+given zero = Accepted
+given (suc k) = Refused (suc k) 0
+
+unfoldable pub checkBy : Verdict → List ℕ → Streaming → Probe → Verdict
+checkBy Accepted s a p = given (firstFrom 42 (checkFlags s a p))
+checkBy (Refused k o) s a p = Refused k o
+
+unfoldable pub checkOf : Table → List ℕ → List ℕ → Verdict
+checkOf t s b =
+    pick (eqb (length b) probeLength) (checkBy (streamingOf t s .verdict) s (streamingOf t s) (fieldsOf b)) (Refused 41 0)

@@ -1,0 +1,110 @@
+-- The 48 bytes of a probe block, field by field, and what reading and writing them does.
+use Prim.Native.Nat.{ℕ, zero, suc, _+_, _/_, _%_}
+use mathlib.Core.List.{List, [], _∷_, _++_}
+use mathlib.Core.Bool.{Bool, not}
+use lib.ListN.{length, getD, drop, replicate}
+use lib.Dec.{ltb, eqb}
+use Rattle.le.specs.Le.{le16At, le32At}
+use Rattle.rules.specs.Pick.{pick}
+use Rattle.rules.specs.declared.Verdict.{Verdict}
+use Rattle.rules.specs.declared.Verdict.the-variants.{Accepted, Refused}
+use Rattle.probe.specs.declared.Probe.{Probe}
+use Rattle.probe.specs.declared.Fields.{Fields}
+
+abbrev pub probeLength : ℕ
+probeLength = 48
+
+-- the n bytes from o on
+abbrev pub bytesAt : List ℕ → ℕ → ℕ → List ℕ
+bytesAt s o zero = []
+bytesAt s o (suc n) = getD s o 0 ∷ bytesAt s (o + 1) n
+
+-- a number as two bytes and as four, the low one first
+abbrev pub two : ℕ → List ℕ
+two x = x % 256 ∷ x / 256 % 256 ∷ []
+
+abbrev pub four : ℕ → List ℕ
+four x = x % 256 ∷ x / 256 % 256 ∷ x / 65536 % 256 ∷ x / 16777216 % 256 ∷ []
+
+-- where each field stands
+unfoldable pub fieldsOf : List ℕ → Probe
+fieldsOf s =
+    record {
+      hint = le16At s 0;
+      format = getD s 2 0;
+      frame = getD s 3 0;
+      interval = le32At s 4;
+      «key_rate» = le16At s 8;
+      «p_rate» = le16At s 10;
+      quality = le16At s 12;
+      window = le16At s 14;
+      delay = le16At s 16;
+      «frame_size» = le32At s 18;
+      «payload_size» = le32At s 22;
+      clock = le32At s 26;
+      framing = getD s 30 0;
+      preferred = getD s 31 0;
+      minimum = getD s 32 0;
+      maximum = getD s 33 0;
+      usage = getD s 34 0;
+      «luma_depth» = getD s 35 0;
+      settings = getD s 36 0;
+      «reference_frames» = getD s 37 0;
+      «rate_modes» = le16At s 38;
+      layout = bytesAt s 40 8;
+    }
+
+unfoldable pub bytesOf : Probe → List ℕ
+bytesOf p =
+    two (p .hint)
+    ++ (p .format ∷ p .frame ∷ four (p .interval)
+    ++ (two (p .«key_rate»)
+    ++ (two (p .«p_rate»)
+    ++ (two (p .quality)
+    ++ (two (p .window)
+    ++ (two (p .delay)
+    ++ (four (p .«frame_size»)
+    ++ (four (p .«payload_size»)
+    ++ (four (p .clock)
+    ++ (p .framing ∷ p .preferred ∷ p .minimum ∷ p .maximum ∷ p .usage ∷ p .«luma_depth» ∷ p .settings ∷ p .«reference_frames» ∷ two (p .«rate_modes»)
+    ++ bytesAt (p .layout) 0 8))))))))))
+
+-- all zero
+abbrev pub noFields : Probe
+noFields =
+    record {
+      hint = 0;
+      format = 0;
+      frame = 0;
+      interval = 0;
+      «key_rate» = 0;
+      «p_rate» = 0;
+      quality = 0;
+      window = 0;
+      delay = 0;
+      «frame_size» = 0;
+      «payload_size» = 0;
+      clock = 0;
+      framing = 0;
+      preferred = 0;
+      minimum = 0;
+      maximum = 0;
+      usage = 0;
+      «luma_depth» = 0;
+      settings = 0;
+      «reference_frames» = 0;
+      «rate_modes» = 0;
+      layout = replicate 8 0;
+    }
+
+-- reading: 41 unless there are exactly 48 bytes
+unfoldable pub probeOf : List ℕ → Fields
+probeOf s =
+    pick (eqb (length s) probeLength) (record { verdict = Accepted; probe = fieldsOf s }) (record { verdict = Refused 41 0; probe = noFields })
+
+-- writing: 41 where there is room for under 48 bytes, and then no byte changes; else the first 48
+unfoldable pub roomVerdict : List ℕ → Verdict
+roomVerdict room = pick (ltb (length room) probeLength) (Refused 41 0) Accepted
+
+unfoldable pub written : Probe → List ℕ → List ℕ
+written p room = pick (ltb (length room) probeLength) room (bytesOf p ++ drop probeLength room)

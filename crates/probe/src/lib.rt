@@ -1,0 +1,330 @@
+// The probe and commit block of 48 bytes: reading, writing, and checking it against a streaming block (41 to 46).
+ghost use mathlib.Core.Path.{_≡_};
+ghost use Prim.Native.Nat.{_+_, _*_, _/_, _%_, _≤_, _<_};
+ghost use lib.ListN.{length, getD};
+ghost use Rattle.probe.specs.Fields.{fieldsOf, bytesOf, noFields, probeOf, roomVerdict, written};
+
+
+ghost use Rattle.rules.specs.Numbered.{firstFrom};
+ghost use Rattle.streaming_rules.specs.Descriptors.{frameLength};
+ghost use Rattle.le.specs.Le.{byte};
+ghost use Rattle.probe.specs.Check.{formatMissing, hasNumber, frameFlags, given, checkOf};
+
+use entities::Table;
+use rules::Verdict;
+use streaming_rules::Frame;
+
+
+pub const LENGTH: usize = 48;
+
+// The fields as they come. preferred, minimum and maximum are versions.
+pub struct Probe {
+    pub hint: u16,
+    pub format: u8,
+    pub frame: u8,
+    pub interval: u32,
+    pub key_rate: u16,
+    pub p_rate: u16,
+    pub quality: u16,
+    pub window: u16,
+    pub delay: u16,
+    pub frame_size: u32,
+    pub payload_size: u32,
+    pub clock: u32,
+    pub framing: u8,
+    pub preferred: u8,
+    pub minimum: u8,
+    pub maximum: u8,
+    pub usage: u8,
+    pub luma_depth: u8,
+    pub settings: u8,
+    pub reference_frames: u8,
+    pub rate_modes: u16,
+    pub layout: [u8; 8],
+}
+
+// What reading a block gives: the fields, all zero where it is refused.
+pub struct Fields {
+    pub verdict: Verdict,
+    pub probe: Probe,
+}
+
+// Inner: the fields of 48 bytes.
+fn fields_of(s: &[u8]) -> Probe
+    requires { ⌜ length (now s) ≡ 48 ⌝ }
+    ensures { λ r. ⌜ r ≡ fieldsOf (now (s .entry)) ⌝ }
+{
+    let hint = le::le16(s, 0);
+    let interval = le::le32(s, 4);
+    let key_rate = le::le16(s, 8);
+    let p_rate = le::le16(s, 10);
+    let quality = le::le16(s, 12);
+    let window = le::le16(s, 14);
+    let delay = le::le16(s, 16);
+    let frame_size = le::le32(s, 18);
+    let payload_size = le::le32(s, 22);
+    let clock = le::le32(s, 26);
+    let rate_modes = le::le16(s, 38);
+    let layout = [s[40], s[41], s[42], s[43], s[44], s[45], s[46], s[47]];
+    Probe {
+        hint,
+        format: s[2],
+        frame: s[3],
+        interval,
+        key_rate,
+        p_rate,
+        quality,
+        window,
+        delay,
+        frame_size,
+        payload_size,
+        clock,
+        framing: s[30],
+        preferred: s[31],
+        minimum: s[32],
+        maximum: s[33],
+        usage: s[34],
+        luma_depth: s[35],
+        settings: s[36],
+        reference_frames: s[37],
+        rate_modes,
+        layout,
+    }
+}
+
+fn no_fields() -> Probe
+    ensures { λ r. ⌜ r ≡ noFields ⌝ }
+{
+    let layout = [0u8; 8];
+    Probe {
+        hint: 0,
+        format: 0,
+        frame: 0,
+        interval: 0,
+        key_rate: 0,
+        p_rate: 0,
+        quality: 0,
+        window: 0,
+        delay: 0,
+        frame_size: 0,
+        payload_size: 0,
+        clock: 0,
+        framing: 0,
+        preferred: 0,
+        minimum: 0,
+        maximum: 0,
+        usage: 0,
+        luma_depth: 0,
+        settings: 0,
+        reference_frames: 0,
+        rate_modes: 0,
+        layout,
+    }
+}
+
+// Reads a probe block: 41 unless it has exactly 48 bytes.
+pub fn read(block: &[u8]) -> Fields
+    ensures { λ r. ⌜ r ≡ probeOf (now (block .entry)) ⌝ }
+{
+    if block.len() == LENGTH {
+        let probe = fields_of(block);
+        return Fields {
+            verdict: Verdict::Accepted,
+            probe,
+        };
+    }
+    let probe = no_fields();
+    Fields {
+        verdict: Verdict::Refused {
+            number: 41,
+            offset: 0,
+        },
+        probe,
+    }
+}
+
+// Byte k of a number, the low one first.
+fn low(x: u16) -> u8
+    ensures { λ r. ⌜ r ≡ x % 256 ⌝ }
+{
+    (x % 256) as u8
+}
+
+fn high(x: u16) -> u8
+    ensures { λ r. ⌜ r ≡ x / 256 % 256 ⌝ }
+{
+    (x / 256 % 256) as u8
+}
+
+fn byte_0(x: u32) -> u8
+    ensures { λ r. ⌜ r ≡ x % 256 ⌝ }
+{
+    (x % 256) as u8
+}
+
+fn byte_1(x: u32) -> u8
+    ensures { λ r. ⌜ r ≡ x / 256 % 256 ⌝ }
+{
+    (x / 256 % 256) as u8
+}
+
+fn byte_2(x: u32) -> u8
+    ensures { λ r. ⌜ r ≡ x / 65536 % 256 ⌝ }
+{
+    (x / 65536 % 256) as u8
+}
+
+fn byte_3(x: u32) -> u8
+    ensures { λ r. ⌜ r ≡ x / 16777216 % 256 ⌝ }
+{
+    (x / 16777216 % 256) as u8
+}
+
+// The 48 bytes of the fields.
+fn bytes_of(p: Probe) -> [u8; 48]
+    ensures { λ r. ⌜ r ≡ bytesOf p ⌝ }
+{
+    [
+        low(p.hint),
+        high(p.hint),
+        p.format,
+        p.frame,
+        byte_0(p.interval),
+        byte_1(p.interval),
+        byte_2(p.interval),
+        byte_3(p.interval),
+        low(p.key_rate),
+        high(p.key_rate),
+        low(p.p_rate),
+        high(p.p_rate),
+        low(p.quality),
+        high(p.quality),
+        low(p.window),
+        high(p.window),
+        low(p.delay),
+        high(p.delay),
+        byte_0(p.frame_size),
+        byte_1(p.frame_size),
+        byte_2(p.frame_size),
+        byte_3(p.frame_size),
+        byte_0(p.payload_size),
+        byte_1(p.payload_size),
+        byte_2(p.payload_size),
+        byte_3(p.payload_size),
+        byte_0(p.clock),
+        byte_1(p.clock),
+        byte_2(p.clock),
+        byte_3(p.clock),
+        p.framing,
+        p.preferred,
+        p.minimum,
+        p.maximum,
+        p.usage,
+        p.luma_depth,
+        p.settings,
+        p.reference_frames,
+        low(p.rate_modes),
+        high(p.rate_modes),
+        p.layout[0],
+        p.layout[1],
+        p.layout[2],
+        p.layout[3],
+        p.layout[4],
+        p.layout[5],
+        p.layout[6],
+        p.layout[7],
+    ]
+}
+
+// Writes the first 48 bytes of the room and no other; 41 where it has under 48 bytes, and then no byte changes.
+pub fn write(p: Probe, room: &mut [u8]) -> Verdict
+    ensures { λ r. ⌜ (r ≡ roomVerdict (now (room .entry))) × (now (room .exit) ≡ written p (now (room .entry))) ⌝ }
+{
+    if room.len() < LENGTH {
+        return Verdict::Refused {
+            number: 41,
+            offset: 0,
+        };
+    }
+    let block = bytes_of(p);
+    bytes::copy(&block, room);
+    Verdict::Accepted
+}
+
+// 42: the format number is not 1 to the number of formats.
+fn format_missing(number: u8, count: usize) -> bool
+    ensures { λ r. ⌜ r ≡ formatMissing number count ⌝ }
+{
+    if number == 0 {
+        return true;
+    }
+    count < le::wide(number)
+}
+
+// Inner: the frame has this number, of this format. Its descriptor lies within the block.
+fn has_number(block: &[u8], format: u8, number: u8, f: Frame) -> bool
+    requires { ⌜ f .offset + 3 < length (now block) ⌝ }
+    ensures { λ r. ⌜ r ≡ hasNumber (now (block .entry)) format number f ⌝ }
+{
+    if f.format != format {
+        return false;
+    }
+    let at = f.offset as usize;
+    block[at + 3] == number
+}
+
+// Inner: 44 to 46, with the frame whose descriptor stands at `at`.
+fn check_frame(block: &[u8], at: usize, probe: &[u8]) -> Verdict
+    requires { ⌜ (at + frameLength (byte (now block) at 25) ≤ length (now block)) × (length (now probe) ≡ 48) ⌝ }
+    ensures { λ r. ⌜ r ≡ given (firstFrom 44 (frameFlags (now (block .entry)) at (fieldsOf (now (probe .entry))))) ⌝ }
+{
+    let offered = streaming_rules::offers_at(block, at, le::le32(probe, 4));
+    if !offered {
+        return refused(44);
+    }
+    let frame_size = le::le32(probe, 18) as usize;
+    if sizes::frame_size_broken(frame_size) {
+        return refused(45);
+    }
+    let payload_size = le::le32(probe, 22) as usize;
+    if sizes::payload_size_broken(payload_size) {
+        return refused(46);
+    }
+    Verdict::Accepted
+}
+
+fn refused(number: u8) -> Verdict
+    ensures { λ r. ⌜ r ≡ Verdict.Refused number 0 ⌝ }
+{
+    Verdict::Refused { number, offset: 0 }
+}
+
+// Checks a probe block against a streaming block and its entity table: 41, the streaming block's own refusal, then 42 to 46.
+pub fn check(table: Table, block: &[u8], probe: &[u8]) -> Verdict
+    ensures { λ r. ⌜ r ≡ checkOf table (now (block .entry)) (now (probe .entry)) ⌝ }
+{
+    if probe.len() != LENGTH {
+        return refused(41);
+    }
+    let a = streaming::read(table, block);
+    let verdict = a.verdict;
+    if let Verdict::Refused { number, offset } = verdict {
+        return Verdict::Refused { number, offset };
+    }
+    let format = probe[2];
+    if format_missing(format, a.format_count) {
+        return refused(42);
+    }
+    let number = probe[3];
+    let n = a.frame_count;
+    let mut i: usize = 0;
+    while i < n {
+        let f = a.frames[i];
+        if has_number(block, format, number, f) {
+            let at = f.offset as usize;
+            return check_frame(block, at, probe);
+        }
+        i = i + 1;
+    }
+    refused(43)
+}

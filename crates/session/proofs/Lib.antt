@@ -1,0 +1,9 @@
+-- Laws of a session.
+pub mod Checks
+pub mod Row50
+pub mod Ready
+pub mod Calls
+pub mod Refused
+pub mod Writes
+pub mod Unique
+pub mod Samples

@@ -1,0 +1,111 @@
+-- What a session record that rule 50 lets through is good for: no sum can wrap, and data goes within the frame. From 50 alone, and the record's types.
+use Prim.Native.Nat.{ℕ, _≤_, _<_, _^_}
+use mathlib.Core.Path.{_≡_, sym, subst, _∙_}
+use mathlib.Core.Bool.{false}
+use native.Mathlib.Omega.{arith}
+use native.Mathlib.Decide.{ℕ-discrete}
+use lib.ListN.{length, getD, set, length-set}
+use lib.Seq.{getD-set-same, getD-set-other}
+use Rattle.sizes.specs.Sizes.{frameMost}
+use Rattle.sizes.proofs.Limits.{Between}
+use Rattle.payload.specs.declared.Header.{Header}
+use Rattle.frames.specs.declared.Phase.{Phase}
+use Rattle.frames.specs.declared.Phase.the-variants.{Fresh, Under, Past}
+use Rattle.frames.specs.declared.Fate.{Fate}
+use Rattle.frames.specs.declared.Turn.{Turn}
+use Rattle.frames.specs.Track.{turnOf, underCount, underBytes, Roomy}
+use Rattle.frames.proofs.Bounds.{FilledBy, LengthOf, Sits, turn-sits}
+use Rattle.ledger.specs.declared.Ledger.{Ledger}
+use Rattle.ledger.specs.Ledger.{countAt, bytesAt, lostAt, idleAt, ticksAt, backwardAt, untimedAt, shownOf, fateBytes, Spare, Room}
+use Rattle.session.specs.declared.Session.{Session}
+use Rattle.session.specs.Refusals.{ledgerOf, recordBroken, Ready}
+use Rattle.session.proofs.Row50.{Keeps, row-50}
+
+-- ---- the ledger with the frame under way in its account
+shown-other : (l : Ledger) (p : Phase) (i : ℕ) → (i ≡ 14 → ⊥) → (i ≡ 15 → ⊥) → getD (shownOf l p .numbers) i 0 ≡ getD (l .numbers) i 0
+unfolding shownOf
+shown-other l p i a b =
+    getD-set-other (set (l .numbers) 14 (underCount p)) 15 i (underBytes p) 0 b ∙ getD-set-other (l .numbers) 14 i (underCount p) 0 a
+
+shown-under : (l : Ledger) (p : Phase) → length (l .numbers) ≡ 27 → getD (shownOf l p .numbers) 15 0 ≡ underBytes p
+unfolding shownOf
+shown-under l p e =
+    getD-set-same (set (l .numbers) 14 (underCount p)) 15 (underBytes p) 0
+    (let q : length (set (l .numbers) 14 (underCount p)) ≡ length (l .numbers) = length-set (l .numbers) 14 (underCount p) in omega arith)
+
+among : (P : ℕ → Type 0) → P lostAt → P idleAt → P ticksAt → P backwardAt → P untimedAt → (i : ℕ) → lostAt ≤ i → i ≤ untimedAt → P i
+among P a b c d e i h q = go (ℕ-discrete i lostAt) (ℕ-discrete i idleAt) (ℕ-discrete i ticksAt) (ℕ-discrete i backwardAt)
+  where
+    go : Dec (i ≡ lostAt) → Dec (i ≡ idleAt) → Dec (i ≡ ticksAt) → Dec (i ≡ backwardAt) → P i
+    go (yes x) v w y = subst P (sym x) a
+    go (no u) (yes x) w y = subst P (sym x) b
+    go (no u) (no v) (yes x) y = subst P (sym x) c
+    go (no u) (no v) (no w) (yes x) = subst P (sym x) d
+    go (no u) (no v) (no w) (no y) = subst P (let x : untimedAt ≡ i = omega arith in x) e
+
+-- ---- the whole record
+pub record Able (s : Session) : Type 0 where
+  pub frame : Between 1 (s .opening .frame) frameMost
+  pub filled : FilledBy (s .opening) (s .track .phase)
+  pub under : underBytes (s .track .phase) < 2 ^ 48
+  pub room : Room (2 ^ 63) (s .ledger)
+
+module _ (s : Session) (keeps : Keeps s) (places : length (s .ledger .numbers) ≡ 27) (few : s .taken < 2 ^ 32) where
+  few-bytes : underBytes (s .track .phase) < 2 ^ 48
+  few-bytes = omega (arith, keeps .bytes 7 (omega arith), shown-under (s .ledger) (s .track .phase) places)
+
+  spare : (k : ℕ) → k < 11 → (k ≡ 7 → ⊥) → Spare (2 ^ 63) (s .ledger) k
+  spare k h p =
+      record {
+        count = omega (arith, keeps .counts k h, shown-other (s .ledger) (s .track .phase) (countAt k) (λ e. p (omega arith)) (λ e. omega arith));
+        bytes = omega (arith, keeps .bytes k h, shown-other (s .ledger) (s .track .phase) (bytesAt k) (λ e. omega arith) (λ e. p (omega arith)));
+      }
+
+  as-posted : (i : ℕ) → lostAt ≤ i → getD (ledgerOf s .numbers) i 0 ≡ getD (s .ledger .numbers) i 0
+  as-posted i h = shown-other (s .ledger) (s .track .phase) i (λ e. omega arith) (λ e. omega arith)
+
+  other : (i : ℕ) → lostAt ≤ i → i ≤ untimedAt → getD (s .ledger .numbers) i 0 ≤ 2 ^ 63
+  other i h q =
+      let w = among (λ (j : ℕ). getD (ledgerOf s .numbers) j 0 ≤ 2 ^ 63) (omega (arith, keeps .lost)) (omega (arith, keeps .idle))
+      (omega (arith, keeps .ticks))
+      (omega (arith, keeps .backward)) (omega (arith, keeps .untimed)) i h q in
+      omega (arith, w, as-posted i h)
+
+  able-kept : Able s
+  able-kept = record { frame = keeps .frame; filled = keeps .fill; under = few-bytes; room = record { accounts = spare; others = other } }
+
+pub able : (s : Session) → recordBroken s ≡ false → length (s .ledger .numbers) ≡ 27 → s .taken < 2 ^ 32 → Able s
+able s e places few = able-kept s (row-50 s .0 e) places few
+
+pub ready-able : (s : Session) → Ready s → Able s
+ready-able s r = able s (r .sound) (r .places) (omega (arith, r .more))
+
+-- ---- what a call asks of it
+module _ (s : Session) (a : Able s) where
+  -- a frame's bytes and fill leave room for one transfer's data more
+  pub roomy : Roomy (s .track .phase)
+  roomy = go (s .track .phase) (a .filled) (a .under)
+    where
+      go : (p : Phase) → FilledBy (s .opening) p → underBytes p < 2 ^ 48 → Roomy p
+      go Fresh f u = tt
+      go (Past fid) f u = tt
+      go (Under r) f u = (omega arith, omega (arith, f .within, a .frame .high))
+
+  -- a readable transfer with n bytes of data
+  module _ (h : Header) (n : ℕ) (x : Turn) (e : x ≡ turnOf (s .opening) (s .track) h n) where
+    pub sits : Sits (s .opening) (s .track .phase) n x
+    sits = rw e (turn-sits (s .opening) h n (s .track) (a .filled))
+
+    pub gone-few : x .gone ≤ 2 ^ 50
+    gone-few = omega (arith, sits .gone, a .under)
+
+    fate-bytes : (f : Fate) (m : ℕ) → LengthOf f m → fateBytes f m ≤ m
+    fate-bytes Fate.Idle m l = omega arith
+    fate-bytes Fate.Kept m l = omega arith
+    fate-bytes Fate.Stray m l = omega arith
+    fate-bytes (Fate.Delivered d) m l = omega arith
+    fate-bytes (Fate.Dropped why) m l = omega arith
+    fate-bytes (Fate.Unreadable k) m l = omega arith
+
+    pub fate-few : n ≤ 65536 → fateBytes (x .answer .fate) (x .bytes) ≤ 2 ^ 50
+    fate-few q = omega (arith, fate-bytes (x .answer .fate) (x .bytes) (sits .long), sits .bytes, a .under)

@@ -1,0 +1,201 @@
+-- EXACTLY WHEN each call is refused, by which number, and what a refused call leaves as it was.
+use Prim.Native.Nat.{ℕ, zero, suc, _<_}
+use mathlib.Core.Path.{_≡_, refl}
+use mathlib.Core.List.{List}
+use mathlib.Core.Logic.{_↔_}
+use native.Mathlib.Omega.{arith}
+use lib.ListN.{length}
+use Rattle.rules.specs.Numbered.{Row, firstFrom, firstRow, Up, Given, here, later, NoneOf}
+use Rattle.rules.proofs.Numbered.{up-above, none-up, none-first, first-up, first-low, up-first}
+use Rattle.rules.proofs.Rows.{Numbered, given-row, row-first, none-row, row-none}
+use Rattle.payload.specs.declared.Reading.{Reading}
+use Rattle.payload.specs.declared.Reading.the-variants.{Idle, Unreadable, Readable}
+use Rattle.payload.specs.Transfer.{readingOf}
+use Rattle.frames.specs.declared.Ended.{Ended}
+use Rattle.frames.specs.declared.Answer.{Answer}
+use Rattle.session.specs.declared.Session.{Session}
+use Rattle.session.specs.declared.Start.{Start}
+use Rattle.session.specs.declared.Outcome.{Outcome}
+use Rattle.session.specs.declared.Report.{Report}
+use Rattle.session.specs.declared.Closing.{Closing}
+use Rattle.session.specs.Refusals.{openingFlags, closeRows, lostRows, takeRows}
+use Rattle.session.specs.Session.{openBy, openOf, readOf, tookBy, tookOf, takeBy, takeOf, bufferBy, bufferOf, lostBy, lostOf, closeBy, closeOf}
+
+-- ---- the rows have numbers, and a number that is given is one of them
+close-numbered : (s : Session) → Numbered (closeRows s)
+close-numbered s = (omega arith, (omega arith, tt))
+
+lost-numbered : (s : Session) → Numbered (lostRows s)
+lost-numbered s = (omega arith, (omega arith, (omega arith, tt)))
+
+take-numbered : (s : Session) (room n : ℕ) → Numbered (takeRows s room n)
+take-numbered s room n = (omega arith, (omega arith, (omega arith, (omega arith, (omega arith, tt)))))
+
+given-positive : {rows : List Row} {k : ℕ} → Numbered rows → Given rows k → 0 < k
+given-positive p (here r rs e) = p .0
+given-positive p (later r rs k e g) = given-positive (p .1) g
+
+-- a number k that is not 0 is the first row's exactly when it is given
+to-given : (rows : List Row) (k : ℕ) → (firstRow rows ≡ k) × (0 < k) → Given rows k
+to-given rows zero p = absurd (omega arith)
+to-given rows (suc k) p = row-first rows k .0 (p .0)
+
+from-given : (rows : List Row) (k : ℕ) → Numbered rows → Given rows k → (firstRow rows ≡ k) × (0 < k)
+from-given rows k p g = (given-row g, given-positive p g)
+
+-- ---- take
+pub took-taken : (s : Session) (t : List ℕ) → (a : Answer) × (tookOf s t .outcome ≡ Outcome.Taken a)
+unfolding tookOf readOf
+took-taken s t = go (readingOf (s .opening) t)
+  where
+    go : (r : Reading) → (a : Answer) × (tookBy r s t .outcome ≡ Outcome.Taken a)
+    go Idle = (_, refl)
+    go (Unreadable k) = (_, refl)
+    go (Readable h) = (_, refl)
+
+not-both : (x : Outcome) (a : Answer) (k : ℕ) → x ≡ Outcome.Taken a → x ≡ Outcome.Refused k → ⊥
+not-both x a k p q = let z : _≡_ {A = ℕ} 0 1 = cc in omega arith
+
+module _ (s : Session) (t : List ℕ) where
+  take-to : (n k : ℕ) → takeBy n s t .outcome ≡ Outcome.Refused k → (n ≡ k) × (0 < k)
+  take-to zero k e = let w = took-taken s t in absurd (not-both _ (w .0) k (w .1) e)
+  take-to (suc n) k e = let q : suc n ≡ k = cc in (q, omega arith)
+
+  take-from : (n k : ℕ) → (n ≡ k) × (0 < k) → takeBy n s t .outcome ≡ Outcome.Refused k
+  take-from zero k p = absurd (omega arith)
+  take-from (suc n) k p = rw (p .0)
+
+  take-open : (n : ℕ) → (a : Answer) × (takeBy n s t .outcome ≡ Outcome.Taken a) → n ≡ 0
+  take-open zero p = refl
+  take-open (suc n) p = absurd (not-both _ (p .0) (suc n) (p .1) refl)
+
+  -- 50, 53, 52, 51, 55: k is given exactly when its row says so and no earlier one does
+  pub take-refused-exactly : (room k : ℕ) → (takeOf s room t .outcome ≡ Outcome.Refused k) ↔ Given (takeRows s room (length t)) k
+  unfolding takeOf
+  take-refused-exactly room k = (
+    λ e. to-given (takeRows s room (length t)) k (take-to (firstRow (takeRows s room (length t))) k e),
+    λ g. take-from (firstRow (takeRows s room (length t))) k (from-given (takeRows s room (length t)) k (take-numbered s room (length t)) g),
+  )
+
+  -- taken exactly when no row is broken
+  pub take-taken-exactly : (room : ℕ) → ((a : Answer) × (takeOf s room t .outcome ≡ Outcome.Taken a)) ↔ NoneOf (takeRows s room (length t))
+  unfolding takeOf
+  take-taken-exactly room = (
+    λ p. row-none (takeRows s room (length t)) (take-numbered s room (length t)) (take-open (firstRow (takeRows s room (length t))) p),
+    λ n. rw (none-row (takeRows s room (length t)) n) (took-taken s t),
+  )
+
+  -- a refused call gives the session back as it was, and no byte of the buffer changes
+  pub take-as-it-was : (buffer : List ℕ) (k : ℕ) → takeOf s (length buffer) t .outcome ≡ Outcome.Refused k →
+      (takeOf s (length buffer) t .session ≡ s) × (bufferOf s buffer t ≡ buffer)
+  unfolding takeOf bufferOf
+  take-as-it-was buffer k e = go (firstRow (takeRows s (length buffer) (length t))) e
+    where
+      go : (n : ℕ) → takeBy n s t .outcome ≡ Outcome.Refused k → (takeBy n s t .session ≡ s) × (bufferBy n s buffer t ≡ buffer)
+      go zero e = let w = took-taken s t in absurd (not-both _ (w .0) k (w .1) e)
+      go (suc n) e = (refl, refl)
+
+-- ---- lost
+module _ (s : Session) where
+  lost-to : (n k : ℕ) → lostBy n s .report ≡ Report.Refused k → (n ≡ k) × (0 < k)
+  lost-to zero k e = let z : _≡_ {A = ℕ} 0 1 = cc in absurd (omega arith)
+  lost-to (suc n) k e = let q : suc n ≡ k = cc in (q, omega arith)
+
+  lost-from : (n k : ℕ) → (n ≡ k) × (0 < k) → lostBy n s .report ≡ Report.Refused k
+  lost-from zero k p = absurd (omega arith)
+  lost-from (suc n) k p = rw (p .0)
+
+  lost-open : (n : ℕ) → lostBy n s .report ≡ Report.Noted → n ≡ 0
+  lost-open zero e = refl
+  lost-open (suc n) e = let z : _≡_ {A = ℕ} 0 1 = cc in absurd (omega arith)
+
+  -- 50, 53, 52
+  pub lost-refused-exactly : (k : ℕ) → (lostOf s .report ≡ Report.Refused k) ↔ Given (lostRows s) k
+  unfolding lostOf
+  lost-refused-exactly k = (
+    λ e. to-given (lostRows s) k (lost-to (firstRow (lostRows s)) k e),
+    λ g. lost-from (firstRow (lostRows s)) k (from-given (lostRows s) k (lost-numbered s) g),
+  )
+
+  pub lost-noted-exactly : (lostOf s .report ≡ Report.Noted) ↔ NoneOf (lostRows s)
+  unfolding lostOf
+  lost-noted-exactly = (λ e. row-none (lostRows s) (lost-numbered s) (lost-open (firstRow (lostRows s)) e), λ n. rw (none-row (lostRows s) n))
+
+  pub lost-as-it-was : (k : ℕ) → lostOf s .report ≡ Report.Refused k → lostOf s .session ≡ s
+  unfolding lostOf
+  lost-as-it-was k e = go (firstRow (lostRows s)) e
+    where
+      go : (n : ℕ) → lostBy n s .report ≡ Report.Refused k → lostBy n s .session ≡ s
+      go zero e = let z : _≡_ {A = ℕ} 0 1 = cc in absurd (omega arith)
+      go (suc n) e = refl
+
+  -- ---- close
+  close-to : (n k : ℕ) → closeBy n s .closing ≡ Closing.Refused k → (n ≡ k) × (0 < k)
+  close-to zero k e = let z : _≡_ {A = ℕ} 0 1 = cc in absurd (omega arith)
+  close-to (suc n) k e = let q : suc n ≡ k = cc in (q, omega arith)
+
+  close-from : (n k : ℕ) → (n ≡ k) × (0 < k) → closeBy n s .closing ≡ Closing.Refused k
+  close-from zero k p = absurd (omega arith)
+  close-from (suc n) k p = rw (p .0)
+
+  close-open : (n : ℕ) → (e : Ended) × (closeBy n s .closing ≡ Closing.Closed e) → n ≡ 0
+  close-open zero p = refl
+  close-open (suc n) p = let q = p .1 in let z : _≡_ {A = ℕ} 0 1 = cc in absurd (omega arith)
+
+  -- 50, 53
+  pub close-refused-exactly : (k : ℕ) → (closeOf s .closing ≡ Closing.Refused k) ↔ Given (closeRows s) k
+  unfolding closeOf
+  close-refused-exactly k = (
+    λ e. to-given (closeRows s) k (close-to (firstRow (closeRows s)) k e),
+    λ g. close-from (firstRow (closeRows s)) k (from-given (closeRows s) k (close-numbered s) g),
+  )
+
+  pub close-closed-exactly : ((e : Ended) × (closeOf s .closing ≡ Closing.Closed e)) ↔ NoneOf (closeRows s)
+  unfolding closeOf
+  close-closed-exactly =
+      (λ p. row-none (closeRows s) (close-numbered s) (close-open (firstRow (closeRows s)) p), λ n. rw (none-row (closeRows s) n) (_, refl))
+
+  pub close-as-it-was : (k : ℕ) → closeOf s .closing ≡ Closing.Refused k → closeOf s .session ≡ s
+  unfolding closeOf
+  close-as-it-was k e = go (firstRow (closeRows s)) e
+    where
+      go : (n : ℕ) → closeBy n s .closing ≡ Closing.Refused k → closeBy n s .session ≡ s
+      go zero e = let z : _≡_ {A = ℕ} 0 1 = cc in absurd (omega arith)
+      go (suc n) e = refl
+
+-- ---- open: 45, 46, 47
+module _ (frame payload room : ℕ) where
+  open-to : (n k : ℕ) → openBy n frame payload .start ≡ Start.Refused k → (n ≡ k) × (0 < k)
+  open-to zero k e = let z : _≡_ {A = ℕ} 0 1 = cc in absurd (omega arith)
+  open-to (suc n) k e = let q : suc n ≡ k = cc in (q, omega arith)
+
+  open-from : (n k : ℕ) → (n ≡ k) × (0 < k) → openBy n frame payload .start ≡ Start.Refused k
+  open-from zero k p = absurd (omega arith)
+  open-from (suc n) k p = rw (p .0)
+
+  open-open : (n : ℕ) → openBy n frame payload .start ≡ Start.Open → n ≡ 0
+  open-open zero e = refl
+  open-open (suc n) e = let z : _≡_ {A = ℕ} 0 1 = cc in absurd (omega arith)
+
+  abbrev pub Breaks : ℕ → Type 0
+  Breaks k = Up 45 (openingFlags frame payload room) k
+
+  broken : (k : ℕ) → (firstFrom 45 (openingFlags frame payload room) ≡ k) × (0 < k) → Breaks k × ((j : ℕ) → j < k → Breaks j → ⊥)
+  broken zero p = absurd (omega arith)
+  broken (suc k) p = (first-up 45 (openingFlags frame payload room) k (p .0), λ j. first-low 45 (openingFlags frame payload room) k j (p .0))
+
+  -- refused by k exactly when k is broken and none below it is
+  pub open-refused-exactly : (k : ℕ) → (openOf frame payload room .start ≡ Start.Refused k) ↔ (Breaks k × ((j : ℕ) → j < k → Breaks j → ⊥))
+  unfolding openOf
+  open-refused-exactly k = (
+    λ e. broken k (open-to (firstFrom 45 (openingFlags frame payload room)) k e),
+    λ p. open-from (firstFrom 45 (openingFlags frame payload room)) k
+        (up-first 45 (openingFlags frame payload room) k (p .0) (p .1), omega (arith, up-above 45 (openingFlags frame payload room) k (p .0))),
+  )
+
+  pub open-open-exactly : (openOf frame payload room .start ≡ Start.Open) ↔ ((k : ℕ) → Breaks k → ⊥)
+  unfolding openOf
+  open-open-exactly = (
+    λ e. none-up 45 (openingFlags frame payload room) (omega arith) (open-open (firstFrom 45 (openingFlags frame payload room)) e),
+    λ h. rw (none-first 45 (openingFlags frame payload room) h),
+  )

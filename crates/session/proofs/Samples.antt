@@ -1,0 +1,37 @@
+-- P samples of transfers, each the first of a fresh session with the ledger program's sizes: what becomes of it.
+use Prim.Native.Nat.{ℕ}
+use mathlib.Core.Path.{_≡_, refl}
+use mathlib.Core.List.{List, [], _∷_}
+use Rattle.rules.specs.Pick.{pick}
+use Rattle.rules.specs.Numbered.{firstFrom, anyBelow}
+use Rattle.sizes.specs.Sizes.{frameSizeBroken, payloadSizeBroken}
+use Rattle.payload.specs.Transfer.{flagOf, needOf, transferFlags, stampOf, headerOf, readingOf}
+use Rattle.payload.proofs.Samples.{opening}
+use Rattle.frames.specs.declared.Fate.{Fate}
+use Rattle.frames.specs.Track.{turnOf}
+use Rattle.ledger.specs.Ledger.{shownOf}
+use Rattle.session.specs.declared.Outcome.{Outcome}
+use Rattle.session.specs.Refusals.{sizesBroken, fillBroken, accountsBroken, countsBroken, recordBroken}
+use Rattle.session.specs.Session.{fresh, readOf, plainly, tookOf, takeOf}
+
+abbrev fate : List ℕ → Outcome
+fate t = takeOf (fresh opening) 256 t .outcome
+
+-- 02 80 kept; 03 80 is 64; 02 00 is 66; 0B 8C and nine bytes is 65; 0C 8C and ten bytes kept
+pub record Table : Type 0 where
+  pub bare : fate (0x02 ∷ 0x80 ∷ []) ≡ Outcome.Taken (plainly Fate.Kept)
+  pub past-end : fate (0x03 ∷ 0x80 ∷ []) ≡ Outcome.Taken (plainly (Fate.Unreadable 64))
+  pub without-end : fate (0x02 ∷ 0x00 ∷ []) ≡ Outcome.Taken (plainly (Fate.Unreadable 66))
+  pub short-of-clock : (a b c d e f g h i : ℕ) → fate (0x0B ∷ 0x8C ∷ a ∷ b ∷ c ∷ d ∷ e ∷ f ∷ g ∷ h ∷ i ∷ []) ≡ Outcome.Taken (plainly (Fate.Unreadable 65))
+  pub with-clock : (a b c d e f g h i j : ℕ) → fate (0x0C ∷ 0x8C ∷ a ∷ b ∷ c ∷ d ∷ e ∷ f ∷ g ∷ h ∷ i ∷ j ∷ []) ≡ Outcome.Taken (plainly Fate.Kept)
+
+pub table : Table
+unfolding takeOf tookOf readOf turnOf readingOf headerOf stampOf transferFlags needOf flagOf pick firstFrom anyBelow recordBroken sizesBroken fillBroken accountsBroken countsBroken shownOf frameSizeBroken payloadSizeBroken
+table =
+    record {
+      bare = refl;
+      past-end = refl;
+      without-end = refl;
+      short-of-clock = λ a b c d e f g h i. refl;
+      with-clock = λ a b c d e f g h i j. refl;
+    }

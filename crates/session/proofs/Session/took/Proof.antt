@@ -1,0 +1,92 @@
+use Rattle.session.proofs.Calls.{took-idle, took-unreadable, took-readable, header-within}
+use Rattle.session.proofs.Ready.{ready-able}
+use Rattle.ledger.proofs.Rooms.{room-up}
+use denote.Ref.{now}
+use mathlib.Core.List.{[]}
+use native.Mathlib.Omega.{arith}
+use borrow.Author.Needs.{needs}
+use Rattle.session.proofs.Session.took.Statement.{statement}
+use Rattle.session.proofs.Session.took.Tie as tie
+
+read-requires : tie.Need-read-requires
+read-requires c κs = search needs
+
+enum-told : tie.Need-enum-told
+enum-told c = search needs
+
+post-requires : tie.Need-post-requires
+post-requires c κs =
+    let s = c .before .before .before .before .before .before .before .before in
+    (room-up _ _ (s .args .self .ledger) (ready-able (s .args .self) (s .pre .0) .room) (omega arith), tt, omega arith)
+
+counted-requires : tie.Need-counted-requires
+counted-requires c κs = search needs
+
+enum-known-reading : tie.Need-enum-known-reading
+enum-known-reading c = search needs
+
+post-requires-2 : tie.Need-post-requires-2
+post-requires-2 c κs =
+    let s = c .before .before .before .before .before .before .before .before .before in
+    (room-up _ _ (s .args .self .ledger) (ready-able (s .args .self) (s .pre .0) .room) (omega arith), tt, omega (arith, s .pre .2))
+
+spoilt-requires : tie.Need-spoilt-requires
+spoilt-requires c κs = search needs
+
+counted-requires-2 : tie.Need-counted-requires-2
+counted-requires-2 c κs = search needs
+
+enum-known-reading-2 : tie.Need-enum-known-reading-2
+enum-known-reading-2 c = search needs
+
+read-requires-2 : tie.Need-read-requires-2
+read-requires-2 c κs =
+    let s = c .before .before .before .before .before .before .before .before .before .before in (
+      s .pre .0,
+      s .pre .1,
+      s .pre .2,
+      header-within (s .args .self) [] (now (s .args .t)) _ _ (c .before .before .before .before .read .ensures)
+          (c .before .before .reading2 .given .1),
+    )
+
+returns : tie.Need-returns
+returns c =
+    let s = c .before .before .before .before .before .before .before .before .before .before in
+    took-idle (s .args .self) (now (s .args .buffer)) (now (s .args .t)) _ _ _ (c .before .before .before .before .read .ensures)
+    (c .before .before .enum-told .given .1) (c .before .post .ensures) (c .counted .ensures)
+
+returns-2 : tie.Need-returns-2
+returns-2 c =
+    let s = c .before .before .before .before .before .before .before .before .before .before .before .before in
+    took-unreadable (s .args .self) (now (s .args .buffer)) (now (s .args .t)) _ _ _ _ _
+    (c .before .before .before .before .before .before .read .ensures) (c .before .before .before .before .reading .given .1)
+    (c .before .before .post2 .ensures) (c .before .spoilt .ensures) (c .counted2 .ensures)
+
+same-length : tie.Need-same-length
+same-length c = search needs
+
+returns-3 : tie.Need-returns-3
+returns-3 c =
+    let s = c .before .before .before .before .before .before .before .before .before .before .before .before .before in
+    took-readable (s .args .self) (now (s .args .buffer)) (now (s .args .t)) _ _ _ _
+    (c .before .before .before .before .before .before .before .read .ensures) (c .before .before .before .before .before .reading2 .given .1)
+    (c .before .before .read2 .ensures .0) (c .before .before .read2 .ensures .1)
+
+pub took-spec : {M : Type 1} → statement M
+took-spec =
+    tie.close
+    (tie.spec
+    read-requires
+    enum-told
+    post-requires
+    counted-requires
+    enum-known-reading
+    post-requires-2
+    spoilt-requires
+    counted-requires-2
+    enum-known-reading-2
+    read-requires-2
+    returns
+    returns-2
+    same-length
+    returns-3)

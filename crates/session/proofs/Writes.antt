@@ -1,0 +1,81 @@
+-- What a call writes to the lent buffer: the transfer's data straight after the frame's earlier data, or nothing; every other byte is what it was.
+use Prim.Native.Nat.{ℕ, _+_, _-_, _≤_, _<_, _^_}
+use mathlib.Core.Path.{_≡_, refl, sym, subst, _∙_}
+use mathlib.Core.List.{List}
+use native.Mathlib.Omega.{arith}
+use native.Mathlib.Nat.{add-sub-of-le}
+use lib.ListN.{length, drop, getD, length-drop}
+use lib.Seq.{paste, paste-zero}
+use Rattle.rules.specs.Numbered.{NoneOf}
+use Rattle.rules.proofs.Rows.{none-row}
+use Rattle.payload.specs.declared.Header.{Header}
+use Rattle.payload.specs.declared.Reading.the-variants.{Idle, Unreadable, Readable}
+use Rattle.payload.specs.Transfer.{readingOf}
+use Rattle.payload.proofs.Readings.{readable-fits}
+use Rattle.frames.specs.declared.Turn.{Turn}
+use Rattle.copier.proofs.Written as copied
+use Rattle.session.specs.declared.Session.{Session}
+use Rattle.session.specs.Refusals.{takeRows}
+use Rattle.session.specs.Session.{turned, tookBuffer, bufferOf}
+use Rattle.session.proofs.Ready.{ready-able, sits}
+use Rattle.session.proofs.Calls.{take-ready}
+
+-- new is old with the first len bytes of src from at on
+pub record Wrote (old new src : List ℕ) (at len : ℕ) : Type 0 where
+  pub inside : at + len ≤ length old
+  pub enough : len ≤ length src
+  pub same-length : length new ≡ length old
+  pub written : (i : ℕ) → i < len → getD new (at + i) 0 ≡ getD src i 0
+  pub before : (i : ℕ) → i < at → getD new i 0 ≡ getD old i 0
+  pub after : (i : ℕ) → at + len ≤ i → getD new i 0 ≡ getD old i 0
+
+wrote : (old src : List ℕ) (at len : ℕ) → at + len ≤ length old → len ≤ length src → Wrote old (paste old at src len) src at len
+wrote old src at len f e =
+    record {
+      inside = f;
+      enough = e;
+      same-length = copied.same-length old src at len f e;
+      written = copied.written old src at len f e;
+      before = copied.before old src at len f e;
+      after = λ i h. subst (λ (k : ℕ). getD (paste old at src len) k 0 ≡ getD old k 0) (add-sub-of-le h)
+          (copied.after old src at len f e (i - (at + len)));
+    }
+
+module _ (s : Session) (buffer t : List ℕ) where
+  abbrev Open : Type 0
+  Open = NoneOf (takeRows s (length buffer) (length t))
+
+  bare : Open → bufferOf s buffer t ≡ tookBuffer s buffer t
+  unfolding bufferOf
+  bare o = rw (none-row (takeRows s (length buffer) (length t)) o)
+
+  -- an idle or unreadable transfer writes nothing
+  pub idle-writes-nothing : Open → readingOf (s .opening) t ≡ Idle → bufferOf s buffer t ≡ buffer
+  unfolding tookBuffer
+  idle-writes-nothing o e = bare o ∙ rw e
+
+  pub unreadable-writes-nothing : (k : ℕ) → Open → readingOf (s .opening) t ≡ Unreadable k → bufferOf s buffer t ≡ buffer
+  unfolding tookBuffer
+  unreadable-writes-nothing k o e = bare o ∙ rw e
+
+  module _ (h : Header) (o : Open) (e : readingOf (s .opening) t ≡ Readable h) where
+    abbrev pub turn : Turn
+    turn = turned s h (length t - h .len)
+
+    pasted : bufferOf s buffer t ≡ paste buffer (turn .at) (drop (h .len) t) (turn .len)
+    unfolding tookBuffer
+    pasted = bare o ∙ rw e
+
+    -- a frame with a fault up to and with this transfer: nothing
+    pub faulted-writes-nothing : turn .len ≡ 0 → bufferOf s buffer t ≡ buffer
+    faulted-writes-nothing z = pasted ∙ rw z (sym (paste-zero buffer (turn .at) (drop (h .len) t)))
+
+    -- a readable transfer: the data after its header
+    pub readable-writes : length (s .ledger .numbers) ≡ 27 → s .taken < 2 ^ 32 →
+        Wrote buffer (bufferOf s buffer t) (drop (h .len) t) (turn .at) (turn .len)
+    readable-writes places few =
+        let f = take-ready s places few (length buffer) (length t) 0 (sym (none-row (takeRows s (length buffer) (length t)) o)) refl in
+        let q = sits s (ready-able s (f .ready)) h (length t - h .len) turn refl in
+        let l = readable-fits (s .opening) t h e in
+        rw pasted (wrote buffer (drop (h .len) t) (turn .at) (turn .len) (omega (arith, q .inside, f .whole))
+        (rw length-drop (omega (arith, q .short))))

@@ -1,0 +1,90 @@
+-- Document 01, "Numbers", 45 to 47, 50 to 53 and 55: what refuses an opening and what refuses a call.
+use Prim.Native.Nat.{ℕ, _+_, _*_, _<_, _≤_, _^_}
+use mathlib.Core.Path.{_≡_}
+use mathlib.Core.List.{List, [], _∷_, _++_}
+use mathlib.Core.Bool.{Bool, true, false, not, _||_}
+use lib.ListN.{length, getD}
+use lib.Dec.{ltb, leb, eqb}
+use Rattle.rules.specs.Numbered.{Row, anyBelow}
+use Rattle.sizes.specs.Sizes.{frameSizeBroken, payloadSizeBroken}
+use Rattle.payload.specs.declared.Opening.{Opening}
+use Rattle.frames.specs.declared.Fault.{Fault}
+use Rattle.frames.specs.declared.Fault.the-variants.{Sound, Bad}
+use Rattle.frames.specs.declared.Phase.{Phase}
+use Rattle.frames.specs.declared.Phase.the-variants.{Fresh, Under, Past}
+use Rattle.ledger.specs.declared.Ledger.{Ledger}
+use Rattle.ledger.specs.Ledger.{countOf, bytesOf, lostAt, idleAt, ticksAt, backwardAt, untimedAt, shownOf}
+use Rattle.session.specs.declared.Session.{Session}
+
+-- the most bytes of a transfer, and the most transfers taken
+abbrev pub transferMost : ℕ
+transferMost = 65_536
+
+abbrev pub takenMost : ℕ
+takenMost = 4_294_967_295
+
+-- 45, 46 and 47, in this order
+unfoldable pub openingFlags : ℕ → ℕ → ℕ → List Bool
+openingFlags frame payload room = frameSizeBroken frame ∷ payloadSizeBroken payload ∷ ltb room frame ∷ []
+
+-- the session's ledger: what is posted, with the frame under way in its account
+abbrev pub ledgerOf : Session → Ledger
+ledgerOf s = shownOf (s .ledger) (s .track .phase)
+
+-- sizes outside 45, 46
+unfoldable pub sizesBroken : Opening → Bool
+sizesBroken o = frameSizeBroken (o .frame) || payloadSizeBroken (o .payload)
+
+-- in a frame without fault, fill is its bytes under way
+abbrev pub unequal : Fault → ℕ → ℕ → Bool
+unequal Sound fill bytes = not (eqb fill bytes)
+unequal (Bad why) fill bytes = false
+
+-- fill over frame size, or, in a frame without fault, not its bytes under way
+unfoldable pub fillBroken : Phase → ℕ → Bool
+fillBroken Fresh frame = false
+fillBroken (Past fid) frame = false
+fillBroken (Under r) frame = ltb frame (r .fill) || unequal (r .fault) (r .fill) (r .bytes)
+
+-- of the eleven accounts: a count above the transfers taken, or a byte account over 65,536 times them
+abbrev pub accountBroken : Ledger → ℕ → ℕ → Bool
+accountBroken l n k = ltb n (countOf l k) || ltb (transferMost * n) (bytesOf l k)
+
+unfoldable pub accountsBroken : Ledger → ℕ → Bool
+accountsBroken l n = anyBelow 11 (accountBroken l n)
+
+-- ticks over 2^31 times them; lost, idle, backward or untimed above them
+unfoldable pub countsBroken : Ledger → ℕ → Bool
+countsBroken l n =
+    ltb (2 ^ 31 * n) (getD (l .numbers) ticksAt 0)
+    || (ltb n (getD (l .numbers) lostAt 0)
+    || (ltb n (getD (l .numbers) idleAt 0)
+    || (ltb n (getD (l .numbers) backwardAt 0)
+    || ltb n (getD (l .numbers) untimedAt 0))))
+
+-- 50
+unfoldable pub recordBroken : Session → Bool
+recordBroken s =
+    sizesBroken (s .opening)
+    || (fillBroken (s .track .phase) (s .opening .frame)
+    || (accountsBroken (ledgerOf s) (s .taken) || countsBroken (ledgerOf s) (s .taken)))
+
+-- what close, a lost report and a transfer meet, in this order
+abbrev pub closeRows : Session → List Row
+closeRows s = record { number = 50; broken = recordBroken s } ∷ record { number = 53; broken = s .closed } ∷ []
+
+abbrev pub lostRows : Session → List Row
+lostRows s = closeRows s ++ (record { number = 52; broken = eqb (s .taken) takenMost } ∷ [])
+
+abbrev pub takeRows : Session → ℕ → ℕ → List Row
+takeRows s room n =
+    lostRows s
+    ++ (record { number = 51; broken = ltb room (s .opening .frame) }
+    ∷ record { number = 55; broken = ltb transferMost n }
+    ∷ [])
+
+-- what a session that is not refused by 50, 53 or 52 gives: no sum can wrap, and the data goes within the frame
+pub record Ready (s : Session) : Type 0 where
+  pub sound : recordBroken s ≡ false
+  pub more : s .taken < takenMost
+  pub places : length (s .ledger .numbers) ≡ 27

@@ -1,0 +1,82 @@
+-- The frames of an accepted block: there are at most 64, and each lies within the block with its intervals.
+use Prim.Native.Nat.{ℕ, zero, suc, _+_, _-_, _≤_, _<_}
+use mathlib.Core.Path.{_≡_, refl, sym, ap, _∙_}
+use mathlib.Core.List.{List, [], _∷_, _++_, append-nil}
+use mathlib.Core.Bool.{Bool, true, false}
+use mathlib.Core.Logic.{⊎-elim}
+use lib.ListN.{length, getD, length-append, List·getD-append}
+use lib.Seq.{getD-append-add}
+use native.Mathlib.Omega.{arith}
+use native.Mathlib.Decide.{decLt}
+use Rattle.le.specs.Le.{byte}
+use Rattle.rules.specs.Pick.{pick}
+use Rattle.rules.specs.Pad.{pad}
+use Rattle.rules.specs.Walk.{Reached, first, next, Clean, brokenAt}
+use Rattle.rules.specs.declared.Verdict.{Verdict}
+use Rattle.rules.specs.declared.Verdict.the-variants.{Accepted, Refused}
+use Rattle.rules.proofs.Numbered.{none-first}
+use Rattle.rules.proofs.Padded.{pad-at}
+use Rattle.entities.specs.declared.Table.{Table}
+use Rattle.streaming_rules.specs.Descriptors.{lenAt, kindAt, isFrame, noFrame, frameAt, frameLength}
+use Rattle.streaming_rules.specs.Rules.{flags, ruleAt}
+use Rattle.streaming_rules.specs.declared.Frame.{Frame}
+use Rattle.streaming_rules.proofs.Fine.{Fine, fine, frame-inside}
+use Rattle.streaming.specs.Block.{Seen, sofar, after, course, acceptedWith, streamingOf}
+use Rattle.streaming.specs.declared.Streaming.{Streaming}
+use Rattle.streaming.specs.Reading.{Sound}
+use Rattle.streaming.proofs.Exactly.{accepted, tables}
+
+-- a frame's descriptor, with its intervals, lies within the block
+abbrev pub Within : List ℕ → ℕ → Type 0
+Within s o = o + frameLength (byte s o 25) ≤ length s
+
+record Held (s : List ℕ) (l : List Frame) : Type 0 where
+  few : length l ≤ 64
+  inside : (i : ℕ) → i < length l → Within s (getD l i noFrame .offset)
+
+held-more : (s : List ℕ) (l : List Frame) (x : Frame) → length l < 64 → Within s (x .offset) → Held s l → Held s (l ++ (x ∷ []))
+held-more s l x n w h = record { few = simp length-append (omega arith); inside = inside }
+  where
+    at : (i : ℕ) → i < length (l ++ (x ∷ [])) → Dec (i < length l) → Within s (getD (l ++ (x ∷ [])) i noFrame .offset)
+    at i k (yes m) = rw (List·getD-append l (x ∷ []) noFrame i m) (h .inside i m)
+    at i k (no m) =
+        let e : i ≡ length l + 0 = omega (arith, simp length-append at k) in
+        rw (e, getD-append-add l (x ∷ []) 0 noFrame) w
+    inside : (i : ℕ) → i < length (l ++ (x ∷ [])) → Within s (getD (l ++ (x ∷ [])) i noFrame .offset)
+    inside i k = at i k (decLt i (length l))
+
+frame-offset : (n : ℕ) (s : List ℕ) (o : ℕ) → frameAt n s o .offset ≡ o
+unfolding frameAt
+frame-offset n s o = refl
+
+module _ (linked : Bool) (s : List ℕ) (clean : Clean (course linked s)) where
+  fine-at : (a : Seen) (o : ℕ) → Reached (course linked s) a o → o < length s → Fine s o (sofar linked a)
+  unfolding ruleAt
+  fine-at a o r h = fine s o (sofar linked a) (none-first 25 (flags s o (sofar linked a)) (clean a o r h))
+
+  step : (a : Seen) (o : ℕ) → Fine s o (sofar linked a) → Held s (a .frames) → Held s (after s a o .frames)
+  unfolding after pick
+  step a o f h = go (isFrame (kindAt s o)) refl
+    where
+      go : (b : Bool) → isFrame (kindAt s o) ≡ b → Held s (a .frames ++ pick b (frameAt (length (a .formats)) s o ∷ []) [])
+      go false q = rw append-nil h
+      go true q =
+          held-more s (a .frames) (frameAt (length (a .formats)) s o) (f .few q)
+          (rw (frame-offset (length (a .formats)) s o) (frame-inside (kindAt s o) s o (length s) q (f .inside) (f .shaped))) h
+
+  held : {a : Seen} {o : ℕ} → Reached (course linked s) a o → Held s (a .frames)
+  held first = record { few = omega arith; inside = λ i h. absurd (omega arith) }
+  held (next {a = a} {o = o} r h p q) = step a o (fine-at a o r h) (held r)
+
+pub record FramesHeld (s : List ℕ) (x : Streaming) : Type 0 where
+  pub few : x .«frame_count» ≤ 64
+  pub inside : (i : ℕ) → i < x .«frame_count» → Within s (getD (x .frames) i noFrame .offset)
+
+held-with : (s : List ℕ) (a : Seen) → Held s (a .frames) → FramesHeld s (acceptedWith s a)
+unfolding acceptedWith
+held-with s a h = record { few = h .few; inside = λ i k. rw (pad-at 64 noFrame (a .frames) i) (h .inside i k) }
+
+pub frames-held : (t : Table) (s : List ℕ) (x : Streaming) → x ≡ streamingOf t s → x .verdict ≡ Accepted → FramesHeld s x
+frames-held t s x e v =
+    let p = accepted t s .0 (sym (ap (λ (y : Streaming). y .verdict) e) ∙ v) in
+    rw (e, tables t s (p .0) (p .1)) (held-with s (p .0) (held _ s (p .1 .walked .each) (p .1 .walked .there)))

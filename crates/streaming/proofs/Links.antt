@@ -1,0 +1,46 @@
+-- 30: what the search in the table says of the link.
+use Prim.Native.Nat.{ℕ, zero, suc, _+_, _≤_, _<_}
+use mathlib.Core.Path.{_≡_, refl, sym, ap, _∙_}
+use mathlib.Core.List.{List, [], _∷_}
+use mathlib.Core.Bool.{Bool, true, false}
+use lib.ListN.{length, take, getD, length-take}
+use lib.Dec.{eqb}
+use borrow.Author.Tests.{eq-eqb, ne-eqb}
+use native.Mathlib.Omega.{arith}
+use Rattle.rules.specs.Pick.{pick}
+use Rattle.entities.specs.Table.{noEntity, entityAt, used, findFrom, foundIn}
+use Rattle.entities.specs.declared.Entity.{Entity}
+use Rattle.entities.specs.declared.Table.{Table}
+use Rattle.entities.specs.declared.Found.{Found}
+use Rattle.entities.specs.declared.Found.the-variants.{At, Nothing}
+use Rattle.entities.proofs.Finding.{length-of}
+use Rattle.streaming.specs.Block.{isOutput, linkedAt, linkedTo}
+
+pub output-no : (e : Entity) → (e .kind ≡ 3 → ⊥) → false ≡ isOutput e
+unfolding isOutput
+output-no e h = rw (ne-eqb (e .kind) 3 h)
+
+pub output-is : (e : Entity) → e .kind ≡ 3 → eqb (e .terminal) 0x0101 ≡ isOutput e
+unfolding isOutput
+output-is e h = rw (eq-eqb (e .kind) 3 h)
+
+found-below : (i : ℕ) (l : List Entity) (id j : ℕ) → findFrom i l id ≡ At j → j < i + length l
+unfolding findFrom pick
+found-below i [] id j h = let z : _≡_ {A = ℕ} 0 1 = cc in absurd (omega arith)
+found-below i (e ∷ l) id j h = go (eqb (e .id) id) refl (λ q. found-below (suc i) l id j q)
+  where
+    go : (b : Bool) → eqb (e .id) id ≡ b → (findFrom (suc i) l id ≡ At j → j < suc i + length l) → j < i + suc (length l)
+    go true q on = let w : At i ≡ At j = rw q at h in let z : i ≡ j = cc in omega arith
+    go false q on = omega (arith, on (rw q at h))
+
+-- what is found lies in the table
+pub found-inside : (t : Table) (id i n : ℕ) (f : Found) → length (t .entities) ≡ n → f ≡ foundIn t id → f ≡ At i → i < n
+found-inside t id i n f e g h = omega (arith, found-below 0 (used t) id i (sym g ∙ h), length-take (t .count) (t .entities))
+
+pub linked-none : (t : Table) (id : ℕ) (f : Found) → f ≡ foundIn t id → f ≡ Nothing → false ≡ linkedTo t id
+unfolding linkedAt
+linked-none t id f e h = rw (← e, h)
+
+pub linked-at : (t : Table) (id i : ℕ) (f : Found) (r : Bool) → f ≡ foundIn t id → f ≡ At i → r ≡ isOutput (entityAt (t .entities) i) → r ≡ linkedTo t id
+unfolding linkedAt
+linked-at t id i f r e h g = rw (← e, h) g

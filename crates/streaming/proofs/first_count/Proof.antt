@@ -1,0 +1,75 @@
+use Rattle.streaming.proofs.Places.{Seeking, seek, found-here, not-here, none-here}
+use Rattle.streaming.proofs.Late.{count-differs, count-agrees}
+use Rattle.streaming.specs.Block.{countBroken}
+use Rattle.streaming_rules.specs.Descriptors.{noFormat}
+use Prim.Native.Nat.{_+_, _-_}
+use lib.ListN.{getD}
+use native.Mathlib.Omega.{arith}
+use borrow.Author.Needs.{needs}
+use Rattle.streaming.proofs.first_count.Statement.{statement}
+use Rattle.streaming.proofs.first_count.Tie as tie
+use Rattle.streaming.proofs.first_count.Reads as reads
+use Rattle.streaming.proofs.first_count.Lts as lts
+
+abbrev Inv-loop : tie.InvT-loop
+Inv-loop n counts formats i₀ i = Seeking (λ j. countBroken (getD formats j noFormat) (getD counts (j + 1) 0)) n i
+
+abbrev μ-loop : tie.MeasureT-loop
+μ-loop n counts formats i₀ i = n - i
+
+-- src/lib.rt:52:5
+loop-holds : tie.Need-loop-holds Inv-loop μ-loop
+loop-holds c = seek _ _
+
+-- src/lib.rt:53:17
+mul-f : tie.Need-mul-f Inv-loop μ-loop
+mul-f c = search needs
+
+-- src/lib.rt:53:17
+array-copy-out-f : tie.Need-array-copy-out-f Inv-loop μ-loop
+array-copy-out-f c = search needs
+
+-- src/lib.rt:54:31
+add-if1 : tie.Need-add-if1 Inv-loop μ-loop
+add-if1 c = search needs
+
+-- src/lib.rt:54:24
+element-copy-out-if1 : tie.Need-element-copy-out-if1 Inv-loop μ-loop
+element-copy-out-if1 c = search needs
+
+-- src/lib.rt:55:13
+returns : tie.Need-returns Inv-loop μ-loop
+returns c = found-here _ _ _ (c .before .before .before .before .before .loop .inv) (c .before .before .before .before .loop-test .taken) (count-differs _ _ (c .if1 .taken))
+
+-- src/lib.rt:57:13
+add-i : tie.Need-add-i Inv-loop μ-loop
+add-i c = search needs
+
+-- src/lib.rt:52:5
+loop-less : tie.Need-loop-less Inv-loop μ-loop
+loop-less c = omega arith
+
+-- src/lib.rt:52:5
+loop-again : tie.Need-loop-again Inv-loop μ-loop
+loop-again c = not-here _ _ _ (c .before .before .before .before .before .loop .inv) (c .before .before .before .before .loop-test .taken) (count-agrees _ _ (c .if1 .left))
+
+-- src/lib.rt:47:1
+returns-2 : tie.Need-returns-2 Inv-loop μ-loop
+returns-2 c = none-here _ _ _ (c .before .loop .inv) (c .loop-test .left)
+
+pub first-count-spec : {M : Type 1} → statement M
+first-count-spec =
+    tie.close
+    (tie.spec
+    Inv-loop
+    μ-loop
+    loop-holds
+    mul-f
+    array-copy-out-f
+    add-if1
+    element-copy-out-if1
+    returns
+    add-i
+    loop-less
+    loop-again
+    returns-2)

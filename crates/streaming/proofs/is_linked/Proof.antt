@@ -1,0 +1,55 @@
+use Rattle.streaming.proofs.Links.{found-inside, linked-none, linked-at}
+use Rattle.entities.proofs.Finding.{length-of}
+use native.Mathlib.Omega.{arith}
+use borrow.Author.Needs.{needs}
+use Rattle.streaming.proofs.is_linked.Statement.{statement}
+use Rattle.streaming.proofs.is_linked.Tie as tie
+use Rattle.streaming.proofs.is_linked.Reads as reads
+use Rattle.streaming.proofs.is_linked.Lts as lts
+use Rattle.entities.proofs.find.Reads as find-reads
+use Rattle.streaming.proofs.is_output.Reads as is-output-reads
+
+-- src/lib.rt:40:11
+find-requires : tie.Need-find-requires
+find-requires c κs = search needs
+
+-- src/lib.rt:41:19
+enum-known-i : tie.Need-enum-known-i
+enum-known-i c = search needs
+
+-- src/lib.rt:41:35
+mul-is-output : tie.Need-mul-is-output
+mul-is-output c = omega (arith, found-inside (c .before .before .before .before .args .t1) _ _ 32 _ (search length-of) (c .before .before .before .find .ensures) (c .before .i .given .1))
+
+-- src/lib.rt:41:35
+element-copy-out-is-output : tie.Need-element-copy-out-is-output
+element-copy-out-is-output c = found-inside (c .before .before .before .before .args .t1) _ _ 32 _ (search length-of) (c .before .before .before .find .ensures) (c .before .i .given .1)
+
+-- src/lib.rt:41:25
+is-output-requires : tie.Need-is-output-requires
+is-output-requires c κs = search needs
+
+-- src/lib.rt:42:27
+enum-told : tie.Need-enum-told
+enum-told c = search needs
+
+-- src/lib.rt:37:1
+returns : tie.Need-returns
+returns c = linked-at _ _ _ _ _ (c .before .before .before .before .before .find .ensures) (c .before .before .before .i .given .1) (c .is-output .ensures)
+
+-- src/lib.rt:37:1
+returns-2 : tie.Need-returns-2
+returns-2 c = linked-none _ _ _ (c .before .before .find .ensures) (c .enum-told .given .1)
+
+pub is-linked-spec : {M : Type 1} → statement M
+is-linked-spec =
+    tie.close
+    (tie.spec
+    find-requires
+    enum-known-i
+    mul-is-output
+    element-copy-out-is-output
+    is-output-requires
+    enum-told
+    returns
+    returns-2)

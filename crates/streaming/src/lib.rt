@@ -1,0 +1,213 @@
+// Reads the class-specific descriptors of a VideoStreaming interface (20 to 38).
+ghost use mathlib.Core.Path.{_≡_};
+ghost use Prim.Native.Nat.{_+_, _≤_, _<_};
+ghost use lib.ListN.{length, getD};
+ghost use Rattle.streaming_rules.specs.Descriptors.{noFormat, noFrame};
+ghost use Rattle.streaming.specs.Place.{firstPlace};
+ghost use Rattle.streaming.specs.Block.{isOutput, linkedTo, countBroken, defaultBroken, lateBy, refusedBy, noCounts, walked, streamingOf};
+
+use entities::{Entity, Found, Table};
+use rules::Verdict;
+use streaming_rules::{Format, Frame, Sofar};
+
+// The verdict, the header's endpoint and terminal link, and the formats and frames in block order, unused places zero. A refused block gives all zero.
+pub struct Streaming {
+    pub verdict: Verdict,
+    pub endpoint: u8,
+    pub link: u8,
+    pub format_count: usize,
+    pub formats: [Format; 8],
+    pub frame_count: usize,
+    pub frames: [Frame; 64],
+}
+
+// How many frames stand under each format, by its number; place 0 is that of no format.
+type Counts = [u8; 9];
+
+fn is_output(e: Entity) -> bool
+    ensures { λ r. ⌜ r ≡ isOutput e ⌝ }
+{
+    if e.kind != 3 {
+        return false;
+    }
+    e.terminal == 0x0101
+}
+
+// 30: the first used place of the table that carries the link is an output terminal of type 0x0101.
+fn is_linked(table: Table, link: u8) -> bool
+    ensures { λ r. ⌜ r ≡ linkedTo table link ⌝ }
+{
+    match entities::find(table, link) {
+        Found::At(i) => is_output(table.entities[i]),
+        Found::Nothing => false,
+    }
+}
+
+// Inner: the first of the n formats that breaks 36; n where none does.
+fn first_count(formats: [Format; 8], n: usize, counts: &Counts) -> usize
+    requires { ⌜ n ≤ 8 ⌝ }
+    ensures { λ r. ⌜ r ≡ firstPlace (λ i. countBroken (getD formats i noFormat) (getD (now (counts .entry)) (i + 1) 0)) n ⌝ }
+{
+    let mut i: usize = 0;
+    while i < n {
+        let f = formats[i];
+        if f.frames != counts[i + 1] {
+            return i;
+        }
+        i = i + 1;
+    }
+    n
+}
+
+// Whether the default is not 1 to the frame count.
+fn default_broken(f: Format) -> bool
+    ensures { λ r. ⌜ r ≡ defaultBroken f ⌝ }
+{
+    if f.default == 0 {
+        return true;
+    }
+    f.frames < f.default
+}
+
+// Inner: the first of the n formats that breaks 37; n where none does.
+fn first_default(formats: [Format; 8], n: usize) -> usize
+    requires { ⌜ n ≤ 8 ⌝ }
+    ensures { λ r. ⌜ r ≡ firstPlace (λ i. defaultBroken (getD formats i noFormat)) n ⌝ }
+{
+    let mut i: usize = 0;
+    while i < n {
+        if default_broken(formats[i]) {
+            return i;
+        }
+        i = i + 1;
+    }
+    n
+}
+
+// Inner: 36 to 38, after the walk: number by number, each at the first format that breaks it.
+fn late_verdict(formats: [Format; 8], n: usize, counts: &Counts, p: u8) -> Verdict
+    requires { ⌜ n ≤ 8 ⌝ }
+    ensures { λ r. ⌜ r ≡ lateBy (λ i. getD formats i noFormat) (λ i. getD (now (counts .entry)) (i + 1) 0) n p ⌝ }
+{
+    let i = first_count(formats, n, counts);
+    if i < n {
+        let f = formats[i];
+        return Verdict::Refused {
+            number: 36,
+            offset: f.offset as usize,
+        };
+    }
+    let j = first_default(formats, n);
+    if j < n {
+        let f = formats[j];
+        return Verdict::Refused {
+            number: 37,
+            offset: f.offset as usize,
+        };
+    }
+    if n == le::wide(p) {
+        return Verdict::Accepted;
+    }
+    Verdict::Refused {
+        number: 38,
+        offset: 0,
+    }
+}
+
+// A refused block: all zero but the verdict.
+fn refused(number: u8, offset: usize) -> Streaming
+    ensures { λ r. ⌜ r ≡ refusedBy number offset ⌝ }
+{
+    let no_format = streaming_rules::no_format();
+    let no_frame = streaming_rules::no_frame();
+    let formats = [no_format; 8];
+    let frames = [no_frame; 64];
+    Streaming {
+        verdict: Verdict::Refused { number, offset },
+        endpoint: 0,
+        link: 0,
+        format_count: 0,
+        formats,
+        frame_count: 0,
+        frames,
+    }
+}
+
+fn no_counts() -> Counts
+    ensures { λ r. ⌜ r ≡ noCounts ⌝ }
+{
+    [0u8; 9]
+}
+
+// Inner: the walk over the descriptors, then 36 to 38. `linked` says that the header's link is good.
+fn walk(s: &[u8], linked: bool) -> Streaming
+    requires { ⌜ (13 ≤ length (now s)) × (length (now s) ≤ 16384) ⌝ }
+    ensures { λ r. ⌜ r ≡ walked linked (now (s .entry)) ⌝ }
+{
+    let no_format = streaming_rules::no_format();
+    let no_frame = streaming_rules::no_frame();
+    let mut formats = [no_format; 8];
+    let mut frames = [no_frame; 64];
+    let mut counts = no_counts();
+    let mut f: usize = 0;
+    let mut n: usize = 0;
+    let mut under: u8 = 0;
+    let mut at: usize = 0;
+    while at < s.len() {
+        let numbered = counts[f];
+        let a = Sofar {
+            linked,
+            formats: f,
+            frames: n,
+            under,
+            numbered,
+        };
+        let broken = streaming_rules::rule_at(s, at, a);
+        if broken != 0 {
+            return refused(broken, at);
+        }
+        let next = at + le::wide(s[at]);
+        let kind = streaming_rules::kind_of(s[at + 2]);
+        if streaming_rules::is_format(kind) {
+            let e = streaming_rules::format_at(s, at, kind);
+            under = e.kind;
+            formats[f] = e;
+            f = f + 1;
+            at = next;
+        } else if streaming_rules::is_frame(kind) {
+            let e = streaming_rules::frame_at(s, at, f);
+            frames[n] = e;
+            // a frame's number is the number of frames so far
+            counts[f] = s[at + 3];
+            n = n + 1;
+            at = next;
+        } else {
+            at = next;
+        }
+    }
+    let verdict = late_verdict(formats, f, &counts, s[3]);
+    match verdict {
+        Verdict::Accepted => Streaming {
+            verdict: Verdict::Accepted,
+            endpoint: s[6],
+            link: s[8],
+            format_count: f,
+            formats,
+            frame_count: n,
+            frames,
+        },
+        Verdict::Refused { number, offset } => refused(number, offset),
+    }
+}
+
+// Reads a streaming block against the entity table of its control block.
+pub fn read(table: Table, block: &[u8]) -> Streaming
+    ensures { λ r. ⌜ r ≡ streamingOf table (now (block .entry)) ⌝ }
+{
+    let broken = streaming_rules::head_rule(table.count, block);
+    if broken != 0 {
+        return refused(broken, 0);
+    }
+    let linked = is_linked(table, block[8]);
+    walk(block, linked)
+}

@@ -1,0 +1,5 @@
+pub mod Subtypes
+pub mod Guids
+pub mod Ladder
+pub mod Fine
+pub mod Unique

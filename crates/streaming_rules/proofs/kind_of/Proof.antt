@@ -1,0 +1,71 @@
+use Rattle.streaming_rules.proofs.Subtypes.{within, below, above}
+use Rattle.streaming_rules.specs.Descriptors.{kindOf}
+use Rattle.rules.specs.Pick.{pick}
+use mathlib.Core.Logic.{⊎-elim, inl, inr}
+use native.Mathlib.Omega.{arith}
+use Rattle.streaming_rules.proofs.kind_of.Statement.{statement}
+use Rattle.streaming_rules.proofs.kind_of.Tie as tie
+use Rattle.streaming_rules.proofs.kind_of.Reads as reads
+use Rattle.streaming_rules.proofs.kind_of.Lts as lts
+
+-- src/lib.rt:66:1
+returns : tie.Need-returns
+unfolding kindOf pick
+returns c = rw (c .match .keys1)
+
+-- src/lib.rt:66:1
+returns-2 : tie.Need-returns-2
+unfolding kindOf pick
+returns-2 c = rw (c .match .keys2)
+
+-- src/lib.rt:66:1
+returns-3 : tie.Need-returns-3
+unfolding kindOf pick
+returns-3 c = rw (c .match .keys3)
+
+-- src/lib.rt:66:1
+returns-4 : tie.Need-returns-4
+unfolding kindOf pick
+returns-4 c = rw (c .match .keys4)
+
+-- src/lib.rt:66:1
+returns-5 : tie.Need-returns-5
+unfolding kindOf pick
+returns-5 c = rw (c .match .keys5)
+
+-- src/lib.rt:66:1
+returns-6 : tie.Need-returns-6
+unfolding kindOf pick
+returns-6 c = rw (c .match .keys6)
+
+-- src/lib.rt:66:1
+returns-7 : tie.Need-returns-7
+unfolding kindOf pick
+returns-7 c = ⊎-elim (λ e. rw e) (λ e. rw e) (c .match .keys7)
+
+-- src/lib.rt:66:1
+returns-8 : tie.Need-returns-8
+returns-8 c = let r = c .before .before .match .rest in within _ (r .0 .0 .0 .0 .0 .0 .1) (r .0 .0 .0 .0 .0 .1) (r .0 .0 .0 .0 .1) (r .0 .0 .0 .1) (r .0 .0 .1) (r .0 .1) (λ e. r .1 (inl e)) (λ e. r .1 (inr e)) (omega arith) (omega arith)
+
+-- src/lib.rt:66:1
+returns-9 : tie.Need-returns-9
+returns-9 c = let r = c .before .match .rest in below _ (r .0 .0 .0 .0 .0 .0 .1) (r .0 .0 .0 .0 .0 .1) (r .0 .0 .0 .0 .1) (r .0 .0 .0 .1) (r .0 .0 .1) (r .0 .1) (λ e. r .1 (inl e)) (λ e. r .1 (inr e)) (omega arith)
+
+-- src/lib.rt:66:1
+returns-10 : tie.Need-returns-10
+returns-10 c = let r = c .before .before .match .rest in above _ (r .0 .0 .0 .0 .0 .0 .1) (r .0 .0 .0 .0 .0 .1) (r .0 .0 .0 .0 .1) (r .0 .0 .0 .1) (r .0 .0 .1) (r .0 .1) (λ e. r .1 (inl e)) (λ e. r .1 (inr e)) (omega arith)
+
+pub kind-of-spec : {M : Type 1} → statement M
+kind-of-spec =
+    tie.close
+    (tie.spec
+    returns
+    returns-2
+    returns-3
+    returns-4
+    returns-5
+    returns-6
+    returns-7
+    returns-8
+    returns-9
+    returns-10)

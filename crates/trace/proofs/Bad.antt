@@ -1,0 +1,143 @@
+-- "bad record N" is given exactly for the first bad record, counted from 1.
+use Prim.Native.Nat.{ℕ, zero, suc, _+_, _-_, _≤_, _<_}
+use mathlib.Core.Path.{_≡_, refl, sym, _∙_, ap, subst}
+use mathlib.Core.Bool.{Bool, true, false, _||_, true≢false}
+use mathlib.Core.List.{List, [], _∷_, _++_, map}
+use mathlib.Core.Logic.{_↔_}
+use native.Mathlib.Omega.{arith}
+use lib.ListN.{length}
+use Rattle.payload.specs.declared.Reading.{Reading}
+use Rattle.payload.specs.declared.Reading.the-variants.{Idle, Unreadable, Readable}
+use Rattle.payload.specs.Transfer.{readingOf}
+use Rattle.session.specs.declared.Session.{Session}
+use Rattle.session.specs.Session.{fresh, readOf, tookBy, tookOf}
+use Rattle.books.specs.Rule.{Call}
+use Rattle.books.specs.Calls.{refusal, next, nextCall}
+use Rattle.books.specs.Demands.{offerWith, bufferNext}
+use Rattle.books.proofs.Taken.{next-taken}
+use Rattle.trace.specs.Record.{recordBad, recordCall}
+use Rattle.trace.specs.Trace.{newTrace, closes, numberOf, stepOf, stepBuffer, traced}
+use Rattle.trace.specs.declared.State.{State}
+use Rattle.trace.specs.declared.State.the-variants.{Good, Bad, Refused}
+use Rattle.trace.specs.declared.Trace.{Trace}
+use Rattle.trace.proofs.Right.{good, same-call, state-of, on-good, on-bad, on-refused}
+
+-- ---- each good record that is taken counts one
+took-taken : (s : Session) (t : List ℕ) (r : Reading) → tookBy r s t .session .taken ≡ s .taken + 1
+unfolding readOf
+took-taken s t Idle = refl
+took-taken s t (Unreadable k) = refl
+took-taken s t (Readable h) = refl
+
+took-closed : (s : Session) (t : List ℕ) (r : Reading) → tookBy r s t .session .closed ≡ s .closed
+unfolding readOf
+took-closed s t Idle = refl
+took-closed s t (Unreadable k) = refl
+took-closed s t (Readable h) = refl
+
+call-number : (s : Session) (c : Call) → s .closed ≡ false → numberOf (nextCall s c) ≡ numberOf s + 1
+unfolding tookOf
+call-number s (Call.transfer t) e =
+    rw (took-taken s t (readingOf (s .opening) t), took-closed s t (readingOf (s .opening) t), e) (omega arith)
+call-number s Call.lost e = rw e (omega arith)
+call-number s Call.close e = rw e (omega arith)
+
+or-left : (a b : Bool) → (a || b) ≡ false → a ≡ false
+or-left true b h = h
+or-left false b h = refl
+
+next-number : (s : Session) (b r : List ℕ) → (s .closed || recordBad r) ≡ false → refusal s (offerWith b (recordCall r)) ≡ 0 → numberOf (next s (offerWith b (recordCall r))) ≡ numberOf s + 1
+next-number s b r e q =
+    ap numberOf (next-taken s (offerWith b (recordCall r)) q ∙ ap (nextCall s) (same-call b (recordCall r)))
+    ∙ call-number s (recordCall r) (or-left (s .closed) (recordBad r) e)
+
+-- ---- the first bad record from a session on
+pub record BadFrom (s : Session) (b : List ℕ) (rs : List (List ℕ)) (n : ℕ) : Type 0 where
+  pub before : List (List ℕ)
+  pub worst : List ℕ
+  pub rest : List (List ℕ)
+  pub split : rs ≡ before ++ (worst ∷ rest)
+  pub fine : traced (good s) b before .state ≡ Good
+  pub broken : (traced (good s) b before .session .closed || recordBad worst) ≡ true
+  pub number : n ≡ numberOf s + length before
+
+not-good : (n : ℕ) → Good ≡ Bad n → ⊥
+not-good n e = let z : _≡_ {A = ℕ} 0 1 = cc in omega arith
+
+not-refused : (k m n : ℕ) → Refused k m ≡ Bad n → ⊥
+not-refused k m n e = let z : _≡_ {A = ℕ} 0 1 = cc in omega arith
+
+same-bad : (m n : ℕ) → Bad m ≡ Bad n → n ≡ m
+same-bad m n e = cc
+
+to-bad : (rs : List (List ℕ)) (s : Session) (b : List ℕ) (n : ℕ) → traced (good s) b rs .state ≡ Bad n → BadFrom s b rs n
+to-bad [] s b n e = absurd (not-good n e)
+to-bad (r ∷ rs) s b n e =
+    go (s .closed || recordBad r) refl (refusal s (offerWith b (recordCall r))) refl (to-bad rs (next s (offerWith b (recordCall r))) (bufferNext s b (recordCall r)) n)
+  where
+    go : (x : Bool) → (s .closed || recordBad r) ≡ x → (k : ℕ) → refusal s (offerWith b (recordCall r)) ≡ k
+        → (traced (good (next s (offerWith b (recordCall r)))) (bufferNext s b (recordCall r)) rs .state ≡ Bad n → BadFrom (next s (offerWith b (recordCall r))) (bufferNext s b (recordCall r)) rs n)
+        → BadFrom s b (r ∷ rs) n
+    go true q k z rec =
+        record { before = []; worst = r; rest = rs; split = refl; fine = refl; broken = q; number = same-bad (numberOf s) n (sym (state-of (on-bad s b r q rs)) ∙ e) ∙ omega arith }
+    go false q (suc k) z rec = absurd (not-refused (suc k) (numberOf s) n (sym (state-of (on-refused s b r q k z rs)) ∙ e))
+    go false q zero z rec =
+        let i = rec (sym (state-of (on-good s b r q z rs)) ∙ e) in
+        let step = on-good s b r q z (i .before) in
+        record {
+          before = r ∷ i .before;
+          worst = i .worst;
+          rest = i .rest;
+          split = ap (r ∷_) (i .split);
+          fine = state-of step ∙ i .fine;
+          broken = ap (λ (t : Trace). t .session .closed || recordBad (i .worst)) step ∙ i .broken;
+          number = i .number ∙ omega (arith, next-number s b r q z);
+        }
+
+-- the buffer after some records
+abbrev bufferOn : Trace → List ℕ → List (List ℕ) → List ℕ
+bufferOn t b [] = b
+bufferOn t b (r ∷ rs) = bufferOn (stepOf t b r) (stepBuffer t b r) rs
+
+traced-more : (xs ys : List (List ℕ)) (t : Trace) (b : List ℕ) → traced t b (xs ++ ys) ≡ traced (traced t b xs) (bufferOn t b xs) ys
+traced-more [] ys t b = refl
+traced-more (x ∷ xs) ys t b = traced-more xs ys (stepOf t b x) (stepBuffer t b x)
+
+-- the number of the record after a good trace
+good-not-bad : (n : ℕ) → Bad n ≡ Good → ⊥
+good-not-bad n e = not-good n (sym e)
+
+good-not-refused : (k n : ℕ) → Refused k n ≡ Good → ⊥
+good-not-refused k n e = let z : _≡_ {A = ℕ} 0 1 = cc in omega arith
+
+good-number : (rs : List (List ℕ)) (s : Session) (b : List ℕ) → traced (good s) b rs .state ≡ Good → numberOf (traced (good s) b rs .session) ≡ numberOf s + length rs
+good-number [] s b e = omega arith
+good-number (r ∷ rs) s b e =
+    go (s .closed || recordBad r) refl (refusal s (offerWith b (recordCall r))) refl (good-number rs (next s (offerWith b (recordCall r))) (bufferNext s b (recordCall r)))
+  where
+    go : (x : Bool) → (s .closed || recordBad r) ≡ x → (k : ℕ) → refusal s (offerWith b (recordCall r)) ≡ k
+        → (traced (good (next s (offerWith b (recordCall r)))) (bufferNext s b (recordCall r)) rs .state ≡ Good
+        → numberOf (traced (good (next s (offerWith b (recordCall r)))) (bufferNext s b (recordCall r)) rs .session) ≡ numberOf (next s (offerWith b (recordCall r))) + length rs)
+        → numberOf (traced (good s) b (r ∷ rs) .session) ≡ numberOf s + suc (length rs)
+    go true q k z rec = absurd (good-not-bad (numberOf s) (sym (state-of (on-bad s b r q rs)) ∙ e))
+    go false q (suc k) z rec = absurd (good-not-refused (suc k) (numberOf s) (sym (state-of (on-refused s b r q k z rs)) ∙ e))
+    go false q zero z rec =
+        ap (λ (t : Trace). numberOf (t .session)) (on-good s b r q z rs) ∙ rec (sym (state-of (on-good s b r q z rs)) ∙ e) ∙ omega (arith, next-number s b r q z)
+
+eta : (t : Trace) → t .state ≡ Good → t ≡ good (t .session)
+eta t e = λ i. record { session = t .session; state = e i }
+
+from-bad : (rs : List (List ℕ)) (s : Session) (b : List ℕ) (n : ℕ) → BadFrom s b rs n → traced (good s) b rs .state ≡ Bad n
+from-bad rs s b n w =
+    let t : Trace = traced (good s) b (w .before) in
+    let c : List ℕ = bufferOn (good s) b (w .before) in
+    let stop = on-bad (t .session) c (w .worst) (w .broken) (w .rest) in
+    ap (λ (x : List (List ℕ)). traced (good s) b x .state) (w .split)
+    ∙ state-of (traced-more (w .before) (w .worst ∷ w .rest) (good s) b)
+    ∙ ap (λ (x : Trace). traced x c (w .worst ∷ w .rest) .state) (eta t (w .fine))
+    ∙ state-of stop
+    ∙ ap Bad (good-number (w .before) s b (w .fine) ∙ sym (w .number))
+
+-- "bad record N": record N is bad, or comes after close, and every record before it is good and comes before close
+pub bad-exactly : (b : List ℕ) (rs : List (List ℕ)) (n : ℕ) → (traced newTrace b rs .state ≡ Bad n) ↔ BadFrom (newTrace .session) b rs n
+bad-exactly b rs n = (to-bad rs (newTrace .session) b n, from-bad rs (newTrace .session) b n)

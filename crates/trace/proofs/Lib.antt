@@ -1,0 +1,4 @@
+pub mod Steps
+pub mod Right
+pub mod Bad
+pub mod Full

@@ -1,0 +1,281 @@
+-- What each branch of the code says of the definitions.
+use Prim.Native.Nat.{ℕ, zero, suc, _+_, _≤_, _<_}
+use mathlib.Core.Path.{_≡_, refl, sym, _∙_, ap}
+use mathlib.Core.Bool.{Bool, true, false, _||_, _&&_, not, true≢false, or-true}
+use mathlib.Core.List.{List, [], _∷_}
+use native.Mathlib.Omega.{arith}
+use native.Mathlib.Numerals.{add-one}
+use lib.ListN.{length, getD, take, drop, drop-of-length-le}
+use lib.Seq.{drop-cons}
+use lib.Dec.{ltb, eqb}
+use borrow.Author.Tests.{eq-eqb, ne-eqb, lt-ltb, le-ltb, eqb-true, ltb-false, not-false}
+use Rattle.rules.specs.Numbered.{firstFrom, firstRow}
+use Rattle.sizes.specs.Sizes.{frameSizeBroken, payloadSizeBroken}
+use Rattle.ledger.specs.declared.Ledger.{Ledger}
+use Rattle.ledger.specs.Ledger.{noLedger}
+use Rattle.frames.specs.declared.Answer.{Answer}
+use Rattle.frames.specs.declared.Ended.{Ended}
+use Rattle.session.specs.declared.Session.{Session}
+use Rattle.session.specs.declared.Taken.{Taken}
+use Rattle.session.specs.declared.Outcome.{Outcome}
+use Rattle.session.specs.declared.Reported.{Reported}
+use Rattle.session.specs.declared.Report.{Report}
+use Rattle.session.specs.declared.Closed.{Closed}
+use Rattle.session.specs.declared.Closing.{Closing}
+use Rattle.session.specs.declared.Opened.{Opened}
+use Rattle.session.specs.Refusals.{openingFlags, takeRows, lostRows, closeRows, ledgerOf}
+use Rattle.session.specs.Session.{fresh, openOf, readOf, tookBy, tookOf, takeBy, takeOf, lostBy, lostOf, closeBy, closeOf}
+use Rattle.payload.specs.declared.Reading.{Reading}
+use Rattle.payload.specs.declared.Reading.the-variants.{Idle, Unreadable, Readable}
+use Rattle.payload.specs.Transfer.{readingOf}
+use Rattle.books.specs.Rule.{Call}
+use Rattle.books.specs.Demands.{bufferNext}
+use Rattle.trace.specs.Record.{kindAt, lengthAt, bytesAt, anySet, recordBad, callBy, recordCall}
+use Rattle.trace.specs.Trace.{sizes, newTrace, numberOf, offered, readCall, readBy, keptBy, stepBy, stepBufferBy, stepOf, stepBuffer, printBy, reportOf}
+use Rattle.trace.specs.declared.State.{State}
+use Rattle.trace.specs.declared.State.the-variants.{Good, Bad, Refused}
+use Rattle.trace.specs.declared.Trace.{Trace}
+use Rattle.trace.specs.declared.Printed.{Printed}
+
+-- ---- the next record's number
+pub number-closed : (s : Session) → s .closed ≡ true → s .taken + 2 ≡ numberOf s
+number-closed s e = rw e
+
+pub number-open : (s : Session) → s .closed ≡ false → s .taken + 1 ≡ numberOf s
+number-open s e = rw e
+
+-- ---- refused, or taken
+pub offered-taken : (k : ℕ) (s n : Session) → k ≡ 0 → _≡_ {A = Trace} (record { session = n; state = Good }) (offered k s n)
+offered-taken k s n e = rw e
+
+pub offered-refused : (k m : ℕ) (s n : Session) → (k ≡ 0 → ⊥) → m ≡ numberOf s → _≡_ {A = Trace} (record { session = s; state = Refused k m }) (offered k s n)
+offered-refused zero m s n h e = absurd (h refl)
+offered-refused (suc k) m s n h e = rw e
+
+-- ---- a transfer
+took-taken : (s : Session) (t : List ℕ) (r : Reading) (k : ℕ) → tookBy r s t .outcome ≡ Outcome.Refused k → ⊥
+unfolding readOf
+took-taken s t Idle k e = let z : _≡_ {A = ℕ} 0 1 = cc in omega arith
+took-taken s t (Unreadable n) k e = let z : _≡_ {A = ℕ} 0 1 = cc in omega arith
+took-taken s t (Readable h) k e = let z : _≡_ {A = ℕ} 0 1 = cc in omega arith
+
+same-refused : (j k : ℕ) → Outcome.Refused j ≡ Outcome.Refused k → k ≡ j
+same-refused j k e = cc
+
+take-refused : (s : Session) (t : List ℕ) (n k : ℕ) → takeBy n s t .outcome ≡ Outcome.Refused k → k ≡ n
+unfolding tookOf
+take-refused s t zero k e = absurd (took-taken s t (readingOf (s .opening) t) k e)
+take-refused s t (suc n) k e = same-refused (suc n) k e
+
+take-taken : (s : Session) (t : List ℕ) (n : ℕ) (a : Answer) → takeBy n s t .outcome ≡ Outcome.Taken a → 0 ≡ n
+take-taken s t zero a e = refl
+take-taken s t (suc n) a e = absurd (let z : _≡_ {A = ℕ} 0 1 = cc in omega arith)
+
+module _ (s : Session) (b t : List ℕ) (x : Taken) (e : x ≡ takeOf s (length b) t) (r : Trace) where
+  pub transfer-refused : (k : ℕ) → x .outcome ≡ Outcome.Refused k → r ≡ offered k s (x .session) → r ≡ readCall s b (Call.transfer t)
+  unfolding takeOf
+  transfer-refused k q f =
+      let n : ℕ = firstRow (takeRows s (length b) (length t)) in
+      f ∙ ap (λ (j : ℕ). offered j s (x .session)) (take-refused s t n k (ap (λ (y : Taken). y .outcome) (sym e) ∙ q)) ∙ ap (λ (y : Taken). offered n s (y .session)) e
+
+  pub transfer-taken : (a : Answer) → x .outcome ≡ Outcome.Taken a → r ≡ offered 0 s (x .session) → r ≡ readCall s b (Call.transfer t)
+  unfolding takeOf
+  transfer-taken a q f =
+      let n : ℕ = firstRow (takeRows s (length b) (length t)) in
+      f ∙ ap (λ (j : ℕ). offered j s (x .session)) (take-taken s t n a (ap (λ (y : Taken). y .outcome) (sym e) ∙ q)) ∙ ap (λ (y : Taken). offered n s (y .session)) e
+
+-- ---- a lost report
+lost-refused₀ : (s : Session) (n k : ℕ) → lostBy n s .report ≡ Report.Refused k → k ≡ n
+lost-refused₀ s zero k e = absurd (let z : _≡_ {A = ℕ} 0 1 = cc in omega arith)
+lost-refused₀ s (suc n) k e = cc
+
+lost-noted₀ : (s : Session) (n : ℕ) → lostBy n s .report ≡ Report.Noted → 0 ≡ n
+lost-noted₀ s zero e = refl
+lost-noted₀ s (suc n) e = absurd (let z : _≡_ {A = ℕ} 0 1 = cc in omega arith)
+
+module _ (s : Session) (b : List ℕ) (x : Reported) (e : x ≡ lostOf s) (r : Trace) where
+  pub lost-refused : (k : ℕ) → x .report ≡ Report.Refused k → r ≡ offered k s (x .session) → r ≡ readCall s b Call.lost
+  unfolding lostOf
+  lost-refused k q f =
+      let n : ℕ = firstRow (lostRows s) in
+      f ∙ ap (λ (j : ℕ). offered j s (x .session)) (lost-refused₀ s n k (ap (λ (y : Reported). y .report) (sym e) ∙ q)) ∙ ap (λ (y : Reported). offered n s (y .session)) e
+
+  pub lost-noted : x .report ≡ Report.Noted → r ≡ offered 0 s (x .session) → r ≡ readCall s b Call.lost
+  unfolding lostOf
+  lost-noted q f =
+      let n : ℕ = firstRow (lostRows s) in
+      f ∙ ap (λ (j : ℕ). offered j s (x .session)) (lost-noted₀ s n (ap (λ (y : Reported). y .report) (sym e) ∙ q)) ∙ ap (λ (y : Reported). offered n s (y .session)) e
+
+-- ---- close
+close-refused₀ : (s : Session) (n k : ℕ) → closeBy n s .closing ≡ Closing.Refused k → k ≡ n
+close-refused₀ s zero k e = absurd (let z : _≡_ {A = ℕ} 0 1 = cc in omega arith)
+close-refused₀ s (suc n) k e = cc
+
+close-closed₀ : (s : Session) (n : ℕ) (a : Ended) → closeBy n s .closing ≡ Closing.Closed a → 0 ≡ n
+close-closed₀ s zero a e = refl
+close-closed₀ s (suc n) a e = absurd (let z : _≡_ {A = ℕ} 0 1 = cc in omega arith)
+
+module _ (s : Session) (b : List ℕ) (x : Closed) (e : x ≡ closeOf s) (r : Trace) where
+  pub close-refused : (k : ℕ) → x .closing ≡ Closing.Refused k → r ≡ offered k s (x .session) → r ≡ readCall s b Call.close
+  unfolding closeOf
+  close-refused k q f =
+      let n : ℕ = firstRow (closeRows s) in
+      f ∙ ap (λ (j : ℕ). offered j s (x .session)) (close-refused₀ s n k (ap (λ (y : Closed). y .closing) (sym e) ∙ q)) ∙ ap (λ (y : Closed). offered n s (y .session)) e
+
+  pub close-closed : (a : Ended) → x .closing ≡ Closing.Closed a → r ≡ offered 0 s (x .session) → r ≡ readCall s b Call.close
+  unfolding closeOf
+  close-closed a q f =
+      let n : ℕ = firstRow (closeRows s) in
+      f ∙ ap (λ (j : ℕ). offered j s (x .session)) (close-closed₀ s n a (ap (λ (y : Closed). y .closing) (sym e) ∙ q)) ∙ ap (λ (y : Closed). offered n s (y .session)) e
+
+-- ---- a record
+module _ (r : List ℕ) (at i : ℕ) (e : anySet (drop i r) ≡ anySet (drop at r)) where
+  pub set-found : i < length r → (getD r i 0 ≡ 0 → ⊥) → true ≡ anySet (drop at r)
+  unfolding anySet
+  set-found l h = (rw (drop-cons r i 0 l, ne-eqb (getD r i 0) 0 h)) ∙ e
+
+  pub set-on : i < length r → getD r i 0 ≡ 0 → anySet (drop (i + 1) r) ≡ anySet (drop at r)
+  unfolding anySet
+  set-on l h = sym (rw (drop-cons r i 0 l, h, add-one i)) ∙ e
+
+  pub set-end : length r ≤ i → false ≡ anySet (drop at r)
+  unfolding anySet
+  set-end l = (rw (drop-of-length-le r {i = i} l)) ∙ e
+
+module _ (r : List ℕ) where
+  pub bad-size : (length r ≡ 64 → ⊥) → true ≡ recordBad r
+  unfolding recordBad
+  bad-size h = rw (ne-eqb (length r) 64 h)
+
+  pub bad-kind : length r ≡ 64 → 2 < kindAt r → true ≡ recordBad r
+  unfolding recordBad
+  bad-kind a h = rw (eq-eqb (length r) 64 a, lt-ltb 2 (kindAt r) h)
+
+  pub bad-length : (n : ℕ) → n ≡ lengthAt r → length r ≡ 64 → kindAt r ≤ 2 → 62 < n → true ≡ recordBad r
+  unfolding recordBad
+  bad-length n e a b h = rw (eq-eqb (length r) 64 a, le-ltb 2 (kindAt r) b, ← e, lt-ltb 62 n h)
+
+  pub bad-filled : (n : ℕ) → n ≡ lengthAt r → length r ≡ 64 → kindAt r ≤ 2 → n ≤ 62 → (kindAt r ≡ 0 → ⊥) → (n ≡ 0 → ⊥) → true ≡ recordBad r
+  unfolding recordBad
+  bad-filled n e a b c h i = rw (eq-eqb (length r) 64 a, le-ltb 2 (kindAt r) b, ← e, le-ltb 62 n c, ne-eqb (kindAt r) 0 h, ne-eqb n 0 i)
+
+  pub bad-empty : (n : ℕ) (x : Bool) → n ≡ lengthAt r → length r ≡ 64 → kindAt r ≤ 2 → n ≤ 62 → n ≡ 0 → x ≡ anySet (drop (2 + n) r) → x ≡ recordBad r
+  unfolding recordBad
+  bad-empty n x e a b c i f = rw (eq-eqb (length r) 64 a, le-ltb 2 (kindAt r) b, ← e, le-ltb 62 n c, eq-eqb n 0 i) (go (not (eqb (kindAt r) 0)))
+    where
+      go : (y : Bool) → x ≡ ((y && false) || anySet (drop (2 + n) r))
+      go true = f
+      go false = f
+
+  pub bad-transfer : (n : ℕ) (x : Bool) → n ≡ lengthAt r → length r ≡ 64 → kindAt r ≤ 2 → n ≤ 62 → kindAt r ≡ 0 → x ≡ anySet (drop (2 + n) r) → x ≡ recordBad r
+  unfolding recordBad
+  bad-transfer n x e a b c i f = rw (eq-eqb (length r) 64 a, le-ltb 2 (kindAt r) b, ← e, le-ltb 62 n c, eq-eqb (kindAt r) 0 i) f
+
+or-left : (a b : Bool) → (a || b) ≡ false → a ≡ false
+or-left true b h = h
+or-left false b h = refl
+
+or-right : (a b : Bool) → (a || b) ≡ false → b ≡ false
+or-right true b h = absurd (true≢false h)
+or-right false b h = h
+
+-- what a good record is
+pub record Fine (r : List ℕ) : Type 0 where
+  pub size : length r ≡ 64
+  pub kind : kindAt r ≤ 2
+  pub short : lengthAt r ≤ 62
+
+pub fine : (r : List ℕ) → recordBad r ≡ false → Fine r
+unfolding recordBad
+fine r e =
+    let a : Bool = not (eqb (length r) 64) in
+    let b : Bool = ltb 2 (kindAt r) in
+    let c : Bool = ltb 62 (lengthAt r) in
+    record {
+      size = eqb-true (length r) 64 (not-false (eqb (length r) 64) (or-left a _ e));
+      kind = ltb-false 2 (kindAt r) (or-left b _ (or-right a _ e));
+      short = ltb-false 62 (lengthAt r) (or-left c _ (or-right b _ (or-right a _ e)));
+    }
+
+-- ---- a good record's call
+abbrev Called : Session → List ℕ → List ℕ → Trace → List ℕ → Type 0
+Called s b r x y = (x ≡ readCall s b (recordCall r)) × (y ≡ bufferNext s b (recordCall r))
+
+module _ (s : Session) (b r : List ℕ) where
+  as-call : (c : Call) (x : Trace) (y : List ℕ) → recordCall r ≡ c → x ≡ readCall s b c → y ≡ bufferNext s b c → Called s b r x y
+  as-call c x y e u v = (u ∙ sym (ap (readCall s b) e), v ∙ sym (ap (bufferNext s b) e))
+
+  pub call-transfer : (n m : ℕ) (x : Trace) (y : List ℕ) → kindAt r ≡ 0 → n ≡ lengthAt r → m ≡ n → x ≡ readCall s b (Call.transfer (take m (drop 2 r))) → y ≡ bufferNext s b (Call.transfer (take m (drop 2 r))) → Called s b r x y
+  call-transfer n m x y k e f u v =
+      as-call (Call.transfer (take m (drop 2 r))) x y (ap (λ (i : ℕ). callBy i r) k ∙ ap (λ (i : ℕ). Call.transfer (take i (drop 2 r))) (sym (f ∙ e))) u v
+
+  pub call-lost : (x : Trace) → kindAt r ≡ 1 → x ≡ readCall s [] Call.lost → Called s b r x b
+  call-lost x k u = as-call Call.lost x b (ap (λ (i : ℕ). callBy i r) k) u refl
+
+  closes-by : (i : ℕ) → (i ≡ 0 → ⊥) → (i ≡ 1 → ⊥) → callBy i r ≡ Call.close
+  closes-by zero f g = absurd (f refl)
+  closes-by (suc zero) f g = absurd (g refl)
+  closes-by (suc (suc i)) f g = refl
+
+  pub call-close : (x : Trace) → (kindAt r ≡ 0 → ⊥) → (kindAt r ≡ 1 → ⊥) → x ≡ readCall s [] Call.close → Called s b r x b
+  call-close x f g u = as-call Call.close x b (closes-by (kindAt r) f g) u refl
+
+-- ---- a step
+abbrev Stepped : Trace → List ℕ → List ℕ → Trace → List ℕ → Type 0
+Stepped t b r x y = (x ≡ stepOf t b r) × (y ≡ stepBuffer t b r)
+
+module _ (t : Trace) (b r : List ℕ) where
+  pub step-bad : (n : ℕ) → t .state ≡ Bad n → Stepped t b r t b
+  unfolding stepOf stepBuffer
+  step-bad n e = ((λ i. record { session = t .session; state = e i }) ∙ sym (ap (λ (z : State). stepBy z (t .session) b r) e), sym (ap (λ (z : State). stepBufferBy z (t .session) b r) e))
+
+  pub step-refused : (k n : ℕ) → t .state ≡ Refused k n → Stepped t b r t b
+  unfolding stepOf stepBuffer
+  step-refused k n e = ((λ i. record { session = t .session; state = e i }) ∙ sym (ap (λ (z : State). stepBy z (t .session) b r) e), sym (ap (λ (z : State). stepBufferBy z (t .session) b r) e))
+
+  module _ (e : t .state ≡ Good) where
+    read-law : (x : Bool) → (t .session .closed || recordBad r) ≡ x → stepOf t b r ≡ readBy x (t .session) b (recordCall r)
+    unfolding stepOf
+    read-law x q = ap (λ (z : State). stepBy z (t .session) b r) e ∙ ap (λ (z : Bool). readBy z (t .session) b (recordCall r)) q
+
+    kept-law : (x : Bool) → (t .session .closed || recordBad r) ≡ x → stepBuffer t b r ≡ keptBy x (t .session) b (recordCall r)
+    unfolding stepBuffer
+    kept-law x q = ap (λ (z : State). stepBufferBy z (t .session) b r) e ∙ ap (λ (z : Bool). keptBy z (t .session) b (recordCall r)) q
+
+    worst : (n : ℕ) → (t .session .closed || recordBad r) ≡ true → n ≡ numberOf (t .session) → Stepped t b r (record { session = t .session; state = Bad n }) b
+    worst n q m = (ap (λ (k : ℕ). record { session = t .session; state = Bad k }) m ∙ sym (read-law true q), sym (kept-law true q))
+
+    pub step-closed : (n : ℕ) → t .session .closed ≡ true → n ≡ numberOf (t .session) → Stepped t b r (record { session = t .session; state = Bad n }) b
+    step-closed n c m = worst n (ap (λ (z : Bool). z || recordBad r) c) m
+
+    pub step-worst : (n : ℕ) (x : Bool) → t .session .closed ≡ false → x ≡ recordBad r → x ≡ true → n ≡ numberOf (t .session) → Stepped t b r (record { session = t .session; state = Bad n }) b
+    step-worst n x c f g m = worst n (ap (λ (z : Bool). z || recordBad r) c ∙ (sym f ∙ g)) m
+
+    pub step-called : (x : Bool) (y : Trace) (z : List ℕ) → t .session .closed ≡ false → x ≡ recordBad r → x ≡ false → y ≡ readCall (t .session) b (recordCall r) → z ≡ bufferNext (t .session) b (recordCall r) → Stepped t b r y z
+    step-called x y z c f g u v =
+        let q : (t .session .closed || recordBad r) ≡ false = ap (λ (w : Bool). w || recordBad r) c ∙ (sym f ∙ g) in
+        (u ∙ sym (read-law false q), v ∙ sym (kept-law false q))
+
+-- ---- the end
+module _ (t : Trace) (l : Ledger) where
+  ended : (z : State) → t .state ≡ z → (printBy z (t .session) .state ≡ z) → l ≡ printBy z (t .session) .ledger → _≡_ {A = Printed} (record { state = t .state; ledger = l }) (reportOf t)
+  unfolding reportOf
+  ended z e f q = (λ i. record { state = (e ∙ sym f) i; ledger = q i }) ∙ sym (ap (λ (w : State). printBy w (t .session)) e)
+
+  pub finish-good : t .state ≡ Good → l ≡ ledgerOf (t .session) → _≡_ {A = Printed} (record { state = t .state; ledger = l }) (reportOf t)
+  finish-good e q = ended Good e refl q
+
+  pub finish-bad : (n : ℕ) → t .state ≡ Bad n → l ≡ noLedger → _≡_ {A = Printed} (record { state = t .state; ledger = l }) (reportOf t)
+  finish-bad n e q = ended (Bad n) e refl q
+
+  pub finish-refused : (k n : ℕ) → t .state ≡ Refused k n → l ≡ noLedger → _≡_ {A = Printed} (record { state = t .state; ledger = l }) (reportOf t)
+  finish-refused k n e q = ended (Refused k n) e refl q
+
+-- ---- the beginning
+opened-new : openOf 256 62 256 .session ≡ fresh sizes
+unfolding openOf openingFlags firstFrom frameSizeBroken payloadSizeBroken
+opened-new = refl
+
+pub new-is : (x : Opened) (n : ℕ) → x ≡ openOf 256 62 n → n ≡ 256 → _≡_ {A = Trace} (record { session = x .session; state = Good }) newTrace
+new-is x n e q =
+    ap (λ (s : Session). record { session = s; state = Good }) (ap (λ (y : Opened). y .session) e ∙ ap (λ (m : ℕ). openOf 256 62 m .session) q ∙ opened-new)

@@ -1,0 +1,22 @@
+use Rattle.trace.proofs.Steps.{new-is}
+use borrow.Author.Needs.{needs}
+use Rattle.trace.proofs.Trace.new.Statement.{statement}
+use Rattle.trace.proofs.Trace.new.Tie as tie
+use Rattle.trace.proofs.Trace.new.Reads as reads
+use Rattle.trace.proofs.Trace.new.Lts as lts
+use Rattle.session.proofs.Session.open.Reads as open-reads
+
+-- src/lib.rt:131:52
+slice-aggregate-open : tie.Need-slice-aggregate-open
+slice-aggregate-open c = search needs
+
+-- src/lib.rt:131:13
+open-requires : tie.Need-open-requires
+open-requires c κs = search needs
+
+-- src/lib.rt:127:5
+returns : tie.Need-returns
+returns c = search new-is
+
+pub new-spec : {M : Type 1} → statement M
+new-spec = tie.close (tie.spec slice-aggregate-open open-requires returns)

@@ -1,0 +1,48 @@
+// One record of 64 bytes: kind, length, the bytes, zero fill.
+ghost use mathlib.Core.Path.{_≡_};
+ghost use Prim.Native.Nat.{_≤_};
+ghost use lib.ListN.{length, drop};
+ghost use Rattle.trace.specs.Record.{anySet, recordBad};
+
+pub const SIZE: usize = 64;
+
+pub const MOST: usize = 62;
+
+// Whether some byte from `at` on is not zero.
+fn any_set(r: &[u8], at: usize) -> bool
+    requires { ⌜ at ≤ length (now r) ⌝ }
+    ensures { λ x. ⌜ x ≡ anySet (drop at (now (r .entry))) ⌝ }
+{
+    let mut i = at;
+    while i < r.len() {
+        if r[i] != 0 {
+            return true;
+        }
+        i += 1;
+    }
+    false
+}
+
+// A partial record, kind over 2, length over 62, a length with kind 1 or 2, nonzero fill.
+pub fn bad(r: &[u8]) -> bool
+    ensures { λ x. ⌜ x ≡ recordBad (now (r .entry)) ⌝ }
+{
+    if r.len() != SIZE {
+        return true;
+    }
+    let kind = r[0];
+    if 2 < kind {
+        return true;
+    }
+    let n = le::wide(r[1]);
+    if MOST < n {
+        return true;
+    }
+    if kind == 0 {
+        return any_set(r, 2 + n);
+    }
+    if n != 0 {
+        return true;
+    }
+    any_set(r, 2 + n)
+}
