@@ -85,7 +85,8 @@ fn call(s: Session, buffer: &mut [u8], transfer: &mut [u8]) -> Next {
             fine: false,
         };
     }
-    match kind.value {
+    let value = kind.value;
+    match value {
         0 => take(s, buffer, transfer),
         1 => lost(s),
         2 => close(s),

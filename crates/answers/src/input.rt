@@ -3,22 +3,22 @@ ghost use Rattle.io.specs.Counts.{Counts};
 use crate::print;
 use libc::STDIN_FILENO;
 
-pub struct Kind {
+pub struct OneByte {
     pub fine: bool,
     pub value: u8,
 }
 
 // Whether the whole part was read, and how many of its bytes stand at the start of the buffer.
-pub struct Part {
+pub struct Loaded {
     pub fine: bool,
     pub count: usize,
 }
 
 // The next byte, if there is one.
-pub fn kind() -> Kind {
+pub fn kind() -> OneByte {
     let mut b = [0u8; 1];
     let n = io::read_full(STDIN_FILENO, &mut b);
-    Kind {
+    OneByte {
         fine: n == 1,
         value: b[0],
     }
@@ -52,23 +52,26 @@ pub fn long() -> u64 {
 }
 
 // The next part, into the lent buffer.
-pub fn part(room: &mut [u8]) -> Part
+pub fn part(room: &mut [u8]) -> Loaded
     ensures { λ r. ⌜ Counts (r .count) (now (room .exit)) ⌝ }
 {
-    let n = word() as usize;
-    if room.len() < n {
+    let asked = word();
+    let n = io::count(asked as isize, room);
+    if n != asked as usize {
         print::text(b"part too long\n");
-        return Part {
+        return Loaded {
             fine: false,
             count: 0,
         };
     }
-    let count = io::read_full(STDIN_FILENO, &mut room[..n]);
-    if count != n {
+    let got = io::read_full(STDIN_FILENO, &mut room[..n]);
+    if got != n {
         print::text(b"case cut short\n");
+        return Loaded {
+            fine: false,
+            count: 0,
+        };
     }
-    Part {
-        fine: count == n,
-        count,
-    }
+    let count = io::count(asked as isize, room);
+    Loaded { fine: true, count }
 }

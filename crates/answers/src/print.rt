@@ -53,7 +53,7 @@ pub fn hex(name: &[u8], bytes: &[u8]) {
     text(b" ");
     let mut i: usize = 0;
     while i < bytes.len() {
-        io::print_hex(STDOUT_FILENO, bytes[i] as u64, 2);
+        io::print_hex(STDOUT_FILENO, le::wide(bytes[i]) as u64, 2);
         i += 1;
     }
     end();
@@ -64,7 +64,7 @@ pub fn hash(bytes: &[u8]) {
     let mut h: u64 = 2166136261;
     let mut i: usize = 0;
     while i < bytes.len() {
-        h = (h * 16777619 + bytes[i] as u64) % 4294967296;
+        h = (h * 16777619 + le::wide(bytes[i]) as u64) % 4294967296;
         i += 1;
     }
     text(b" hash");

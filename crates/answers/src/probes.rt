@@ -54,6 +54,17 @@ pub fn write() -> bool {
 
 fn fields(p: Probe) {
     print::text(b"fields");
+    wishes(p);
+    sizes(p);
+    versions(p);
+    coding(p);
+    let layout = p.layout;
+    bytes(layout);
+    print::end();
+}
+
+// hint to delay
+fn wishes(p: Probe) {
     print::field(p.hint as u64);
     print::field(p.format as u64);
     print::field(p.frame as u64);
@@ -63,25 +74,30 @@ fn fields(p: Probe) {
     print::field(p.quality as u64);
     print::field(p.window as u64);
     print::field(p.delay as u64);
-    sizes(p);
+}
+
+// frame size to framing
+fn sizes(p: Probe) {
+    print::field(p.frame_size as u64);
+    print::field(p.payload_size as u64);
     print::field(p.clock as u64);
     print::field(p.framing as u64);
+}
+
+// preferred to maximum version
+fn versions(p: Probe) {
     print::field(p.preferred as u64);
     print::field(p.minimum as u64);
     print::field(p.maximum as u64);
+}
+
+// usage to rate modes
+fn coding(p: Probe) {
     print::field(p.usage as u64);
     print::field(p.luma_depth as u64);
     print::field(p.settings as u64);
     print::field(p.reference_frames as u64);
     print::field(p.rate_modes as u64);
-    let layout = p.layout;
-    bytes(layout);
-    print::end();
-}
-
-fn sizes(p: Probe) {
-    print::field(p.frame_size as u64);
-    print::field(p.payload_size as u64);
 }
 
 fn bytes(layout: [u8; 8]) {
