@@ -25,13 +25,13 @@ pub enum Sort {
 }
 
 pub fn sort(t: &[u8], payload: usize) -> Sort {
-    let bit = |n: u32| t[1] >> n & 1 == 1;
     match t.len() {
         0 => return Sort::Idle,
         1 => return Sort::Unreadable(61),
         n if n > payload => return Sort::Unreadable(62),
         _ => {}
     }
+    let bit = |n: u32| t[1] >> n & 1 == 1;
     let header = t[0] as usize;
     if header < 2 {
         return Sort::Unreadable(63);
@@ -46,37 +46,36 @@ pub fn sort(t: &[u8], payload: usize) -> Sort {
     if !bit(7) {
         return Sort::Unreadable(66);
     }
-    let stamp = bit(2).then(|| u32::from_le_bytes([t[2], t[3], t[4], t[5]]));
+    let stamp = if bit(2) { Some(u32::from_le_bytes([t[2], t[3], t[4], t[5]])) } else { None };
     Sort::Readable { fid: bit(0), eof: bit(1), error: bit(6), stamp, header }
 }
 
 /// A readable transfer, by its place in the list.
-#[derive(Clone, Debug)]
 struct Piece {
     place: usize,
     fid: bool,
     eof: bool,
     error: bool,
     stamp: Option<u32>,
-    data: Vec<u8>,
+    data: usize,
     /// An unreadable or lost transfer comes straight before, or straight after, with no readable one between.
     before: bool,
     after: bool,
 }
 
-#[derive(Clone, Debug, PartialEq)]
+#[derive(Clone, Copy, Debug, PartialEq)]
 pub enum Becomes {
     Delivered(Option<u32>),
     Dropped(Reason),
     UnderWay,
 }
 
-/// One frame of the list: the places of its transfers, what became of it and its data.
+/// One frame of the list: the places of its transfers, what became of it and how much data it has.
 #[derive(Clone, Debug, PartialEq)]
 pub struct Judged {
     pub places: Vec<usize>,
     pub becomes: Becomes,
-    pub data: Vec<u8>,
+    pub bytes: usize,
     /// How many of its transfers, from the first, come before any fault (their data is written).
     pub written: usize,
 }
@@ -84,10 +83,10 @@ pub struct Judged {
 #[derive(Clone, Debug, Default)]
 pub struct Verdict {
     pub frames: Vec<Judged>,
-    pub strays: Vec<(usize, usize)>,
-    pub unreadable: Vec<(usize, u8, usize)>,
+    pub strays: Vec<usize>,
+    pub unreadable: Vec<usize>,
     pub headers: Vec<usize>,
-    pub idle: Vec<usize>,
+    pub idle: u64,
     pub lost: u64,
 }
 
@@ -95,32 +94,40 @@ pub fn judge(calls: &[Call], frame_size: usize, payload: usize) -> Verdict {
     let mut v = Verdict::default();
     let mut pieces: Vec<Piece> = Vec::new();
     let mut spoilt = false;
-    let closed = calls.contains(&Call::Close);
+    let mut closed = false;
     for (place, call) in calls.iter().enumerate() {
-        match call {
-            Call::Close => {}
+        let missing = match call {
+            Call::Close => {
+                closed = true;
+                false
+            }
             Call::Lost => {
                 v.lost += 1;
-                spoilt = true;
-                if let Some(p) = pieces.last_mut() {
-                    p.after = true;
-                }
+                true
             }
             Call::Transfer(t) => match sort(t, payload) {
-                Sort::Idle => v.idle.push(place),
-                Sort::Unreadable(k) => {
-                    v.unreadable.push((place, k, t.len()));
-                    spoilt = true;
-                    if let Some(p) = pieces.last_mut() {
-                        p.after = true;
-                    }
+                Sort::Idle => {
+                    v.idle += 1;
+                    false
+                }
+                Sort::Unreadable(_) => {
+                    v.unreadable.push(t.len());
+                    true
                 }
                 Sort::Readable { fid, eof, error, stamp, header } => {
                     v.headers.push(header);
-                    pieces.push(Piece { place, fid, eof, error, stamp, data: t[header..].to_vec(), before: spoilt, after: false });
+                    let data = t.len() - header;
+                    pieces.push(Piece { place, fid, eof, error, stamp, data, before: spoilt, after: false });
                     spoilt = false;
+                    false
                 }
             },
+        };
+        if missing {
+            spoilt = true;
+            if let Some(p) = pieces.last_mut() {
+                p.after = true;
+            }
         }
     }
     let mut runs: Vec<Vec<Piece>> = Vec::new();
@@ -135,21 +142,22 @@ pub fn judge(calls: &[Call], frame_size: usize, payload: usize) -> Verdict {
         let end = run.iter().position(|p| p.eof).map_or(run.len(), |e| e + 1);
         let (frame, stray) = run.split_at(end);
         v.frames.push(one(frame, frame_size, i + 1 < last || closed));
-        v.strays.extend(stray.iter().map(|p| (p.place, p.data.len())));
+        v.strays.extend(stray.iter().map(|p| p.data));
     }
     v
 }
 
 fn one(frame: &[Piece], frame_size: usize, over: bool) -> Judged {
     let first_stamp = frame.iter().find_map(|p| p.stamp);
+    // Faults with how many transfers come before them, in the order of their moments:
+    // before the first transfer, then at each transfer, then straight after it.
     let mut faults: Vec<(usize, Reason)> = Vec::new();
     let mut size = 0;
-    // Moments in order: before the first transfer, then each transfer, then straight after it.
     if frame[0].before {
         faults.push((0, Reason::Gap));
     }
     for (i, p) in frame.iter().enumerate() {
-        size += p.data.len();
+        size += p.data;
         if p.error {
             faults.push((i, Reason::Error));
         }
@@ -176,7 +184,7 @@ fn one(frame: &[Piece], frame_size: usize, over: bool) -> Judged {
     Judged {
         places: frame.iter().map(|p| p.place).collect(),
         becomes,
-        data: frame.iter().flat_map(|p| p.data.clone()).collect(),
+        bytes: size,
         written: fault.map_or(frame.len(), |(i, _)| i),
     }
 }
@@ -193,25 +201,35 @@ pub fn ledger(v: &Verdict) -> Vec<u64> {
     for f in &v.frames {
         match f.becomes {
             Becomes::Delivered(stamp) => {
-                add(0, f.data.len());
+                add(0, f.bytes);
                 match stamp {
                     Some(s) => stamps.push(s),
                     None => untimed += 1,
                 }
             }
-            Becomes::Dropped(r) => add(reason_number(r), f.data.len()),
-            Becomes::UnderWay => add(7, f.data.len()),
+            Becomes::Dropped(r) => add(reason_number(r), f.bytes),
+            Becomes::UnderWay => add(7, f.bytes),
         }
     }
-    v.strays.iter().for_each(|&(_, n)| add(8, n));
-    v.unreadable.iter().for_each(|&(_, _, n)| add(9, n));
+    v.strays.iter().for_each(|&n| add(8, n));
+    v.unreadable.iter().for_each(|&n| add(9, n));
     v.headers.iter().for_each(|&n| add(10, n));
-    let steps: Vec<i64> = stamps.windows(2).map(|w| w[1].wrapping_sub(w[0]) as i32 as i64).collect();
+    let steps: Vec<i64> = stamps.windows(2).map(|w| step(w[0], w[1])).collect();
     let ticks: i64 = steps.iter().filter(|&&s| s >= 0).sum();
     let backward = steps.iter().filter(|&&s| s < 0).count() as u64;
     let mut numbers: Vec<u64> = accounts.iter().flat_map(|&(c, b)| [c, b]).collect();
-    numbers.extend([v.lost, v.idle.len() as u64, ticks as u64, backward, untimed]);
+    numbers.extend([v.lost, v.idle, ticks as u64, backward, untimed]);
     numbers
+}
+
+/// Later minus earlier modulo 2^32, read as signed from -2^31 to 2^31 - 1.
+fn step(earlier: u32, later: u32) -> i64 {
+    let n = (i64::from(later) - i64::from(earlier)).rem_euclid(1 << 32);
+    if n < 1 << 31 {
+        n
+    } else {
+        n - (1 << 32)
+    }
 }
 
 pub fn reason_number(r: Reason) -> usize {
@@ -229,24 +247,21 @@ pub fn reason_name(r: Reason) -> &'static str {
     ["", "gap", "error", "clock", "long", "cut", "empty"][reason_number(r)]
 }
 
-/// What the call at the end of the list answers: the ended frame's reason, and the transfer's own fate.
-pub fn answer(before: &[Call], call: &Call, frame_size: usize, payload: usize) -> (Option<Reason>, String) {
-    let old = judge(before, frame_size, payload);
-    let mut all = before.to_vec();
-    all.push(call.clone());
-    let new = judge(&all, frame_size, payload);
-    let place = before.len();
+/// What the last call of a list answers, from what the list came to without it and with it:
+/// the reason of the frame that it ended, and, for a transfer, its own fate.
+pub fn answer(calls: &[Call], old: &Verdict, new: &Verdict, payload: usize) -> (Option<Reason>, String) {
+    let place = calls.len() - 1;
     let ended = match old.frames.last() {
         Some(f) if f.becomes == Becomes::UnderWay => {
             let now = &new.frames[old.frames.len() - 1];
-            match (&now.becomes, now.places.contains(&place)) {
-                (Becomes::Dropped(r), false) => Some(*r),
+            match now.becomes {
+                Becomes::Dropped(r) if !now.places.contains(&place) => Some(r),
                 _ => None,
             }
         }
         _ => None,
     };
-    let fate = match call {
+    let fate = match &calls[place] {
         Call::Close | Call::Lost => String::new(),
         Call::Transfer(t) => match sort(t, payload) {
             Sort::Idle => "idle".into(),
@@ -256,11 +271,11 @@ pub fn answer(before: &[Call], call: &Call, frame_size: usize, payload: usize) -
                 if !last.places.contains(&place) {
                     "stray".into()
                 } else {
-                    match &last.becomes {
+                    match last.becomes {
                         Becomes::UnderWay => "kept".into(),
-                        Becomes::Dropped(r) => format!("dropped {}", reason_name(*r)),
-                        Becomes::Delivered(None) => format!("delivered {} -", last.data.len()),
-                        Becomes::Delivered(Some(s)) => format!("delivered {} {s}", last.data.len()),
+                        Becomes::Dropped(r) => format!("dropped {}", reason_name(r)),
+                        Becomes::Delivered(None) => format!("delivered {} -", last.bytes),
+                        Becomes::Delivered(Some(s)) => format!("delivered {} {s}", last.bytes),
                     }
                 }
             }
@@ -269,25 +284,20 @@ pub fn answer(before: &[Call], call: &Call, frame_size: usize, payload: usize) -
     (ended, fate)
 }
 
-/// Where a call writes, and what: the data of a transfer that its frame has no fault up to and with.
-pub fn written(before: &[Call], call: &Call, frame_size: usize, payload: usize) -> Option<(usize, Vec<u8>)> {
-    let Call::Transfer(t) = call else { return None };
-    let Sort::Readable { header, .. } = sort(t, payload) else { return None };
-    let mut all = before.to_vec();
-    all.push(call.clone());
-    let new = judge(&all, frame_size, payload);
-    let last = new.frames.last()?;
-    let i = last.places.iter().position(|&p| p == before.len())?;
-    if i >= last.written {
+fn data(call: &Call) -> &[u8] {
+    match call {
+        Call::Transfer(t) => &t[t[0] as usize..],
+        _ => &[],
+    }
+}
+
+/// Where the last call of a list writes, and what: the data of a transfer whose frame has no fault up to and with it.
+pub fn written<'a>(calls: &'a [Call], new: &Verdict) -> Option<(usize, &'a [u8])> {
+    let frame = new.frames.last()?;
+    let i = frame.places.iter().position(|&p| p + 1 == calls.len())?;
+    if i >= frame.written {
         return None;
     }
-    let data = t[header..].to_vec();
-    let at = last.places[..i]
-        .iter()
-        .map(|&p| match &all[p] {
-            Call::Transfer(t) => t.len() - t[0] as usize,
-            _ => 0,
-        })
-        .sum();
-    Some((at, data))
+    let at = frame.places[..i].iter().map(|&p| data(&calls[p]).len()).sum();
+    Some((at, data(&calls[calls.len() - 1])))
 }

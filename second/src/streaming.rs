@@ -1,7 +1,20 @@
 //! The VideoStreaming block and the probe block, from document 01's text.
 
-use crate::control::{Control, Entity};
 use crate::Refusal;
+
+/// A place of an entity table. A table is input too: it may hold anything, and say any count.
+#[derive(Clone, Debug, PartialEq)]
+pub struct Place {
+    pub id: u8,
+    pub kind: u8,
+    pub terminal: u16,
+    pub offset: u16,
+}
+
+pub struct Table {
+    pub count: usize,
+    pub places: Vec<Place>,
+}
 
 #[derive(Clone, Debug, PartialEq)]
 pub struct Format {
@@ -82,8 +95,11 @@ fn length_right(d: &[u8]) -> bool {
     }
 }
 
-pub fn read(entities: &[Entity], block: &[u8]) -> Result<Streaming, Refusal> {
+pub fn read(table: &Table, block: &[u8]) -> Result<Streaming, Refusal> {
     let whole = |number| Err(Refusal { number, offset: 0 });
+    if table.count > 32 {
+        return whole(20);
+    }
     if block.len() < 13 {
         return whole(21);
     }
@@ -120,9 +136,9 @@ pub fn read(entities: &[Entity], block: &[u8]) -> Result<Streaming, Refusal> {
                 if d[6] & 0x80 == 0 {
                     return no(29);
                 }
-                let linked = entities.iter().find(|e| e.id == d[8]);
-                if !linked.is_some_and(|e| e.kind == 3 && e.terminal == 0x0101) {
-                    return no(30);
+                match table.places.iter().take(table.count).find(|e| e.id == d[8]) {
+                    Some(e) if e.kind == 3 && e.terminal == 0x0101 => {}
+                    _ => return no(30),
                 }
                 p = d[3];
                 s.endpoint = d[6];
@@ -207,56 +223,60 @@ pub fn read(entities: &[Entity], block: &[u8]) -> Result<Streaming, Refusal> {
     Ok(s)
 }
 
-/// The fields of the 48 bytes, by name and width.
-pub const FIELDS: [(&str, usize); 21] = [
-    ("hint", 2),
-    ("format", 1),
-    ("frame", 1),
-    ("interval", 4),
-    ("key rate", 2),
-    ("P rate", 2),
-    ("quality", 2),
-    ("window", 2),
-    ("delay", 2),
-    ("frame size", 4),
-    ("payload size", 4),
-    ("clock", 4),
-    ("framing", 1),
-    ("preferred", 1),
-    ("minimum", 1),
-    ("maximum version", 1),
-    ("usage", 1),
-    ("luma depth", 1),
-    ("settings", 1),
-    ("reference frames", 1),
-    ("rate modes", 2),
-];
+/// The widths of the 21 fields before the layout, in the order of the 48 bytes.
+const WIDTHS: [usize; 21] = [2, 1, 1, 4, 2, 2, 2, 2, 2, 4, 4, 4, 1, 1, 1, 1, 1, 1, 1, 1, 2];
 
+/// All fields of a probe block, and the eight bytes of its layout.
+pub fn fields(probe: &[u8]) -> Result<Vec<u32>, Refusal> {
+    if probe.len() != 48 {
+        return Err(Refusal { number: 41, offset: 0 });
+    }
+    let mut at = 0;
+    let mut all = Vec::new();
+    for width in WIDTHS.into_iter().chain([1; 8]) {
+        all.push(probe[at..at + width].iter().rev().fold(0, |n, &b| n << 8 | u32::from(b)));
+        at += width;
+    }
+    Ok(all)
+}
+
+/// Writes fields into a room: its first 48 bytes, or nothing.
+pub fn write(fields: &[u32], room: &mut [u8]) -> Result<(), Refusal> {
+    if room.len() < 48 {
+        return Err(Refusal { number: 41, offset: 0 });
+    }
+    let mut at = 0;
+    for (&n, width) in fields.iter().zip(WIDTHS.into_iter().chain([1; 8])) {
+        room[at..at + width].copy_from_slice(&n.to_le_bytes()[..width]);
+        at += width;
+    }
+    Ok(())
+}
+
+/// 45 and 46.
 pub fn sizes(frame: u64, payload: u64) -> Result<(), Refusal> {
     if frame == 0 || frame > 16_777_216 {
         return Err(Refusal { number: 45, offset: 0 });
     }
-    if !(2..=65_536).contains(&payload) {
+    if payload < 2 || payload > 65_536 {
         return Err(Refusal { number: 46, offset: 0 });
     }
     Ok(())
 }
 
-pub fn check(control: &Control, block: &[u8], probe: &[u8]) -> Result<(), Refusal> {
+pub fn check(table: &Table, block: &[u8], probe: &[u8]) -> Result<(), Refusal> {
     let no = |number| Err(Refusal { number, offset: 0 });
     if probe.len() != 48 {
         return no(41);
     }
-    let s = read(&control.entities, block)?;
+    let s = read(table, block)?;
     let (format, frame) = (probe[2] as usize, probe[3]);
     if format < 1 || format > s.formats.len() {
         return no(42);
     }
-    let Some(f) = s.frames.iter().find(|f| f.format == format && f.index == frame) else {
-        return no(43);
-    };
-    if !f.offers.has(u32_at(probe, 4)) {
-        return no(44);
+    match s.frames.iter().find(|f| f.format == format && f.index == frame) {
+        None => no(43),
+        Some(f) if !f.offers.has(u32_at(probe, 4)) => no(44),
+        Some(_) => sizes(u64::from(u32_at(probe, 18)), u64::from(u32_at(probe, 22))),
     }
-    sizes(u32_at(probe, 18) as u64, u32_at(probe, 22) as u64)
 }

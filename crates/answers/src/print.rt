@@ -16,6 +16,18 @@ pub fn field(n: u64) {
     io::print_decimal(STDOUT_FILENO, n);
 }
 
+pub fn byte(n: u8) {
+    field(n as u64);
+}
+
+pub fn half(n: u16) {
+    field(n as u64);
+}
+
+pub fn word(n: u32) {
+    field(n as u64);
+}
+
 pub fn line(name: &[u8], n: u64) {
     text(name);
     field(n);

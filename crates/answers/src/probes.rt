@@ -47,9 +47,13 @@ pub fn write() -> bool {
     let p = read.probe;
     print::verdict(b"probe", verdict);
     fields(p);
-    print::verdict(b"write", probe::write(p, &mut room[..m]));
-    print::hex(b"room", &room[..m]);
+    written(p, &mut room[..m]);
     true
+}
+
+fn written(p: Probe, room: &mut [u8]) {
+    print::verdict(b"write", probe::write(p, room));
+    print::hex(b"room", room);
 }
 
 fn fields(p: Probe) {
@@ -65,39 +69,39 @@ fn fields(p: Probe) {
 
 // hint to delay
 fn wishes(p: Probe) {
-    print::field(p.hint as u64);
-    print::field(p.format as u64);
-    print::field(p.frame as u64);
-    print::field(p.interval as u64);
-    print::field(p.key_rate as u64);
-    print::field(p.p_rate as u64);
-    print::field(p.quality as u64);
-    print::field(p.window as u64);
-    print::field(p.delay as u64);
+    print::half(p.hint);
+    print::byte(p.format);
+    print::byte(p.frame);
+    print::word(p.interval);
+    print::half(p.key_rate);
+    print::half(p.p_rate);
+    print::half(p.quality);
+    print::half(p.window);
+    print::half(p.delay);
 }
 
 // frame size to framing
 fn sizes(p: Probe) {
-    print::field(p.frame_size as u64);
-    print::field(p.payload_size as u64);
-    print::field(p.clock as u64);
-    print::field(p.framing as u64);
+    print::word(p.frame_size);
+    print::word(p.payload_size);
+    print::word(p.clock);
+    print::byte(p.framing);
 }
 
 // preferred to maximum version
 fn versions(p: Probe) {
-    print::field(p.preferred as u64);
-    print::field(p.minimum as u64);
-    print::field(p.maximum as u64);
+    print::byte(p.preferred);
+    print::byte(p.minimum);
+    print::byte(p.maximum);
 }
 
 // usage to rate modes
 fn coding(p: Probe) {
-    print::field(p.usage as u64);
-    print::field(p.luma_depth as u64);
-    print::field(p.settings as u64);
-    print::field(p.reference_frames as u64);
-    print::field(p.rate_modes as u64);
+    print::byte(p.usage);
+    print::byte(p.luma_depth);
+    print::byte(p.settings);
+    print::byte(p.reference_frames);
+    print::half(p.rate_modes);
 }
 
 fn bytes(layout: [u8; 8]) {
