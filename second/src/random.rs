@@ -97,7 +97,7 @@ pub fn control(r: &mut Random) -> Vec<u8> {
     let mut all: Vec<Vec<u8>> = Vec::new();
     for i in 0..n {
         let id = if r.once_in(60) { r.pick(&[0, ids[0]]) } else { ids[i] };
-        let mut source = |r: &mut Random| {
+        let source = |r: &mut Random| {
             if made.is_empty() || (wild && r.once_in(4)) {
                 if r.once_in(6) {
                     r.byte()
