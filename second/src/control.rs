@@ -41,14 +41,10 @@ fn shape(d: &[u8], offset: usize) -> Option<Shape> {
             if camera && (n != 18 || byte(14)? != 3) {
                 return None;
             }
-            Some(Shape::Entity(Entity {
-                id: d[3],
-                kind: 2,
-                terminal: kind,
-                offset,
-                sources: vec![],
-                map: camera.then_some(offset + 15),
-            }, None))
+            Some(Shape::Entity(
+                Entity { id: d[3], kind: 2, terminal: kind, offset, sources: vec![], map: camera.then_some(offset + 15) },
+                None,
+            ))
         }
         3 => {
             if n < 9 {

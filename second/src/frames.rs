@@ -181,17 +181,12 @@ fn one(frame: &[Piece], frame_size: usize, over: bool) -> Judged {
         (false, Some((_, r))) => Becomes::Dropped(r),
         (false, None) => Becomes::Dropped(Reason::Cut),
     };
-    Judged {
-        places: frame.iter().map(|p| p.place).collect(),
-        becomes,
-        bytes: size,
-        written: fault.map_or(frame.len(), |(i, _)| i),
-    }
+    Judged { places: frame.iter().map(|p| p.place).collect(), becomes, bytes: size, written: fault.map_or(frame.len(), |(i, _)| i) }
 }
 
 /// The ledger's numbers in the order of print.
 pub fn ledger(v: &Verdict) -> Vec<u64> {
-    let mut accounts = vec![(0u64, 0u64); 11];
+    let mut accounts = [(0u64, 0u64); 11];
     let mut add = |k: usize, n: usize| {
         accounts[k].0 += 1;
         accounts[k].1 += n as u64;

@@ -198,8 +198,10 @@ fn frame(r: &mut Random, subtype: u8, index: u8, offered: &mut Vec<u32>) -> Vec<
             _ => 1 + r.below(1000) as u32,
         };
         let times = r.below(50) as u32;
-        let longest = if r.once_in(12) { interval(r) } else { shortest.saturating_add(step.saturating_mul(times)).saturating_add(r.below(3) as u32) };
-        let default = if r.once_in(15) { interval(r) } else { shortest.wrapping_add(step.wrapping_mul(r.below(times as usize + 1) as u32)) };
+        let longest =
+            if r.once_in(12) { interval(r) } else { shortest.saturating_add(step.saturating_mul(times)).saturating_add(r.below(3) as u32) };
+        let default =
+            if r.once_in(15) { interval(r) } else { shortest.wrapping_add(step.wrapping_mul(r.below(times as usize + 1) as u32)) };
         offered.extend([default, shortest, longest]);
         return blocks::frame(subtype, index, width, height, size, default, 0, &[shortest, longest, step]);
     }
@@ -432,14 +434,35 @@ pub fn record(r: &mut Random) -> Record {
     };
     let mut numbers = [0; 27];
     for (i, x) in numbers.iter_mut().enumerate() {
-        let most = if i == 24 { n << 31 } else if i < 22 && i % 2 == 1 { n << 16 } else { n };
+        let most = if i == 24 {
+            n << 31
+        } else if i < 22 && i % 2 == 1 {
+            n << 16
+        } else {
+            n
+        };
         *x = r.pick(&[0, 0, most.min(1), most / 2, most]);
     }
-    let mut it = Record { frame, payload: 2 + r.below(60) as u64, closed: r.once_in(8), taken, phase, gap: r.once_in(3), numbers, last: r.pick(&[None, Some(1), Some(u32::MAX)]) };
+    let mut it = Record {
+        frame,
+        payload: 2 + r.below(60) as u64,
+        closed: r.once_in(8),
+        taken,
+        phase,
+        gap: r.once_in(3),
+        numbers,
+        last: r.pick(&[None, Some(1), Some(u32::MAX)]),
+    };
     match r.below(10) {
-        0 | 1 | 2 => {
+        0..=2 => {
             let i = r.below(27);
-            let most = if i == 24 { n << 31 } else if i < 22 && i % 2 == 1 { n << 16 } else { n };
+            let most = if i == 24 {
+                n << 31
+            } else if i < 22 && i % 2 == 1 {
+                n << 16
+            } else {
+                n
+            };
             it.numbers[i] = r.pick(&[most + 1, most, u64::MAX, 1 << 63, most + 65_536]);
         }
         3 => it.frame = r.pick(&[0, 16_777_216, 16_777_217, u64::MAX, 1 << 32]),

@@ -124,8 +124,20 @@ fn place(r: &Record, transfer: &[u8]) -> Option<(usize, usize)> {
         let begins = Some((r.gap, 0, 0, None));
         let run = match r.phase {
             Phase::Fresh => begins,
-            Phase::Past(f) => if f == fid { None } else { begins },
-            Phase::Under { fid: f, fault, bytes, fill, stamp } => if f == fid { Some((fault != 0, bytes, fill, stamp)) } else { begins },
+            Phase::Past(f) => {
+                if f == fid {
+                    None
+                } else {
+                    begins
+                }
+            }
+            Phase::Under { fid: f, fault, bytes, fill, stamp } => {
+                if f == fid {
+                    Some((fault != 0, bytes, fill, stamp))
+                } else {
+                    begins
+                }
+            }
         };
         if let Some((faulted, bytes, fill, first)) = run {
             let clock = first.is_some() && stamp.is_some() && first != stamp;

@@ -57,9 +57,7 @@ impl Offers {
 
     pub fn has(&self, x: u32) -> bool {
         match self {
-            Offers::Range { shortest, longest, step } => {
-                x != 0 && x >= *shortest && x <= *longest && (x - shortest) % step == 0
-            }
+            Offers::Range { shortest, longest, step } => x != 0 && x >= *shortest && x <= *longest && (x - shortest) % step == 0,
             Offers::List(l) => x != 0 && l.contains(&x),
         }
     }
