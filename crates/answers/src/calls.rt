@@ -1,6 +1,6 @@
 // A session, from its opening through a list of calls.
-use crate::input;
-use crate::print;
+use cases::input;
+use cases::print;
 use frames::Answer;
 use frames::Delivery;
 use frames::Ended;

@@ -3,8 +3,8 @@
 // The record: eight bytes frame size, eight bytes payload size, byte closed, four bytes taken, the phase, byte gap,
 // 27 numbers of eight bytes, the last stamp. A stamp: byte present and four bytes. The phase: byte 0 fresh, 2 past and byte FID, or
 // any other and byte FID, byte fault (1 gap, 2 error, 3 clock, 4 long, 5 cut, 6 empty, any other none), eight bytes data so far, eight bytes fill, the stamp.
-use crate::input;
-use crate::print;
+use cases::input;
+use cases::print;
 use frames::Fault;
 use frames::Phase;
 use frames::Reason;

@@ -11,12 +11,13 @@
 //                byte 0 and part transfer, byte 1 (lost), byte 2 (close)
 //   F forged     session record (forged.rt), part buffer, part transfer: which of take, lost and close are refused on this record
 // A case that is cut short, a part that is too long and an unknown kind end the run with one line.
-mod blocks;
 mod calls;
 mod forged;
-mod input;
-mod print;
-mod probes;
+
+use block_cases::blocks;
+use block_cases::probes;
+use cases::input;
+use cases::print;
 
 fn case(kind: u8) -> bool {
     match kind {

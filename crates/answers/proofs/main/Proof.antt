@@ -1,15 +1,7 @@
-use Prim.Native.Nat.{_≤_, _<_, _-_}
-use native.Mathlib.Omega.{arith}
+use Prim.Native.Nat.{_≤_}
 use borrow.Author.Needs.{needs}
 use Rattle.answers.proofs.main.Statement.{statement}
 use Rattle.answers.proofs.main.Tie as tie
-use Rattle.answers.proofs.main.Reads as reads
-use Rattle.answers.proofs.main.Lts as lts
-use Rattle.answers.proofs.case.Reads as case-reads
-use Rattle.answers.proofs.input.kind.Reads as kind-reads
-use Rattle.answers.proofs.print.end.Reads as end-reads
-use Rattle.answers.proofs.print.field.Reads as field-reads
-use Rattle.answers.proofs.print.text.Reads as text-reads
 
 abbrev Inv-loop : tie.InvT-loop
 Inv-loop left₀ t3 left = left ≤ 18446744073709551615
@@ -17,63 +9,48 @@ Inv-loop left₀ t3 left = left ≤ 18446744073709551615
 abbrev μ-loop : tie.MeasureT-loop
 μ-loop left₀ t3 left = left
 
--- src/main.rt:41:5
 loop-holds : tie.Need-loop-holds Inv-loop μ-loop
 loop-holds c = search needs
 
--- src/main.rt:42:13
 kind-requires : tie.Need-kind-requires Inv-loop μ-loop
 kind-requires c κs = search needs
 
--- src/main.rt:44:13
 returns : tie.Need-returns Inv-loop μ-loop
 returns c = search needs
 
--- src/main.rt:46:21
 slice-aggregate-text : tie.Need-slice-aggregate-text Inv-loop μ-loop
 slice-aggregate-text c = search needs
 
--- src/main.rt:46:9
 text-requires : tie.Need-text-requires Inv-loop μ-loop
 text-requires c κs = search needs
 
--- src/main.rt:47:22
 sub-field : tie.Need-sub-field Inv-loop μ-loop
 sub-field c = search needs
 
--- src/main.rt:47:22
 add-field : tie.Need-add-field Inv-loop μ-loop
 add-field c = search needs
 
--- src/main.rt:47:9
 field-requires : tie.Need-field-requires Inv-loop μ-loop
 field-requires c κs = search needs
 
--- src/main.rt:48:9
 end-requires : tie.Need-end-requires Inv-loop μ-loop
 end-requires c κs = search needs
 
--- src/main.rt:49:13
 case-requires : tie.Need-case-requires Inv-loop μ-loop
 case-requires c κs = search needs
 
--- src/main.rt:50:13
 returns-2 : tie.Need-returns-2 Inv-loop μ-loop
 returns-2 c = search needs
 
--- src/main.rt:52:9
 sub-left : tie.Need-sub-left Inv-loop μ-loop
 sub-left c = search needs
 
--- src/main.rt:41:5
 loop-less : tie.Need-loop-less Inv-loop μ-loop
 loop-less c = search needs
 
--- src/main.rt:41:5
 loop-again : tie.Need-loop-again Inv-loop μ-loop
 loop-again c = search needs
 
--- src/main.rt:38:1
 returns-3 : tie.Need-returns-3 Inv-loop μ-loop
 returns-3 c = search needs
 

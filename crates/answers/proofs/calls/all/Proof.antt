@@ -1,14 +1,9 @@
-use Prim.Native.Nat.{_≤_, _<_, _-_}
+use Prim.Native.Nat.{_≤_}
 use mathlib.Core.Path.{_≡_}
 use lib.ListN.{length}
-use native.Mathlib.Omega.{arith}
 use borrow.Author.Needs.{needs}
 use Rattle.answers.proofs.calls.all.Statement.{statement}
 use Rattle.answers.proofs.calls.all.Tie as tie
-use Rattle.answers.proofs.calls.all.Reads as reads
-use Rattle.answers.proofs.calls.all.Lts as lts
-use Rattle.answers.proofs.calls.call.Reads as call-reads
-use Rattle.answers.proofs.print.hash.Reads as hash-reads
 
 abbrev Inv-loop : tie.InvT-loop
 Inv-loop buffer₀ transfer₀ calls session₀ left₀ buffer transfer session left = (length buffer ≡ length buffer₀) × (length transfer ≡ length transfer₀)
@@ -16,51 +11,39 @@ Inv-loop buffer₀ transfer₀ calls session₀ left₀ buffer transfer session 
 abbrev μ-loop : tie.MeasureT-loop
 μ-loop buffer₀ transfer₀ calls session₀ left₀ buffer transfer session left = left
 
--- src/calls.rt:61:5
 loop-holds : tie.Need-loop-holds Inv-loop μ-loop
 loop-holds c = search needs
 
--- src/calls.rt:62:13
 call-requires : tie.Need-call-requires Inv-loop μ-loop
 call-requires c κs = search needs
 
--- src/calls.rt:65:13
 same-length : tie.Need-same-length Inv-loop μ-loop
 same-length c = search needs
 
--- src/calls.rt:65:13
 same-length-2 : tie.Need-same-length-2 Inv-loop μ-loop
 same-length-2 c = search needs
 
--- src/calls.rt:65:13
 returns : tie.Need-returns Inv-loop μ-loop
 returns c = search needs
 
--- src/calls.rt:70:9
 hash-requires : tie.Need-hash-requires Inv-loop μ-loop
 hash-requires c κs = search needs
 
--- src/calls.rt:71:9
 sub-left : tie.Need-sub-left Inv-loop μ-loop
 sub-left c = search needs
 
--- src/calls.rt:61:5
 loop-less : tie.Need-loop-less Inv-loop μ-loop
 loop-less c = search needs
 
--- src/calls.rt:61:5
 loop-again : tie.Need-loop-again Inv-loop μ-loop
 loop-again c = search needs
 
--- src/calls.rt:58:1
 same-length-3 : tie.Need-same-length-3 Inv-loop μ-loop
 same-length-3 c = search needs
 
--- src/calls.rt:58:1
 same-length-4 : tie.Need-same-length-4 Inv-loop μ-loop
 same-length-4 c = search needs
 
--- src/calls.rt:58:1
 returns-2 : tie.Need-returns-2 Inv-loop μ-loop
 returns-2 c = search needs
 

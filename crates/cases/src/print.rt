@@ -83,4 +83,4 @@ pub fn hash(bytes: &[u8]) {
     field(h);
     end();
 }
-// 
+//

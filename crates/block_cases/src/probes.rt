@@ -1,6 +1,6 @@
 // Probe blocks.
-use crate::input;
-use crate::print;
+use cases::input;
+use cases::print;
 use probe::Probe;
 
 pub fn check() -> bool {

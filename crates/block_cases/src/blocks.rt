@@ -1,6 +1,6 @@
 // Control and streaming blocks.
-use crate::input;
-use crate::print;
+use cases::input;
+use cases::print;
 use control_map::Map;
 use entities::Entity;
 use entities::Table;
