@@ -41,7 +41,6 @@ rising-of b (y ∷ l) h =
     above : Rising y l → b < y → (i : ℕ) → i < suc (length l) → b < getD (y ∷ l) i 0
     above r q zero k = q
     above r q (suc i) k = omega (arith, r .above i (omega arith))
-
     next : Rising y l → (i : ℕ) → suc i < suc (length l) → getD (y ∷ l) i 0 < getD l i 0
     next r zero k = r .above 0 (omega arith)
     next r (suc i) k = r .next i (omega arith)
@@ -87,7 +86,6 @@ listed-decides l x = (to, from)
         let r = rising-of 0 l (p .0) in
         let a = among-of x l (p .1) in
         record { nonzero = λ i k e. omega (arith, r .above i k); rising = λ i k. rw (add-one i) (r .next i (omega arith)); place = a .0; within = a .1; there = a .2 }
-
     from : Listed l x → listed l x ≡ true
     from w = rw (of-rising 0 l (record { above = above; next = λ i k. rw (add-one i) at (w .rising i (omega arith)) })) (of-among x l (w .place) (w .within) (w .there))
       where

@@ -163,10 +163,8 @@ module _ (t : Table) (s b : List ℕ) where
       where
         p : Probe
         p = fieldsOf b
-
         j : ℕ
         j = i s a (fieldsOf b)
-
         go : (x : Bool) → Tells x (FormatGiven a (fieldsOf b)) → (y : Bool) → (y ≡ true → (k : ℕ) → k < length (a .frames) → FrameGiven s a (fieldsOf b) k → ⊥) → (y ≡ false → i s a (fieldsOf b) < length (a .frames)) → (z : Bool) → Tells z (IntervalGiven s (offsetIn a (i s a (fieldsOf b))) (fieldsOf b)) → (u : Bool) → Tells u (FrameSizeGood (fieldsOf b)) → (v : Bool) → Tells v (PayloadSizeGood (fieldsOf b)) → Comes t s b (given (firstFrom 42 (x ∷ y ∷ z ∷ u ∷ v ∷ [])))
         go true c y n m z d u e v f = objected 42 0 (of-format a w (c .up refl))
         go false c true n m z d u e v f = objected 43 0 (of-frame a w (c .down refl) (n refl))
@@ -245,7 +243,6 @@ module _ (t : Table) (s b : List ℕ) where
       ends : length b ≡ probeLength → (x : Streaming) → streamingOf t s ≡ x → Ends t s x → Comes t s b (checkOf t s b)
       ends l x q (taken a w) = let r : Read t s b a = record { whole = l; sound = w } in rw (check-is a r) (read-comes a r)
       ends l x q (given-back k o w) = rw (no-gives (of-block k o l w)) (objected k o (of-block k o l w))
-
       at : (c : Bool) → eqb (length b) probeLength ≡ c → Comes t s b (checkOf t s b)
       at true q = ends (eqb-true (length b) probeLength q) (streamingOf t s) refl (reads t s)
       at false q = let n = eqb-false (length b) probeLength q in rw (no-gives (of-length n)) (objected 41 0 (of-length n))

@@ -3,13 +3,17 @@ ghost use mathlib.Core.Path.{_≡_};
 ghost use Prim.Native.Nat.{_+_, _*_, _/_, _%_, _≤_, _<_};
 ghost use lib.ListN.{length, getD};
 ghost use Rattle.probe.specs.Fields.{fieldsOf, bytesOf, noFields, probeOf, roomVerdict, written};
+
+
 ghost use Rattle.rules.specs.Numbered.{firstFrom};
 ghost use Rattle.streaming_rules.specs.Descriptors.{frameLength};
 ghost use Rattle.le.specs.Le.{byte};
 ghost use Rattle.probe.specs.Check.{formatMissing, hasNumber, frameFlags, given, checkOf};
+
 use entities::Table;
 use rules::Verdict;
 use streaming_rules::Frame;
+
 
 pub const LENGTH: usize = 48;
 

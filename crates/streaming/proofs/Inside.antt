@@ -42,7 +42,6 @@ held-more s l x n w h = record { few = simp length-append (omega arith); inside 
     at i k (no m) =
         let e : i ≡ length l + 0 = omega (arith, simp length-append at k) in
         rw (e, getD-append-add l (x ∷ []) 0 noFrame) w
-
     inside : (i : ℕ) → i < length (l ++ (x ∷ [])) → Within s (getD (l ++ (x ∷ [])) i noFrame .offset)
     inside i k = at i k (decLt i (length l))
 

@@ -5,13 +5,10 @@ ghost use lib.ListN.{length, getD};
 ghost use Rattle.streaming_rules.specs.Descriptors.{noFormat, noFrame};
 ghost use Rattle.streaming.specs.Place.{firstPlace};
 ghost use Rattle.streaming.specs.Block.{isOutput, linkedTo, countBroken, defaultBroken, lateBy, refusedBy, noCounts, walked, streamingOf};
-use entities::Entity;
-use entities::Found;
-use entities::Table;
+
+use entities::{Entity, Found, Table};
 use rules::Verdict;
-use streaming_rules::Format;
-use streaming_rules::Frame;
-use streaming_rules::Sofar;
+use streaming_rules::{Format, Frame, Sofar};
 
 // The verdict, the header's endpoint and terminal link, and the formats and frames in block order, unused places zero. A refused block gives all zero.
 pub struct Streaming {

@@ -55,13 +55,10 @@ fine s o a h =
   where
     k : Kind
     k = kindAt s o
-
     d : Down (flags s o a)
     d = first-zero 25 (flags s o a) (omega arith) h
-
     b : Down (kindFlags (kindAt s o) s o a)
     b = d .1 .1 .1 .1
-
     last : ((isFormat (kindAt s o) && leb formatsMost (a .formats)) || (isFrame (kindAt s o) && leb framesMost (a .frames))) ≡ false
     last = b .1 .1 .1 .1 .1 .1 .0
 

@@ -36,23 +36,18 @@ abbrev μ-loop : tie.MeasureT-loop
 -- a descriptor that breaks no rule
 abbrev Passed : Type 0
 Passed = tie.Else1 Inv-loop μ-loop
-
 none : (c : Passed) → 0 ≡ ruleAt (c .before .before .before .before .before .before .before .before .args .s .now) (c .before .before .before .loop .at) (handed (c .before .before .before .before .before .before .before .before .args .linked) (c .before .before .before .loop .f) (c .before .before .before .loop .n) (c .before .before .before .loop .under) (c .before .before .before .loop .counts))
 none c = sym (c .if1 .left) ∙ c .before .rule-at .ensures
-
 fit : (c : Passed) → Fine (c .before .before .before .before .before .before .before .before .args .s .now) (c .before .before .before .loop .at) (handed (c .before .before .before .before .before .before .before .before .args .linked) (c .before .before .before .loop .f) (c .before .before .before .loop .n) (c .before .before .before .loop .under) (c .before .before .before .loop .counts))
 fit c = fine-here _ _ _ _ _ _ _ _ _ (c .before .before .before .loop .inv) (c .before .before .loop-test .taken) (none c)
 
 -- its kind
 a-format : (c : tie.Then2 Inv-loop μ-loop) → isFormat (kindAt (c .before .before .before .before .before .before .before .before .before .before .before .before .before .before .args .s .now) (c .before .before .before .before .before .before .before .before .before .loop .at)) ≡ true
 a-format c = so-format _ _ _ _ (c .before .before .kind-of .ensures) (c .before .is-format .ensures) (c .if2 .taken)
-
 no-format : (c : tie.Else2 Inv-loop μ-loop) → isFormat (kindAt (c .before .before .before .before .before .before .before .before .before .before .before .before .before .before .args .s .now) (c .before .before .before .before .before .before .before .before .before .loop .at)) ≡ false
 no-format c = so-format _ _ _ _ (c .before .before .kind-of .ensures) (c .before .is-format .ensures) (c .if2 .left)
-
 a-frame : (c : tie.Then3 Inv-loop μ-loop) → isFrame (kindAt (c .before .before .before .before .before .before .before .before .before .before .before .before .before .before .before .before .args .s .now) (c .before .before .before .before .before .before .before .before .before .before .before .loop .at)) ≡ true
 a-frame c = so-frame _ _ _ _ (c .before .before .before .before .kind-of .ensures) (c .before .is-frame .ensures) (c .if3 .taken)
-
 no-frame : (c : tie.Else3 Inv-loop μ-loop) → isFrame (kindAt (c .before .before .before .before .before .before .before .before .before .before .before .before .before .before .before .before .args .s .now) (c .before .before .before .before .before .before .before .before .before .before .before .loop .at)) ≡ false
 no-frame c = so-frame _ _ _ _ (c .before .before .before .before .kind-of .ensures) (c .before .is-frame .ensures) (c .if3 .left)
 
