@@ -1,0 +1,53 @@
+use Prim.Native.Nat.{_≤_, _-_}
+use borrow.Author.Needs.{needs}
+use Rattle.answers.proofs.forged.ledger.Statement.{statement}
+use Rattle.answers.proofs.forged.ledger.Tie as tie
+
+abbrev Inv-loop : tie.InvT-loop
+Inv-loop numbers₀ i₀ numbers i = i ≤ 27
+
+abbrev μ-loop : tie.MeasureT-loop
+μ-loop numbers₀ i₀ numbers i = 27 - i
+
+loop-holds : tie.Need-loop-holds Inv-loop μ-loop
+loop-holds c = search needs
+
+long-requires : tie.Need-long-requires Inv-loop μ-loop
+long-requires c κs = search needs
+
+mul-numbers : tie.Need-mul-numbers Inv-loop μ-loop
+mul-numbers c = search needs
+
+array-write-numbers : tie.Need-array-write-numbers Inv-loop μ-loop
+array-write-numbers c = search needs
+
+add-i : tie.Need-add-i Inv-loop μ-loop
+add-i c = search needs
+
+loop-less : tie.Need-loop-less Inv-loop μ-loop
+loop-less c = search needs
+
+loop-again : tie.Need-loop-again Inv-loop μ-loop
+loop-again c = search needs
+
+stamp-requires : tie.Need-stamp-requires Inv-loop μ-loop
+stamp-requires c κs = search needs
+
+returns : tie.Need-returns Inv-loop μ-loop
+returns c = search needs
+
+pub ledger-spec : {M : Type 1} → statement M
+ledger-spec =
+    tie.close
+    (tie.spec
+    Inv-loop
+    μ-loop
+    loop-holds
+    long-requires
+    mul-numbers
+    array-write-numbers
+    add-i
+    loop-less
+    loop-again
+    stamp-requires
+    returns)

@@ -1,0 +1,223 @@
+// A session, from its opening through a list of calls.
+use cases::input;
+use cases::print;
+use frames::Answer;
+use frames::Delivery;
+use frames::Ended;
+use frames::Fate;
+use frames::Reason;
+use ledger::Ledger;
+use payload::Stamp;
+use session::Closing;
+use session::Outcome;
+use session::Report;
+use session::Session;
+use session::Start;
+
+// The session after a call, and whether the call was read.
+struct Next {
+    session: Session,
+    fine: bool,
+}
+
+pub fn run() -> bool {
+    let frame = input::word() as usize;
+    let payload = input::word() as usize;
+    let mut buffer = [0u8; 70000];
+    let part = input::part(&mut buffer);
+    let n = part.count;
+    if !part.fine {
+        return false;
+    }
+    listed(frame, payload, &mut buffer[..n])
+}
+
+fn listed(frame: usize, payload: usize, buffer: &mut [u8]) -> bool {
+    let opened = Session::open(frame, payload, buffer);
+    let start = opened.start;
+    let session = opened.session;
+    started(start);
+    let mut transfer = [0u8; 65600];
+    let calls = input::word();
+    let last = all(session, buffer, &mut transfer, calls);
+    let s = last.session;
+    ledger(s.ledger());
+    if buffer.len() <= 64 {
+        print::hex(b"buffer", buffer);
+    }
+    last.fine
+}
+
+fn started(s: Start) {
+    match s {
+        Start::Open => print::text(b"open\n"),
+        Start::Refused(number) => print::line(b"open refused", number as u64),
+    }
+}
+
+fn all(s: Session, buffer: &mut [u8], transfer: &mut [u8], calls: u32) -> Next {
+    let mut session = s;
+    let mut left = calls;
+    while 0 < left {
+        let next = call(session, buffer, transfer);
+        session = next.session;
+        if !next.fine {
+            return Next {
+                session,
+                fine: false,
+            };
+        }
+        print::hash(buffer);
+        left -= 1;
+    }
+    Next {
+        session,
+        fine: true,
+    }
+}
+
+fn call(s: Session, buffer: &mut [u8], transfer: &mut [u8]) -> Next {
+    let kind = input::kind();
+    if !kind.fine {
+        print::text(b"case cut short\n");
+        return Next {
+            session: s,
+            fine: false,
+        };
+    }
+    let value = kind.value;
+    match value {
+        0 => take(s, buffer, transfer),
+        1 => lost(s),
+        2 => close(s),
+        _ => {
+            print::text(b"unknown call\n");
+            Next {
+                session: s,
+                fine: false,
+            }
+        }
+    }
+}
+
+fn take(s: Session, buffer: &mut [u8], transfer: &mut [u8]) -> Next {
+    let part = input::part(transfer);
+    let n = part.count;
+    if !part.fine {
+        return Next {
+            session: s,
+            fine: false,
+        };
+    }
+    let taken = s.take(buffer, &transfer[..n]);
+    let outcome = taken.outcome;
+    let session = taken.session;
+    match outcome {
+        Outcome::Refused(number) => refused(number),
+        Outcome::Taken(a) => answer(a),
+    }
+    Next {
+        session,
+        fine: true,
+    }
+}
+
+fn lost(s: Session) -> Next {
+    let reported = s.lost();
+    let report = reported.report;
+    let session = reported.session;
+    match report {
+        Report::Refused(number) => refused(number),
+        Report::Noted => print::text(b"lost noted"),
+    }
+    Next {
+        session,
+        fine: true,
+    }
+}
+
+fn close(s: Session) -> Next {
+    let closed = s.close();
+    let closing = closed.closing;
+    let session = closed.session;
+    match closing {
+        Closing::Refused(number) => refused(number),
+        Closing::Closed(e) => {
+            print::text(b"closed");
+            ended(e);
+        }
+    }
+    Next {
+        session,
+        fine: true,
+    }
+}
+
+fn refused(number: u8) {
+    print::text(b"refused");
+    print::field(number as u64);
+}
+
+fn answer(a: Answer) {
+    print::text(b"taken ended");
+    let e = a.ended;
+    ended(e);
+    print::text(b" fate");
+    let f = a.fate;
+    fate(f);
+}
+
+fn ended(e: Ended) {
+    match e {
+        Ended::Nothing => print::text(b" none"),
+        Ended::Frame(why) => reason(why),
+    }
+}
+
+fn reason(why: Reason) {
+    match why {
+        Reason::Gap => print::text(b" gap"),
+        Reason::Error => print::text(b" error"),
+        Reason::Clock => print::text(b" clock"),
+        Reason::Long => print::text(b" long"),
+        Reason::Cut => print::text(b" cut"),
+        Reason::Empty => print::text(b" empty"),
+    }
+}
+
+fn fate(f: Fate) {
+    match f {
+        Fate::Idle => print::text(b" idle"),
+        Fate::Kept => print::text(b" kept"),
+        Fate::Stray => print::text(b" stray"),
+        Fate::Delivered(d) => delivered(d),
+        Fate::Dropped(why) => {
+            print::text(b" dropped");
+            reason(why);
+        }
+        Fate::Unreadable(number) => {
+            print::text(b" unreadable");
+            print::field(number as u64);
+        }
+    }
+}
+
+fn delivered(d: Delivery) {
+    print::text(b" delivered");
+    print::field(d.len);
+    let s = d.stamp;
+    match s {
+        Stamp::Absent => print::text(b" -"),
+        Stamp::At(x) => print::field(x as u64),
+    }
+}
+
+fn ledger(l: Ledger) {
+    print::text(b"ledger");
+    let mut i: usize = 0;
+    while i < 27 {
+        print::field(l.numbers[i]);
+        i += 1;
+    }
+    print::end();
+}

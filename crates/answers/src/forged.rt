@@ -1,0 +1,145 @@
+// A session record as it stands in the input, and what take, lost and close say to it.
+//
+// The record: eight bytes frame size, eight bytes payload size, byte closed, four bytes taken, the phase, byte gap,
+// 27 numbers of eight bytes, the last stamp. A stamp: byte present and four bytes. The phase: byte 0 fresh, 2 past and byte FID, or
+// any other and byte FID, byte fault (1 gap, 2 error, 3 clock, 4 long, 5 cut, 6 empty, any other none), eight bytes data so far, eight bytes fill, the stamp.
+use cases::input;
+use cases::print;
+use frames::Fault;
+use frames::Phase;
+use frames::Reason;
+use frames::Run;
+use frames::Track;
+use ledger::Ledger;
+use payload::Opening;
+use payload::Stamp;
+use session::Closing;
+use session::Outcome;
+use session::Report;
+use session::Session;
+
+pub fn run() -> bool {
+    let s = record();
+    let mut buffer = [0u8; 70000];
+    let part = input::part(&mut buffer);
+    let n = part.count;
+    if !part.fine {
+        return false;
+    }
+    let mut transfer = [0u8; 65600];
+    let second = input::part(&mut transfer);
+    let m = second.count;
+    if !second.fine {
+        return false;
+    }
+    take(s, &mut buffer[..n], &transfer[..m]);
+    lost(s);
+    close(s);
+    true
+}
+
+fn record() -> Session {
+    let frame = input::long() as usize;
+    let payload = input::long() as usize;
+    let closed = input::flag();
+    let taken = input::word();
+    let phase = phase();
+    let gap = input::flag();
+    let ledger = ledger();
+    Session {
+        opening: Opening { frame, payload },
+        closed,
+        taken,
+        track: Track { phase, gap },
+        ledger,
+    }
+}
+
+fn phase() -> Phase {
+    let kind = input::byte();
+    match kind {
+        0 => Phase::Fresh,
+        2 => Phase::Past(input::flag()),
+        _ => Phase::Under(under()),
+    }
+}
+
+fn under() -> Run {
+    let fid = input::flag();
+    let fault = fault(input::byte());
+    let bytes = input::long();
+    let fill = input::long() as usize;
+    let stamp = stamp();
+    Run {
+        fid,
+        fault,
+        bytes,
+        fill,
+        stamp,
+    }
+}
+
+fn fault(kind: u8) -> Fault {
+    match kind {
+        1 => Fault::Bad(Reason::Gap),
+        2 => Fault::Bad(Reason::Error),
+        3 => Fault::Bad(Reason::Clock),
+        4 => Fault::Bad(Reason::Long),
+        5 => Fault::Bad(Reason::Cut),
+        6 => Fault::Bad(Reason::Empty),
+        _ => Fault::Sound,
+    }
+}
+
+fn stamp() -> Stamp {
+    let there = input::flag();
+    let n = input::word();
+    if there { Stamp::At(n) } else { Stamp::Absent }
+}
+
+fn ledger() -> Ledger {
+    let mut numbers = [0u64; 27];
+    let mut i: usize = 0;
+    while i < 27 {
+        numbers[i] = input::long();
+        i += 1;
+    }
+    let last = stamp();
+    Ledger { numbers, last }
+}
+
+fn take(s: Session, buffer: &mut [u8], transfer: &[u8]) {
+    let taken = s.take(buffer, transfer);
+    let outcome = taken.outcome;
+    match outcome {
+        Outcome::Refused(number) => refused(b"take", number),
+        Outcome::Taken(_) => print::text(b"take taken"),
+    }
+    print::hash(buffer);
+}
+
+fn lost(s: Session) {
+    let reported = s.lost();
+    let report = reported.report;
+    match report {
+        Report::Refused(number) => refused(b"lost", number),
+        Report::Noted => print::text(b"lost taken"),
+    }
+    print::end();
+}
+
+fn close(s: Session) {
+    let closed = s.close();
+    let closing = closed.closing;
+    match closing {
+        Closing::Refused(number) => refused(b"close", number),
+        Closing::Closed(_) => print::text(b"close taken"),
+    }
+    print::end();
+}
+
+fn refused(name: &[u8], number: u8) {
+    print::text(name);
+    print::text(b" refused");
+    print::field(number as u64);
+}

@@ -1,0 +1,55 @@
+// Answers cases from standard input, each in full: what a second reader is compared with.
+//
+// A case is a byte that names its kind, and what follows. Numbers are little-endian; a part is a length of four bytes and that many bytes.
+//   C control    part block
+//   M map        part block, byte ID
+//   S streaming  part control block, part streaming block: the table of a refused control block is used all the same
+//   H hostile    byte count, 32 entities (byte ID, byte kind, two bytes type, two bytes offset), part streaming block
+//   P check      part control block, part streaming block, part probe block
+//   W write      part probe block, part room: read, and what was read is written into the room
+//   T calls      four bytes frame size, four bytes payload size, part buffer, four bytes number of calls, and each call:
+//                byte 0 and part transfer, byte 1 (lost), byte 2 (close)
+//   F forged     session record (forged.rt), part buffer, part transfer: which of take, lost and close are refused on this record
+// A case that is cut short, a part that is too long and an unknown kind end the run with one line.
+mod calls;
+mod forged;
+
+use block_cases::blocks;
+use block_cases::probes;
+use cases::input;
+use cases::print;
+
+fn case(kind: u8) -> bool {
+    match kind {
+        b'C' => blocks::control(),
+        b'M' => blocks::map(),
+        b'S' => blocks::streaming(),
+        b'H' => blocks::hostile(),
+        b'P' => probes::check(),
+        b'W' => probes::write(),
+        b'T' => calls::run(),
+        b'F' => forged::run(),
+        _ => {
+            print::text(b"unknown kind\n");
+            false
+        }
+    }
+}
+
+fn main() {
+    // A proved loop has to end, and nothing says that the input does: no run uses this number up.
+    let mut left = u64::MAX;
+    while 0 < left {
+        let kind = input::kind();
+        if !kind.fine {
+            return;
+        }
+        print::text(b"case");
+        print::field(u64::MAX - left + 1);
+        print::end();
+        if !case(kind.value) {
+            return;
+        }
+        left -= 1;
+    }
+}

@@ -1,0 +1,86 @@
+// The lines that are printed.
+use libc::STDOUT_FILENO;
+use rules::Verdict;
+
+pub fn text(bytes: &[u8]) {
+    io::write_all(STDOUT_FILENO, bytes);
+}
+
+pub fn end() {
+    text(b"\n");
+}
+
+// A space and the number.
+pub fn field(n: u64) {
+    text(b" ");
+    io::print_decimal(STDOUT_FILENO, n);
+}
+
+pub fn byte(n: u8) {
+    field(n as u64);
+}
+
+pub fn half(n: u16) {
+    field(n as u64);
+}
+
+pub fn word(n: u32) {
+    field(n as u64);
+}
+
+pub fn line(name: &[u8], n: u64) {
+    text(name);
+    field(n);
+    end();
+}
+
+pub fn refused(number: u8, offset: usize) {
+    text(b" refused");
+    field(number as u64);
+    text(b" at");
+    field(offset as u64);
+    end();
+}
+
+// A reader's verdict, after its name.
+pub fn verdict(name: &[u8], v: Verdict) {
+    text(name);
+    match v {
+        Verdict::Accepted => text(b" accepted\n"),
+        Verdict::Refused { number, offset } => refused(number, offset),
+    }
+}
+
+pub fn rest(zero: bool) {
+    if zero {
+        text(b"rest zero\n");
+    } else {
+        text(b"rest set\n");
+    }
+}
+
+// Bytes in hexadecimal.
+pub fn hex(name: &[u8], bytes: &[u8]) {
+    text(name);
+    text(b" ");
+    let mut i: usize = 0;
+    while i < bytes.len() {
+        io::print_hex(STDOUT_FILENO, le::wide(bytes[i]) as u64, 2);
+        i += 1;
+    }
+    end();
+}
+
+// A hash of the bytes: times 16,777,619 plus the byte, modulo 2^32, from 2,166,136,261.
+pub fn hash(bytes: &[u8]) {
+    let mut h: u64 = 2166136261;
+    let mut i: usize = 0;
+    while i < bytes.len() {
+        h = (h * 16777619 + le::wide(bytes[i]) as u64) % 4294967296;
+        i += 1;
+    }
+    text(b" hash");
+    field(h);
+    end();
+}
+//

@@ -1,0 +1,238 @@
+//! Cases: how they stand in the input of the answers program, and what is to be printed of each.
+//!
+//! A case is a byte that names its kind, and what follows. Numbers are little-endian; a part is a length of four bytes and that many bytes.
+//!   C control    part block
+//!   M map        part block, byte ID
+//!   S streaming  part control block, part streaming block: the table of a refused control block is used all the same
+//!   H hostile    byte count, 32 entities (byte ID, byte kind, two bytes type, two bytes offset), part streaming block
+//!   P check      part control block, part streaming block, part probe block
+//!   W write      part probe block, part room
+//!   T calls      four bytes frame size, four bytes payload size, part buffer, four bytes number of calls, and each call:
+//!                byte 0 and part transfer, byte 1 (lost), byte 2 (close)
+//!   F forged     session record, part buffer, part transfer
+//! The record: eight bytes frame size, eight bytes payload size, byte closed, four bytes taken, the phase, byte gap, 27 numbers of eight
+//! bytes, the last stamp. A stamp: byte present and four bytes. The phase: byte 0 fresh; 1 under way and byte FID, byte fault (0 none,
+//! 1 gap to 6 empty), eight bytes data so far, eight bytes fill, the stamp; 2 past a frame and byte FID.
+
+use crate::control;
+use crate::frames::Call;
+use crate::session;
+use crate::streaming::{self, Place, Table};
+use crate::Refusal;
+use std::fmt::Write;
+
+#[derive(Clone, Debug)]
+pub enum Phase {
+    Fresh,
+    Under { fid: bool, fault: u8, bytes: u64, fill: u64, stamp: Option<u32> },
+    Past(bool),
+}
+
+#[derive(Clone, Debug)]
+pub struct Record {
+    pub frame: u64,
+    pub payload: u64,
+    pub closed: bool,
+    pub taken: u32,
+    pub phase: Phase,
+    pub gap: bool,
+    pub numbers: [u64; 27],
+    pub last: Option<u32>,
+}
+
+#[derive(Clone, Debug)]
+pub enum Case {
+    Control(Vec<u8>),
+    Map(Vec<u8>, u8),
+    Streaming(Vec<u8>, Vec<u8>),
+    Hostile(u8, Vec<Place>, Vec<u8>),
+    Check(Vec<u8>, Vec<u8>, Vec<u8>),
+    Write(Vec<u8>, Vec<u8>),
+    Calls { frame: u32, payload: u32, buffer: Vec<u8>, calls: Vec<Call> },
+    Forged(Record, Vec<u8>, Vec<u8>),
+}
+
+fn part(out: &mut Vec<u8>, bytes: &[u8]) {
+    out.extend((bytes.len() as u32).to_le_bytes());
+    out.extend(bytes);
+}
+
+fn stamp(out: &mut Vec<u8>, s: Option<u32>) {
+    out.push(u8::from(s.is_some()));
+    out.extend(s.unwrap_or(0).to_le_bytes());
+}
+
+fn record(out: &mut Vec<u8>, r: &Record) {
+    out.extend(r.frame.to_le_bytes());
+    out.extend(r.payload.to_le_bytes());
+    out.push(u8::from(r.closed));
+    out.extend(r.taken.to_le_bytes());
+    match r.phase {
+        Phase::Fresh => out.push(0),
+        Phase::Under { fid, fault, bytes, fill, stamp: s } => {
+            out.extend([1, u8::from(fid), fault]);
+            out.extend(bytes.to_le_bytes());
+            out.extend(fill.to_le_bytes());
+            stamp(out, s);
+        }
+        Phase::Past(fid) => out.extend([2, u8::from(fid)]),
+    }
+    out.push(u8::from(r.gap));
+    for n in r.numbers {
+        out.extend(n.to_le_bytes());
+    }
+    stamp(out, r.last);
+}
+
+impl Case {
+    pub fn kind(&self) -> char {
+        match self {
+            Case::Control(_) => 'C',
+            Case::Map(..) => 'M',
+            Case::Streaming(..) => 'S',
+            Case::Hostile(..) => 'H',
+            Case::Check(..) => 'P',
+            Case::Write(..) => 'W',
+            Case::Calls { .. } => 'T',
+            Case::Forged(..) => 'F',
+        }
+    }
+
+    /// How many calls the case makes on a session.
+    pub fn calls(&self) -> usize {
+        match self {
+            Case::Calls { calls, .. } => calls.len(),
+            Case::Forged(..) => 3,
+            _ => 0,
+        }
+    }
+
+    pub fn bytes(&self) -> Vec<u8> {
+        let mut out = vec![self.kind() as u8];
+        match self {
+            Case::Control(block) => part(&mut out, block),
+            Case::Map(block, id) => {
+                part(&mut out, block);
+                out.push(*id);
+            }
+            Case::Streaming(control, block) => {
+                part(&mut out, control);
+                part(&mut out, block);
+            }
+            Case::Hostile(count, places, block) => {
+                out.push(*count);
+                for p in places {
+                    out.extend([p.id, p.kind]);
+                    out.extend(p.terminal.to_le_bytes());
+                    out.extend(p.offset.to_le_bytes());
+                }
+                part(&mut out, block);
+            }
+            Case::Check(control, block, probe) => {
+                part(&mut out, control);
+                part(&mut out, block);
+                part(&mut out, probe);
+            }
+            Case::Write(probe, room) => {
+                part(&mut out, probe);
+                part(&mut out, room);
+            }
+            Case::Calls { frame, payload, buffer, calls } => {
+                out.extend(frame.to_le_bytes());
+                out.extend(payload.to_le_bytes());
+                part(&mut out, buffer);
+                out.extend((calls.len() as u32).to_le_bytes());
+                for call in calls {
+                    match call {
+                        Call::Transfer(t) => {
+                            out.push(0);
+                            part(&mut out, t);
+                        }
+                        Call::Lost => out.push(1),
+                        Call::Close => out.push(2),
+                    }
+                }
+            }
+            Case::Forged(r, buffer, transfer) => {
+                record(&mut out, r);
+                part(&mut out, buffer);
+                part(&mut out, transfer);
+            }
+        }
+        out
+    }
+
+    /// What is to be printed, without the line that numbers the case.
+    pub fn answer(&self) -> String {
+        match self {
+            Case::Control(block) => control_answer(block),
+            Case::Map(block, id) => match control::map(block, *id) {
+                Ok([a, b, c]) => format!("controls {a} {b} {c}\n"),
+                Err(r) => format!("map refused {} at {}\n", r.number, r.offset),
+            },
+            Case::Streaming(control, block) => streaming_answer(&table(control), block),
+            Case::Hostile(count, places, block) => streaming_answer(&Table { count: *count as usize, places: places.clone() }, block),
+            Case::Check(control, block, probe) => verdict("check", &streaming::check(&table(control), block, probe)),
+            Case::Write(probe, room) => write_answer(probe, room),
+            Case::Calls { frame, payload, buffer, calls } => session::calls(*frame, *payload, buffer, calls),
+            Case::Forged(r, buffer, transfer) => session::forged(r, buffer, transfer),
+        }
+    }
+}
+
+fn verdict<T>(name: &str, v: &Result<T, Refusal>) -> String {
+    match v {
+        Ok(_) => format!("{name} accepted\n"),
+        Err(r) => format!("{name} refused {} at {}\n", r.number, r.offset),
+    }
+}
+
+/// The entity table of a control block; none where it is refused.
+fn table(block: &[u8]) -> Table {
+    let entities = control::read(block).map_or(vec![], |c| c.entities);
+    Table {
+        count: entities.len(),
+        places: entities.iter().map(|e| Place { id: e.id, kind: e.kind, terminal: e.terminal, offset: e.offset as u16 }).collect(),
+    }
+}
+
+fn control_answer(block: &[u8]) -> String {
+    let read = control::read(block);
+    let mut out = verdict("control", &read);
+    let (clock, entities) = read.map_or((0, vec![]), |c| (c.clock, c.entities));
+    write!(out, "count {}\nclock {clock}\n", entities.len()).unwrap();
+    for e in &entities {
+        writeln!(out, "entity {} {} {} {}", e.id, e.kind, e.terminal, e.offset).unwrap();
+    }
+    out + "rest zero\n"
+}
+
+fn streaming_answer(table: &Table, block: &[u8]) -> String {
+    let read = streaming::read(table, block);
+    let mut out = verdict("streaming", &read);
+    let s = read.unwrap_or(streaming::Streaming { endpoint: 0, link: 0, formats: vec![], frames: vec![] });
+    write!(out, "endpoint {}\nlink {}\nformats {}\n", s.endpoint, s.link, s.formats.len()).unwrap();
+    for f in &s.formats {
+        writeln!(out, "format {} {} {} {} {} {}", f.kind, f.guid, f.bits, f.frames, f.default, f.offset).unwrap();
+    }
+    writeln!(out, "frames {}", s.frames.len()).unwrap();
+    for f in &s.frames {
+        writeln!(out, "frame {} {} {} {} {} {} {}", f.format, f.width, f.height, f.size, f.interval, f.k, f.offset).unwrap();
+    }
+    out + "rest zero\n"
+}
+
+fn write_answer(probe: &[u8], room: &[u8]) -> String {
+    let read = streaming::fields(probe);
+    let mut out = verdict("probe", &read);
+    let fields = read.unwrap_or(vec![0; 29]);
+    out += "fields";
+    for n in &fields {
+        write!(out, " {n}").unwrap();
+    }
+    out += "\n";
+    let mut room = room.to_vec();
+    out += &verdict("write", &streaming::write(&fields, &mut room));
+    writeln!(out, "room {}", session::hex(&room)).unwrap();
+    out
+}

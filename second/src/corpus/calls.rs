@@ -1,0 +1,259 @@
+//! Sessions: 45 to 47, 53, 55, 61 to 66, every fate and every fault.
+
+use crate::blocks::*;
+use crate::cases::Case;
+use crate::frames::Call;
+
+pub fn all() -> Vec<Case> {
+    let mut all = transfers();
+    all.extend(frames());
+    all.extend(fault_pairs());
+    all.extend(earlier_boxes());
+    all.extend(openings());
+    all
+}
+
+fn session(frame: u32, payload: u32, room: usize, calls: Vec<Call>) -> Case {
+    Case::Calls { frame, payload, buffer: vec![0xAA; room], calls }
+}
+
+fn send(flags: u8, data: &[u8]) -> Call {
+    Call::Transfer(transfer(END | flags, 7, 0, data))
+}
+
+fn stamped(flags: u8, stamp: u32, data: &[u8]) -> Call {
+    Call::Transfer(transfer(END | PTS | flags, stamp, 0, data))
+}
+
+/// Single transfers: idle, 61 to 66 and their edges, headers of every length, 55.
+fn transfers() -> Vec<Case> {
+    let raw: Vec<Vec<u8>> = vec![
+        vec![],
+        vec![0],
+        vec![2],
+        vec![2, 0x80],
+        vec![3, 0x80],
+        vec![2, 0],
+        vec![0, 0x80],
+        vec![1, 0x80],
+        vec![0, 0],
+        [vec![0x0B, 0x8C], vec![1; 9]].concat(),
+        [vec![0x0C, 0x8C], vec![1; 10]].concat(),
+        [vec![0x05, 0x84], vec![1; 9]].concat(),
+        [vec![0x06, 0x84], vec![1; 9]].concat(),
+        [vec![0x07, 0x88], vec![1; 9]].concat(),
+        [vec![0x08, 0x88], vec![1; 9]].concat(),
+        [vec![0x0C, 0x0C], vec![1; 10]].concat(),
+        [vec![0x0B, 0x0C], vec![1; 9]].concat(),
+        [vec![0x0B, 0x82], vec![1; 9]].concat(),
+        [vec![0x0B, 0x82], vec![1; 8]].concat(),
+        [vec![0xFF, 0x82], vec![9; 260]].concat(),
+        [vec![0x02, 0xB2], vec![3; 18]].concat(),
+        [vec![0x02, 0x82], vec![3; 19]].concat(),
+        [vec![0x01, 0x82], vec![3; 19]].concat(),
+    ];
+    let mut all = Vec::new();
+    for t in &raw {
+        for payload in [20, 300] {
+            all.push(session(30, payload, 32, vec![Call::Transfer(t.clone()), Call::Close]));
+            all.push(session(30, payload, 32, vec![send(0, &[1, 2]), Call::Transfer(t.clone()), send(EOF, &[3])]));
+        }
+    }
+    // The longest transfer that is taken, the payload size at its limit, and one byte more.
+    for (payload, n) in [(65_536, 65_536), (65_536, 65_537), (65_535, 65_536), (2, 65_537)] {
+        let mut t = vec![7; n];
+        t[0] = 2;
+        t[1] = 0x82;
+        all.push(session(65_534, payload, 65_536, vec![Call::Transfer(t)]));
+    }
+    let mut t = vec![7; 65_536];
+    t[..2].copy_from_slice(&[2, 0x82]);
+    all.push(session(65_533, 65_536, 65_533, vec![Call::Transfer(t)]));
+    all
+}
+
+/// Frames, runs, strays, idle transfers, gaps and steps.
+fn frames() -> Vec<Case> {
+    let mut all = Vec::new();
+    let idle = || Call::Transfer(vec![]);
+    let bad = || Call::Transfer(vec![2]);
+    let mut add = |calls: Vec<Call>| {
+        all.push(session(8, 32, 12, calls.clone()));
+        let mut closed = calls;
+        closed.push(Call::Close);
+        all.push(session(8, 32, 12, closed));
+    };
+    // The ledger of document 01.
+    add(vec![
+        send(0, &[0xAA, 0xBB]),
+        send(EOF, &[0xCC]),
+        send(EOF, &[0xDD]),
+        send(FID, &[0xEE]),
+        send(0, &[0x11]),
+        Call::Transfer(vec![2]),
+        send(EOF, &[0x22]),
+    ]);
+    add(vec![]);
+    add(vec![send(EOF, &[])]);
+    add(vec![send(0, &[]), send(EOF, &[])]);
+    add(vec![send(0, &[])]);
+    add(vec![send(0, &[]), send(FID, &[])]);
+    add(vec![send(EOF | ERROR, &[])]);
+    add(vec![idle(), send(0, &[1]), idle(), send(EOF, &[2]), idle()]);
+    add(vec![send(0, &[1]), send(FID, &[2]), send(0, &[3]), send(FID | EOF, &[4])]);
+    // Just as long as the frame size, and a byte longer, in one transfer and in several.
+    add(vec![send(EOF, &[1; 8])]);
+    add(vec![send(EOF, &[1; 9])]);
+    add(vec![send(0, &[1; 4]), send(EOF, &[2; 4])]);
+    add(vec![send(0, &[1; 4]), send(EOF, &[2; 5])]);
+    add(vec![send(0, &[1; 8]), send(0, &[]), send(0, &[3]), send(EOF, &[])]);
+    add(vec![send(0, &[1; 9]), send(0, &[2]), send(FID | EOF, &[3; 8])]);
+    // Gaps: before the first frame, between transfers, after EOF, before a stray, before another FID; an idle transfer between.
+    for miss in [Call::Lost, bad()] {
+        add(vec![miss.clone(), send(EOF, &[1])]);
+        add(vec![miss.clone(), idle(), send(EOF, &[1]), send(FID | EOF, &[2])]);
+        add(vec![send(0, &[1]), miss.clone(), send(EOF, &[2])]);
+        add(vec![send(0, &[1]), miss.clone()]);
+        add(vec![send(0, &[1]), miss.clone(), send(FID | EOF, &[2]), send(EOF, &[3])]);
+        add(vec![send(0, &[1]), idle(), miss.clone(), idle(), send(FID | EOF, &[2]), send(EOF, &[3])]);
+        add(vec![send(EOF, &[1]), miss.clone(), send(FID | EOF, &[2])]);
+        add(vec![send(EOF, &[1]), miss.clone(), send(0, &[9]), send(FID | EOF, &[2])]);
+        add(vec![send(EOF, &[1]), send(0, &[9]), miss.clone(), send(FID | EOF, &[2])]);
+        add(vec![send(EOF, &[1]), miss.clone(), send(EOF | ERROR, &[9; 20]), send(FID | EOF, &[2])]);
+        add(vec![send(0, &[1]), send(0, &[2]), miss.clone(), send(0, &[3]), send(EOF, &[4]), send(FID | EOF, &[5])]);
+        add(vec![miss.clone(), miss.clone(), send(0, &[1]), miss.clone(), send(EOF, &[]), miss]);
+    }
+    // Stamps: the first may come late; another is a clock fault; SCR and a stray's stamp are ignored.
+    add(vec![send(0, &[1]), stamped(0, 5, &[2]), stamped(EOF, 5, &[3])]);
+    add(vec![send(0, &[1]), stamped(0, 5, &[2]), stamped(EOF, 6, &[3])]);
+    add(vec![stamped(0, 5, &[1]), send(0, &[2]), send(EOF | SCR, &[3]), stamped(EOF | ERROR, 9, &[4])]);
+    add(vec![stamped(0, 0, &[1]), stamped(EOF, 0, &[2]), stamped(FID | EOF, 0, &[2])]);
+    // Steps between delivered frames, at the edges of 32 bits; a backward frame starts the next step.
+    for (a, b) in [
+        (0xFFFF_FFF0u32, 0x10),
+        (0, 0x7FFF_FFFF),
+        (0, 0x8000_0000),
+        (0x8000_0000, 0),
+        (5, 5),
+        (5, 4),
+        (4, 5),
+        (0x7FFF_FFFF, 0xFFFF_FFFF),
+        (1, 0),
+        (0, 0xFFFF_FFFF),
+    ] {
+        add(vec![stamped(EOF, a, &[1]), stamped(FID | EOF, b, &[2])]);
+        add(vec![stamped(EOF, a, &[1]), send(FID | EOF, &[3]), stamped(EOF, b, &[2]), stamped(FID | EOF, a, &[1]), stamped(EOF, b, &[4])]);
+        add(vec![stamped(EOF, a, &[1]), stamped(FID | EOF | ERROR, 77, &[3]), stamped(EOF, 78, &[]), stamped(FID | EOF, b, &[2])]);
+    }
+    // After close.
+    for after in [Call::Close, Call::Lost, idle(), bad(), send(EOF, &[1]), Call::Transfer(vec![2; 65_537])] {
+        add(vec![send(0, &[1]), Call::Close, after]);
+    }
+    add(vec![Call::Close]);
+    all
+}
+
+/// Every fault in every order of two: in two transfers, in one, and with each way for the frame to end.
+fn fault_pairs() -> Vec<Case> {
+    // What a fault adds to the list: calls that carry it, with one byte of data each where they have any.
+    let faulty = |fault: usize, twice: bool| -> Vec<Call> {
+        let wrong = if twice { 8 } else { 9 };
+        match fault {
+            0 => vec![Call::Lost, send(0, &[5])],
+            1 => vec![Call::Transfer(vec![2]), send(0, &[5])],
+            2 => vec![send(ERROR, &[6])],
+            3 => vec![stamped(0, wrong, &[7])],
+            _ => vec![send(0, &[8; 20])],
+        }
+    };
+    let mut all = Vec::new();
+    for a in 0..5 {
+        for b in 0..5 {
+            for end in 0..3 {
+                let mut calls = vec![stamped(0, 7, &[1, 2])];
+                calls.extend(faulty(a, false));
+                calls.extend(faulty(b, true));
+                match end {
+                    0 => calls.push(send(EOF, &[3])),
+                    1 => calls.push(send(FID | EOF, &[4])),
+                    _ => {}
+                }
+                calls.push(Call::Close);
+                all.push(session(8, 64, 10, calls));
+            }
+        }
+    }
+    // In one transfer: a gap before it, D6, another stamp, too much data, each with and without, with EOF and without, as the frame's first or not.
+    for bits in 0..64u8 {
+        let on = |n: u8| bits >> n & 1 == 1;
+        let mut calls = Vec::new();
+        if on(5) {
+            calls.push(stamped(0, 7, &[1]));
+        }
+        if on(0) {
+            calls.push(Call::Lost);
+        }
+        let flags = if on(1) { ERROR } else { 0 } | if on(4) { EOF } else { 0 };
+        let data = if on(3) { vec![2; 20] } else { vec![3] };
+        calls.push(stamped(flags, if on(2) { 8 } else { 7 }, &data));
+        calls.push(send(FID | EOF, &[9]));
+        calls.push(Call::Close);
+        all.push(session(8, 64, 10, calls));
+    }
+    all
+}
+
+/// The errors that earlier boxes made with transfers; the two with loops stand among the sources.
+fn earlier_boxes() -> Vec<Case> {
+    vec![
+        // Subtracting stamps and clamping at zero.
+        session(8, 32, 8, vec![stamped(EOF, 0xFFFF_FFF0, &[1]), stamped(FID | EOF, 0x10, &[2]), stamped(EOF, 0x08, &[3])]),
+        session(8, 32, 8, vec![stamped(EOF, 100, &[1]), stamped(FID | EOF, 50, &[2]), stamped(EOF, 60, &[3])]),
+        // Joining data after EOF to the next frame because FID is unchanged.
+        session(8, 32, 8, vec![send(0, &[1]), send(EOF, &[2]), send(0, &[3]), send(EOF, &[4]), send(FID, &[5]), send(FID | EOF, &[6])]),
+        // Skipping an unreadable transfer without spoiling its neighbours.
+        session(
+            8,
+            32,
+            8,
+            vec![
+                send(0, &[1]),
+                Call::Transfer(vec![2, 0]),
+                send(EOF, &[2]),
+                Call::Transfer(vec![9, 0x80]),
+                send(FID | EOF, &[3]),
+                send(EOF, &[4]),
+            ],
+        ),
+        session(8, 32, 8, vec![send(0, &[1]), Call::Transfer(vec![1]), send(FID, &[2]), Call::Lost, Call::Close]),
+    ]
+}
+
+/// 45 to 47, and what a refused opening leaves.
+fn openings() -> Vec<Case> {
+    let mut all = Vec::new();
+    for (frame, payload, room) in [
+        (0, 20, 10),
+        (1, 20, 1),
+        (1, 20, 0),
+        (10, 20, 9),
+        (10, 20, 10),
+        (16_777_216, 20, 64),
+        (16_777_217, 20, 64),
+        (u32::MAX, 20, 64),
+        (10, 0, 10),
+        (10, 1, 10),
+        (10, 2, 10),
+        (10, 65_536, 10),
+        (10, 65_537, 10),
+        (0, 0, 0),
+        (10, 0, 9),
+        (70_000, 65_536, 70_000),
+        (70_001, 65_536, 70_000),
+    ] {
+        let calls =
+            vec![send(0, &[]), send(0, &[1, 2]), Call::Lost, Call::Transfer(vec![]), Call::Close, Call::Close, Call::Transfer(vec![0; 70])];
+        all.push(session(frame, payload, room, calls));
+    }
+    all
+}

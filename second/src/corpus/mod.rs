@@ -1,0 +1,104 @@
+//! The stored cases: chosen ones for every number, fate, fault and edge, then random ones from a fixed seed.
+
+mod blocks;
+mod calls;
+mod documents;
+mod records;
+mod streams;
+
+use crate::blocks::descriptor;
+use crate::cases::Case;
+use crate::compare::expected;
+use crate::random::{self, Random};
+use std::collections::BTreeSet;
+
+/// With the chosen cases, so many are stored.
+const CASES: usize = 2_400;
+
+/// The seed of the random ones.
+const SEED: u64 = 15;
+
+/// The lists of calls among them are this long.
+const CALLS: usize = 24;
+
+pub fn write(stdin: &str, stdout: &str) -> Result<(), String> {
+    let mut cases = chosen();
+    let mut r = Random(SEED);
+    while cases.len() < CASES {
+        let case = random::case(&mut r, CALLS);
+        if case.bytes().len() < 4_000 {
+            cases.push(case);
+        }
+    }
+    let wanted = expected(&cases);
+    covered(&wanted)?;
+    let input: Vec<u8> = cases.iter().flat_map(Case::bytes).collect();
+    std::fs::write(stdin, input).map_err(|e| format!("{stdin}: {e}"))?;
+    std::fs::write(stdout, wanted.concat()).map_err(|e| format!("{stdout}: {e}"))
+}
+
+/// Fails unless every number and every fate of document 01 occurs in the answers.
+fn covered(answers: &[String]) -> Result<(), String> {
+    let mut seen: BTreeSet<String> = BTreeSet::new();
+    for line in answers.iter().flat_map(|a| a.lines()) {
+        let words: Vec<&str> = line.split(' ').collect();
+        for pair in words.windows(2) {
+            if ["refused", "unreadable", "ended", "closed", "fate", "dropped"].contains(&pair[0]) {
+                seen.insert(pair.join(" "));
+            }
+            if pair[1] == "accepted" {
+                seen.insert(pair.join(" "));
+            }
+        }
+    }
+    let numbers = (1..=16).chain(20..=38).chain(41..=47).chain(50..=53).chain([55]);
+    let mut wanted: Vec<String> = numbers.map(|n| format!("refused {n}")).collect();
+    wanted.extend((61..=66).map(|n| format!("unreadable {n}")));
+    wanted.extend(["idle", "kept", "stray", "delivered", "dropped", "unreadable"].map(|f| format!("fate {f}")));
+    wanted.extend(["gap", "error", "clock", "long", "empty"].map(|f| format!("dropped {f}")));
+    wanted.extend(["none", "gap", "error", "clock", "long", "cut"].map(|f| format!("ended {f}")));
+    wanted.extend(["none", "gap", "error", "clock", "long", "cut"].map(|f| format!("closed {f}")));
+    wanted.extend(["control", "streaming", "check", "probe", "write"].map(|f| format!("{f} accepted")));
+    let missing: Vec<String> = wanted.into_iter().filter(|w| !seen.contains(w)).collect();
+    if missing.is_empty() {
+        Ok(())
+    } else {
+        Err(format!("the stored cases never give: {}", missing.join(", ")))
+    }
+}
+
+fn chosen() -> Vec<Case> {
+    let mut all = blocks::all();
+    all.extend(streams::all());
+    all.extend(documents::all());
+    all.extend(calls::all());
+    all.extend(records::all());
+    all
+}
+
+/// The block with one byte changed.
+fn with(block: &[u8], at: usize, value: u8) -> Vec<u8> {
+    let mut b = block.to_vec();
+    b[at] = value;
+    b
+}
+
+/// Unknown descriptors of so many bytes in all.
+fn filler(bytes: usize) -> Vec<Vec<u8>> {
+    let mut all = Vec::new();
+    let mut left = bytes;
+    while left > 0 {
+        let n = if left > 258 {
+            255
+        } else if left > 255 {
+            left - 3
+        } else {
+            left
+        };
+        all.push(descriptor(0x30, &vec![0x11; n - 3]));
+        left -= n;
+    }
+    all
+}
+
+const CLOCK: u32 = 48_000_000;

@@ -1,0 +1,238 @@
+//! Streaming and probe blocks: 20 to 46.
+
+use super::{filler, with, CLOCK};
+use crate::blocks::*;
+use crate::cases::Case;
+use crate::streaming::Place;
+
+pub fn all() -> Vec<Case> {
+    let mut all = streaming_cases();
+    all.extend(hostile_tables());
+    all.extend(probes());
+    all
+}
+
+fn table_block() -> Vec<u8> {
+    control(CLOCK, &[1], &[camera(1, [1, 2, 3]), output(9, 0x0101, 1), output(8, 0x0301, 1), output(7, 0x0101, 1)])
+}
+
+fn picture(subtype: u8, index: u8) -> Vec<u8> {
+    frame(subtype, index, 640, 480, 614_400, 333_333, 1, &[333_333])
+}
+
+/// 21 to 38.
+fn streaming_cases() -> Vec<Case> {
+    let mut blocks: Vec<Vec<u8>> = Vec::new();
+    let none = streaming(0, 0x81, 9, 0, &[]);
+    let good = streaming(
+        2,
+        0x82,
+        9,
+        1,
+        &[
+            uncompressed(1, 2, &YUY2, 16, 2),
+            picture(5, 1),
+            frame(5, 2, 1280, 720, 1_843_200, 500_000, 0, &[333_333, 1_000_000, 166_667 - 100_000]),
+            descriptor(0x0D, &[1, 1, 4]),
+            mjpeg(2, 1, 1),
+            descriptor(3, &[0, 1, 2]),
+            frame(7, 1, 640, 480, 614_400, 500_000, 3, &[333_333, 500_000, 1_000_000]),
+            descriptor(0x0D, &[1, 1, 4]),
+        ],
+    );
+    blocks.extend((0..=13).map(|n| none[..n].to_vec()));
+    blocks.push(good.clone());
+    for bytes in [16_370, 16_371, 16_372] {
+        blocks.push(streaming(0, 0x81, 9, 0, &filler(bytes)));
+    }
+    blocks.push(vec![13; 16_500]);
+    blocks.extend([with(&none, 1, 0x25), with(&none, 2, 2), with(&none, 2, 0), with(&none, 4, 12), with(&none, 5, 1)]);
+    blocks.extend([with(&none, 0, 0), with(&none, 0, 2), with(&none, 0, 14), with(&none, 0, 12), with(&none, 0, 3)]);
+    // 25 to 27: what may not come after the header, and what is stepped over.
+    for rest in [vec![3], vec![3, 0x24], vec![0, 0x24, 3], vec![2, 0x24, 3], vec![3, 0x24, 3], vec![4, 0x24, 3], vec![3, 0x25, 3]] {
+        blocks.push(streaming(0, 0x81, 9, 0, &[rest]));
+    }
+    blocks.push(streaming(0, 0x81, 9, 0, &[none.clone()]));
+    for subtype in 0..=0x1A {
+        blocks.push(streaming(0, 0x81, 9, 0, &[descriptor(subtype, &[1, 0, 0, 0, 0, 0, 0, 0])]));
+    }
+    blocks.push(streaming(0, 0x81, 9, 0, &[descriptor(0xFF, &[])]));
+    // 28: lengths around the right ones.
+    for (subtype, right) in [(1u8, 13usize), (4, 27), (6, 11), (5, 30), (7, 38)] {
+        let format = if subtype == 5 { uncompressed(1, 1, &NV12, 12, 1) } else { mjpeg(1, 1, 1) };
+        let d = match subtype {
+            4 => uncompressed(1, 1, &NV12, 12, 1),
+            6 => mjpeg(1, 1, 1),
+            5 => picture(5, 1),
+            _ => frame(7, 1, 1, 1, 1, 10, 0, &[10, 20, 5]),
+        };
+        for n in [3, 4, right - 2, right - 1, right, right + 1, 25, 26] {
+            let mut other = d.clone();
+            other.resize(n, 0);
+            other[0] = n as u8;
+            let all = match subtype {
+                5 | 7 => vec![format.clone(), other],
+                1 => vec![],
+                _ => vec![other],
+            };
+            blocks.push(if subtype == 1 {
+                with(&streaming(1, 0x81, 9, 0, &[mjpeg(1, 1, 1), picture(7, 1)]), 0, n as u8)
+            } else {
+                streaming(1, 0x81, 9, 0, &all)
+            });
+        }
+    }
+    for n in [0u8, 1, 2, 30] {
+        let all = [mjpeg(1, 1, 1), picture(7, 1)];
+        blocks.push(streaming(1, 0x81, 9, n, &all));
+        blocks.push(with(&streaming(1, 0x81, 9, n, &all), 12, n + 1));
+    }
+    // 29 and 30.
+    blocks.extend([streaming(0, 0x01, 9, 0, &[]), streaming(0, 0x7F, 1, 0, &[]), streaming(0, 0xFF, 9, 0, &[])]);
+    blocks.extend([0, 1, 2, 7, 8, 9, 255].map(|link| streaming(0, 0x81, link, 0, &[])));
+    // 31 to 33.
+    for index in [0, 2, 255] {
+        blocks.push(streaming(1, 0x81, 9, 0, &[mjpeg(index, 1, 1), picture(7, 1)]));
+        blocks.push(streaming(1, 0x81, 9, 0, &[mjpeg(1, 1, 1), picture(7, index)]));
+        blocks.push(streaming(2, 0x81, 9, 0, &[mjpeg(1, 1, 1), picture(7, 1), uncompressed(index, 1, &YUY2, 16, 1), picture(5, 1)]));
+    }
+    blocks.push(streaming(0, 0x81, 9, 0, &[picture(7, 1)]));
+    blocks.push(streaming(1, 0x81, 9, 0, &[mjpeg(1, 1, 1), picture(5, 1)]));
+    blocks.push(streaming(1, 0x81, 9, 0, &[uncompressed(1, 1, &YUY2, 16, 1), picture(7, 1)]));
+    blocks.push(streaming(2, 0x81, 9, 0, &[mjpeg(1, 2, 1), picture(7, 1), uncompressed(2, 1, &YUY2, 16, 1), picture(7, 2)]));
+    blocks.push(streaming(2, 0x81, 9, 0, &[mjpeg(1, 1, 1), picture(7, 1), mjpeg(2, 1, 1), picture(7, 2)]));
+    // 34: lists, ranges and their defaults.
+    for (default, list) in [
+        (1, vec![1]),
+        (0, vec![0]),
+        (0, vec![0, 1]),
+        (2, vec![1]),
+        (1, vec![1, 1]),
+        (1, vec![2, 1]),
+        (u32::MAX, vec![1, u32::MAX]),
+        (3, vec![1, 2, 3]),
+        (3, vec![1, 3, 2]),
+        (5, (1..=57).collect()),
+    ] {
+        blocks.push(streaming(1, 0x81, 9, 0, &[mjpeg(1, 1, 1), frame(7, 1, 1, 2, 3, default, list.len() as u8, &list)]));
+    }
+    for (default, shortest, longest, step) in [
+        (10, 10, 10, 1),
+        (10, 10, 10, 0),
+        (10, 11, 10, 1),
+        (10, 10, 9, 1),
+        (0, 0, 10, 1),
+        (5, 0, 10, 5),
+        (9, 10, 20, 1),
+        (21, 10, 20, 1),
+        (20, 10, 20, 5),
+        (15, 10, 19, 5),
+        (16, 10, 20, 5),
+        (5, 10, 20, 5),
+        (4, 10, u32::MAX, u32::MAX - 5),
+        (u32::MAX, 1, u32::MAX, 2),
+        (u32::MAX, 1, u32::MAX, u32::MAX - 1),
+        (u32::MAX, 1, u32::MAX, u32::MAX),
+        (10, 10, 20, u32::MAX),
+    ] {
+        blocks.push(streaming(1, 0x81, 9, 0, &[mjpeg(1, 1, 1), frame(7, 1, 1, 2, 3, default, 0, &[shortest, longest, step])]));
+    }
+    // 35: the edges of 8 formats and 64 frames.
+    for n in 7..=9u8 {
+        let all: Vec<Vec<u8>> = (1..=n).flat_map(|i| [mjpeg(i, 1, 1), picture(7, 1)]).collect();
+        blocks.push(streaming(n, 0x81, 9, 0, &all));
+    }
+    for n in 63..=65u8 {
+        let mut all = vec![mjpeg(1, n, 1)];
+        all.extend((1..=n).map(|i| picture(7, i)));
+        blocks.push(streaming(1, 0x81, 9, 0, &all));
+        // The 65th counts over the whole block.
+        let mut two = vec![mjpeg(1, 40, 1)];
+        two.extend((1..=40).map(|i| picture(7, i)));
+        two.push(uncompressed(2, n - 40, &NV12, 12, 1));
+        two.extend((1..=n - 40).map(|i| picture(5, i)));
+        blocks.push(streaming(2, 0x81, 9, 0, &two));
+    }
+    // 36 to 38.
+    for (count, default, p) in [(2, 1, 1), (0, 1, 1), (1, 0, 1), (1, 2, 1), (1, 1, 0), (1, 1, 2), (2, 0, 2), (1, 0, 2)] {
+        blocks.push(streaming(p, 0x81, 9, 0, &[mjpeg(1, count, default), picture(7, 1)]));
+    }
+    blocks.push(streaming(1, 0x81, 9, 0, &[mjpeg(1, 0, 0)]));
+    blocks.push(streaming(1, 0x81, 9, 0, &[mjpeg(1, 0, 1)]));
+    blocks.push(streaming(2, 0x81, 9, 0, &[mjpeg(1, 1, 0), picture(7, 1), uncompressed(2, 2, &YUY2, 16, 1), picture(5, 1)]));
+    blocks.push(streaming(1, 0x81, 9, 0, &[]));
+    // GUIDs that differ in one byte.
+    for at in 0..16 {
+        let mut guid = if at % 2 == 0 { YUY2 } else { NV12 };
+        guid[at] ^= 0x20;
+        blocks.push(streaming(1, 0x81, 9, 0, &[uncompressed(1, 1, &guid, 24, 1), picture(5, 1)]));
+    }
+    let mut all: Vec<Case> = blocks.into_iter().map(|b| Case::Streaming(table_block(), b)).collect();
+    // Against a control block that is refused, which has no table.
+    all.push(Case::Streaming(with(&table_block(), 5, 0), good.clone()));
+    all.push(Case::Streaming(vec![], none));
+    all
+}
+
+/// 20 and 30 on tables that no block gave.
+fn hostile_tables() -> Vec<Case> {
+    let output = |id| Place { id, kind: 3, terminal: 0x0101, offset: 0 };
+    let other = |id| Place { id, kind: 2, terminal: 0x0101, offset: 0 };
+    let none = || Place { id: 0, kind: 0, terminal: 0, offset: 0 };
+    let block = |link| streaming(1, 0x81, link, 0, &[mjpeg(1, 1, 1), picture(7, 1)]);
+    let mut all = Vec::new();
+    for count in [0, 1, 31, 32, 33, 40] {
+        all.push(Case::Hostile(count, (0..32).map(|_| output(9)).collect(), block(9)));
+        all.push(Case::Hostile(count, (1..=32).map(output).collect(), block(32)));
+        all.push(Case::Hostile(count, (0..32).map(|_| none()).collect(), block(0)));
+        all.push(Case::Hostile(count, (0..32).map(|i| if i == 0 { output(0) } else { none() }).collect(), block(0)));
+        // The first used place decides, even where a later one would do.
+        all.push(Case::Hostile(count, (0..32).map(|i| if i == 0 { other(9) } else { output(9) }).collect(), block(9)));
+        all.push(Case::Hostile(count, (0..32).map(|i| if i == 31 { output(9) } else { other(1) }).collect(), block(9)));
+        all.push(Case::Hostile(count, (0..32).map(|_| output(9)).collect(), vec![]));
+    }
+    all
+}
+
+/// 41 to 46.
+fn probes() -> Vec<Case> {
+    let block = streaming(
+        2,
+        0x81,
+        9,
+        0,
+        &[
+            uncompressed(1, 2, &YUY2, 16, 1),
+            frame(5, 1, 1, 1, 1, 20, 0, &[10, 30, 5]),
+            picture(5, 2),
+            mjpeg(2, 1, 1),
+            frame(7, 1, 1, 1, 1, 100, 3, &[100, 200, 300]),
+        ],
+    );
+    let mut all = Vec::new();
+    let mut check = |p: Vec<u8>| all.push(Case::Check(table_block(), block.clone(), p));
+    for (format, number) in [(0, 1), (1, 0), (1, 1), (1, 2), (1, 3), (2, 1), (2, 2), (3, 1), (255, 255)] {
+        for interval in [0, 9, 10, 12, 15, 30, 31, 35, 100, 200, 250, 300, 333_333, u32::MAX] {
+            check(probe(format, number, interval, 1_000, 1_000));
+        }
+    }
+    for frame_size in [0, 1, 16_777_215, 16_777_216, 16_777_217, u32::MAX] {
+        for payload_size in [0, 1, 2, 3, 65_535, 65_536, 65_537, u32::MAX] {
+            check(probe(1, 1, 10, frame_size, payload_size));
+        }
+    }
+    for n in [0, 1, 26, 34, 47, 49, 64] {
+        check(vec![1; n]);
+    }
+    // 41 comes before the block's own refusal, and that before 42.
+    all.push(Case::Check(table_block(), vec![], vec![1; 47]));
+    all.push(Case::Check(table_block(), with(&block, 6, 0), probe(9, 9, 0, 0, 0)));
+    all.push(Case::Check(vec![], block.clone(), probe(1, 1, 10, 5, 5)));
+    all.push(Case::Check(table_block(), streaming(0, 0x81, 9, 0, &[]), probe(1, 1, 10, 5, 5)));
+    for n in [0, 47, 48, 49, 64] {
+        for m in [0, 47, 48, 49, 64] {
+            all.push(Case::Write((1..=n).collect(), vec![0xCC; m]));
+        }
+    }
+    all
+}

@@ -1,0 +1,298 @@
+//! The frame rule from the whole list: at every call the list of calls taken is judged anew from its beginning.
+
+#[derive(Clone, Debug, PartialEq)]
+pub enum Call {
+    Transfer(Vec<u8>),
+    Lost,
+    Close,
+}
+
+#[derive(Clone, Copy, Debug, PartialEq, Eq)]
+pub enum Reason {
+    Gap,
+    Error,
+    Clock,
+    Long,
+    Cut,
+    Empty,
+}
+
+#[derive(Clone, Debug, PartialEq)]
+pub enum Sort {
+    Idle,
+    Unreadable(u8),
+    Readable { fid: bool, eof: bool, error: bool, stamp: Option<u32>, header: usize },
+}
+
+pub fn sort(t: &[u8], payload: usize) -> Sort {
+    match t.len() {
+        0 => return Sort::Idle,
+        1 => return Sort::Unreadable(61),
+        n if n > payload => return Sort::Unreadable(62),
+        _ => {}
+    }
+    let bit = |n: u32| t[1] >> n & 1 == 1;
+    let header = t[0] as usize;
+    if header < 2 {
+        return Sort::Unreadable(63);
+    }
+    if header > t.len() {
+        return Sort::Unreadable(64);
+    }
+    let need = 2 + if bit(2) { 4 } else { 0 } + if bit(3) { 6 } else { 0 };
+    if header < need {
+        return Sort::Unreadable(65);
+    }
+    if !bit(7) {
+        return Sort::Unreadable(66);
+    }
+    let stamp = if bit(2) { Some(u32::from_le_bytes([t[2], t[3], t[4], t[5]])) } else { None };
+    Sort::Readable { fid: bit(0), eof: bit(1), error: bit(6), stamp, header }
+}
+
+/// A readable transfer, by its place in the list.
+struct Piece {
+    place: usize,
+    fid: bool,
+    eof: bool,
+    error: bool,
+    stamp: Option<u32>,
+    data: usize,
+    /// An unreadable or lost transfer comes straight before, or straight after, with no readable one between.
+    before: bool,
+    after: bool,
+}
+
+#[derive(Clone, Copy, Debug, PartialEq)]
+pub enum Becomes {
+    Delivered(Option<u32>),
+    Dropped(Reason),
+    UnderWay,
+}
+
+/// One frame of the list: the places of its transfers, what became of it and how much data it has.
+#[derive(Clone, Debug, PartialEq)]
+pub struct Judged {
+    pub places: Vec<usize>,
+    pub becomes: Becomes,
+    pub bytes: usize,
+    /// How many of its transfers, from the first, come before any fault (their data is written).
+    pub written: usize,
+}
+
+#[derive(Clone, Debug, Default)]
+pub struct Verdict {
+    pub frames: Vec<Judged>,
+    pub strays: Vec<usize>,
+    pub unreadable: Vec<usize>,
+    pub headers: Vec<usize>,
+    pub idle: u64,
+    pub lost: u64,
+}
+
+pub fn judge(calls: &[Call], frame_size: usize, payload: usize) -> Verdict {
+    let mut v = Verdict::default();
+    let mut pieces: Vec<Piece> = Vec::new();
+    let mut spoilt = false;
+    let mut closed = false;
+    for (place, call) in calls.iter().enumerate() {
+        let missing = match call {
+            Call::Close => {
+                closed = true;
+                false
+            }
+            Call::Lost => {
+                v.lost += 1;
+                true
+            }
+            Call::Transfer(t) => match sort(t, payload) {
+                Sort::Idle => {
+                    v.idle += 1;
+                    false
+                }
+                Sort::Unreadable(_) => {
+                    v.unreadable.push(t.len());
+                    true
+                }
+                Sort::Readable { fid, eof, error, stamp, header } => {
+                    v.headers.push(header);
+                    let data = t.len() - header;
+                    pieces.push(Piece { place, fid, eof, error, stamp, data, before: spoilt, after: false });
+                    spoilt = false;
+                    false
+                }
+            },
+        };
+        if missing {
+            spoilt = true;
+            if let Some(p) = pieces.last_mut() {
+                p.after = true;
+            }
+        }
+    }
+    let mut runs: Vec<Vec<Piece>> = Vec::new();
+    for p in pieces {
+        match runs.last_mut() {
+            Some(run) if run[0].fid == p.fid => run.push(p),
+            _ => runs.push(vec![p]),
+        }
+    }
+    let last = runs.len();
+    for (i, run) in runs.iter().enumerate() {
+        let end = run.iter().position(|p| p.eof).map_or(run.len(), |e| e + 1);
+        let (frame, stray) = run.split_at(end);
+        v.frames.push(one(frame, frame_size, i + 1 < last || closed));
+        v.strays.extend(stray.iter().map(|p| p.data));
+    }
+    v
+}
+
+fn one(frame: &[Piece], frame_size: usize, over: bool) -> Judged {
+    let first_stamp = frame.iter().find_map(|p| p.stamp);
+    // Faults with how many transfers come before them, in the order of their moments:
+    // before the first transfer, then at each transfer, then straight after it.
+    let mut faults: Vec<(usize, Reason)> = Vec::new();
+    let mut size = 0;
+    if frame[0].before {
+        faults.push((0, Reason::Gap));
+    }
+    for (i, p) in frame.iter().enumerate() {
+        size += p.data;
+        if p.error {
+            faults.push((i, Reason::Error));
+        }
+        if p.stamp.is_some() && p.stamp != first_stamp {
+            faults.push((i, Reason::Clock));
+        }
+        if size > frame_size {
+            faults.push((i, Reason::Long));
+        }
+        if p.after && !p.eof {
+            faults.push((i + 1, Reason::Gap));
+        }
+    }
+    let complete = frame.last().unwrap().eof;
+    let fault = faults.first().copied();
+    let becomes = match (complete, fault) {
+        (true, Some((_, r))) => Becomes::Dropped(r),
+        (true, None) if size == 0 => Becomes::Dropped(Reason::Empty),
+        (true, None) => Becomes::Delivered(first_stamp),
+        (false, _) if !over => Becomes::UnderWay,
+        (false, Some((_, r))) => Becomes::Dropped(r),
+        (false, None) => Becomes::Dropped(Reason::Cut),
+    };
+    Judged { places: frame.iter().map(|p| p.place).collect(), becomes, bytes: size, written: fault.map_or(frame.len(), |(i, _)| i) }
+}
+
+/// The ledger's numbers in the order of print.
+pub fn ledger(v: &Verdict) -> Vec<u64> {
+    let mut accounts = [(0u64, 0u64); 11];
+    let mut add = |k: usize, n: usize| {
+        accounts[k].0 += 1;
+        accounts[k].1 += n as u64;
+    };
+    let mut stamps = Vec::new();
+    let mut untimed = 0;
+    for f in &v.frames {
+        match f.becomes {
+            Becomes::Delivered(stamp) => {
+                add(0, f.bytes);
+                match stamp {
+                    Some(s) => stamps.push(s),
+                    None => untimed += 1,
+                }
+            }
+            Becomes::Dropped(r) => add(reason_number(r), f.bytes),
+            Becomes::UnderWay => add(7, f.bytes),
+        }
+    }
+    v.strays.iter().for_each(|&n| add(8, n));
+    v.unreadable.iter().for_each(|&n| add(9, n));
+    v.headers.iter().for_each(|&n| add(10, n));
+    let steps: Vec<i64> = stamps.windows(2).map(|w| step(w[0], w[1])).collect();
+    let ticks: i64 = steps.iter().filter(|&&s| s >= 0).sum();
+    let backward = steps.iter().filter(|&&s| s < 0).count() as u64;
+    let mut numbers: Vec<u64> = accounts.iter().flat_map(|&(c, b)| [c, b]).collect();
+    numbers.extend([v.lost, v.idle, ticks as u64, backward, untimed]);
+    numbers
+}
+
+/// Later minus earlier modulo 2^32, read as signed from -2^31 to 2^31 - 1.
+fn step(earlier: u32, later: u32) -> i64 {
+    let n = (i64::from(later) - i64::from(earlier)).rem_euclid(1 << 32);
+    if n < 1 << 31 {
+        n
+    } else {
+        n - (1 << 32)
+    }
+}
+
+pub fn reason_number(r: Reason) -> usize {
+    match r {
+        Reason::Gap => 1,
+        Reason::Error => 2,
+        Reason::Clock => 3,
+        Reason::Long => 4,
+        Reason::Cut => 5,
+        Reason::Empty => 6,
+    }
+}
+
+pub fn reason_name(r: Reason) -> &'static str {
+    ["", "gap", "error", "clock", "long", "cut", "empty"][reason_number(r)]
+}
+
+/// What the last call of a list answers, from what the list came to without it and with it:
+/// the reason of the frame that it ended, and, for a transfer, its own fate.
+pub fn answer(calls: &[Call], old: &Verdict, new: &Verdict, payload: usize) -> (Option<Reason>, String) {
+    let place = calls.len() - 1;
+    let ended = match old.frames.last() {
+        Some(f) if f.becomes == Becomes::UnderWay => {
+            let now = &new.frames[old.frames.len() - 1];
+            match now.becomes {
+                Becomes::Dropped(r) if !now.places.contains(&place) => Some(r),
+                _ => None,
+            }
+        }
+        _ => None,
+    };
+    let fate = match &calls[place] {
+        Call::Close | Call::Lost => String::new(),
+        Call::Transfer(t) => match sort(t, payload) {
+            Sort::Idle => "idle".into(),
+            Sort::Unreadable(k) => format!("unreadable {k}"),
+            Sort::Readable { .. } => {
+                let last = new.frames.last().unwrap();
+                if !last.places.contains(&place) {
+                    "stray".into()
+                } else {
+                    match last.becomes {
+                        Becomes::UnderWay => "kept".into(),
+                        Becomes::Dropped(r) => format!("dropped {}", reason_name(r)),
+                        Becomes::Delivered(None) => format!("delivered {} -", last.bytes),
+                        Becomes::Delivered(Some(s)) => format!("delivered {} {s}", last.bytes),
+                    }
+                }
+            }
+        },
+    };
+    (ended, fate)
+}
+
+fn data(call: &Call) -> &[u8] {
+    match call {
+        Call::Transfer(t) => &t[t[0] as usize..],
+        _ => &[],
+    }
+}
+
+/// Where the last call of a list writes, and what: the data of a transfer whose frame has no fault up to and with it.
+pub fn written<'a>(calls: &'a [Call], new: &Verdict) -> Option<(usize, &'a [u8])> {
+    let frame = new.frames.last()?;
+    let i = frame.places.iter().position(|&p| p + 1 == calls.len())?;
+    if i >= frame.written {
+        return None;
+    }
+    let at = frame.places[..i].iter().map(|&p| data(&calls[p]).len()).sum();
+    Some((at, data(&calls[calls.len() - 1])))
+}

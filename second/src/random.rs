@@ -1,0 +1,534 @@
+//! Random cases: well-formed ones, and the same with damage.
+
+use crate::blocks::{self, CONTROL_TOTAL, STREAMING_TOTAL};
+use crate::cases::{Case, Phase, Record};
+use crate::frames::Call;
+use crate::streaming::Place;
+
+/// splitmix64.
+pub struct Random(pub u64);
+
+impl Random {
+    pub fn next(&mut self) -> u64 {
+        self.0 = self.0.wrapping_add(0x9E37_79B9_7F4A_7C15);
+        let mut z = self.0;
+        z = (z ^ (z >> 30)).wrapping_mul(0xBF58_476D_1CE4_E5B9);
+        z = (z ^ (z >> 27)).wrapping_mul(0x94D0_49BB_1331_11EB);
+        z ^ (z >> 31)
+    }
+
+    pub fn below(&mut self, n: usize) -> usize {
+        (self.next() % n as u64) as usize
+    }
+
+    pub fn byte(&mut self) -> u8 {
+        self.next() as u8
+    }
+
+    /// Once in n times.
+    pub fn once_in(&mut self, n: usize) -> bool {
+        self.below(n) == 0
+    }
+
+    pub fn pick<T: Clone>(&mut self, all: &[T]) -> T {
+        all[self.below(all.len())].clone()
+    }
+
+    fn shuffle<T>(&mut self, all: &mut [T]) {
+        for i in (1..all.len()).rev() {
+            let j = self.below(i + 1);
+            all.swap(i, j);
+        }
+    }
+
+    fn bytes(&mut self, n: usize) -> Vec<u8> {
+        (0..n).map(|_| self.byte()).collect()
+    }
+}
+
+/// Changes a block in one to three ways; the total length is often set right again, so that what lies deeper is met.
+fn damage(r: &mut Random, block: &mut Vec<u8>, total_at: usize) {
+    for _ in 0..1 + r.below(3) {
+        if block.is_empty() {
+            return;
+        }
+        let at = r.below(block.len());
+        match r.below(8) {
+            0 | 1 => block[at] = r.byte(),
+            2 => block[at] = block[at].wrapping_add(r.pick(&[1, 255])),
+            3 => block[at] = r.pick(&[0, 1, 2, 3, 5, 6, 7, 0x0A, 0x0D, 0x10, 0x24, 0xFF]),
+            4 => block.truncate(at),
+            5 => {
+                let more = 1 + r.below(12);
+                let bytes = r.bytes(more);
+                block.extend(bytes);
+            }
+            6 => {
+                block.remove(at);
+            }
+            _ => block.insert(at, r.byte()),
+        }
+        if !r.once_in(4) {
+            blocks::total(block, total_at);
+        }
+    }
+}
+
+fn unknown(r: &mut Random) -> Vec<u8> {
+    let subtype = 8 + r.below(248) as u8;
+    let n = r.below(9);
+    let rest = r.bytes(n);
+    blocks::descriptor(subtype, &rest)
+}
+
+/// A control block: units draw on what was made before them, so that chains end; then now and then anything.
+pub fn control(r: &mut Random) -> Vec<u8> {
+    let n = match r.below(12) {
+        0 => 30 + r.below(4),
+        1 => 0,
+        _ => 1 + r.below(8),
+    };
+    let mut ids: Vec<u8> = if r.once_in(3) { (1..=255).collect() } else { (1..=40).collect() };
+    if r.once_in(3) {
+        r.shuffle(&mut ids);
+    }
+    let wild = r.once_in(4);
+    let mut made: Vec<u8> = Vec::new();
+    let mut all: Vec<Vec<u8>> = Vec::new();
+    for i in 0..n {
+        let id = if r.once_in(60) { r.pick(&[0, ids[0]]) } else { ids[i] };
+        let source = |r: &mut Random| {
+            if made.is_empty() || (wild && r.once_in(4)) {
+                if r.once_in(6) {
+                    r.byte()
+                } else {
+                    ids[r.below(n)]
+                }
+            } else {
+                r.pick(&made)
+            }
+        };
+        let kind = if i == 0 { 2 } else { r.below(8) };
+        let pins = |r: &mut Random| match r.below(20) {
+            0 => r.pick(&[0, 16, 17]),
+            _ => 1 + r.below(4),
+        };
+        let d = match kind {
+            0 | 3 => {
+                let from = source(r);
+                let terminal = r.pick(&[0x0101, 0x0101, 0x0101, 0x0301, 0x0100]);
+                blocks::output(id, terminal, from)
+            }
+            1 | 2 if r.once_in(2) => {
+                let controls = [r.byte(), r.byte(), r.byte()];
+                blocks::camera(id, controls)
+            }
+            1 | 2 => {
+                let k = r.below(5);
+                let more = r.bytes(k);
+                blocks::input(id, r.pick(&[0x0401, 0x0200, 0x0202]), &more)
+            }
+            4 => {
+                let sources: Vec<u8> = (0..pins(r)).map(|_| source(r)).collect();
+                blocks::selector(id, &sources)
+            }
+            5 => {
+                let controls = [r.byte(), r.byte(), r.byte()];
+                blocks::processing(id, source(r), controls)
+            }
+            6 => {
+                let sources: Vec<u8> = (0..pins(r)).map(|_| source(r)).collect();
+                let k = r.below(4);
+                let controls = r.bytes(k);
+                blocks::extension(id, &sources, &controls)
+            }
+            _ => blocks::encoding(id, source(r)),
+        };
+        if kind != 0 && kind != 3 {
+            made.push(id);
+        }
+        all.push(d);
+        if r.once_in(8) {
+            all.push(unknown(r));
+        }
+    }
+    if r.once_in(3) {
+        r.shuffle(&mut all);
+    }
+    let k = r.below(4);
+    let interfaces = r.bytes(k);
+    blocks::control(r.next() as u32, &interfaces, &all)
+}
+
+fn maybe_damaged_control(r: &mut Random) -> Vec<u8> {
+    let mut block = control(r);
+    if r.once_in(2) {
+        damage(r, &mut block, CONTROL_TOTAL);
+    }
+    block
+}
+
+/// A control block whose output terminal with ID 9 is one that a streaming block can name.
+fn linked_control(r: &mut Random) -> Vec<u8> {
+    if r.once_in(12) {
+        return maybe_damaged_control(r);
+    }
+    let terminal = if r.once_in(20) { 0x0301 } else { 0x0101 };
+    let controls = [r.byte(), r.byte(), r.byte()];
+    let mut all = vec![blocks::camera(1, controls), blocks::processing(2, 1, controls), blocks::output(9, terminal, 2)];
+    r.shuffle(&mut all);
+    blocks::control(27_000_000, &[1], &all)
+}
+
+fn interval(r: &mut Random) -> u32 {
+    match r.below(6) {
+        0 => r.next() as u32,
+        1 => r.pick(&[0, 1, u32::MAX, u32::MAX - 1]),
+        _ => 1 + r.below(1_000_000) as u32,
+    }
+}
+
+fn frame(r: &mut Random, subtype: u8, index: u8, offered: &mut Vec<u32>) -> Vec<u8> {
+    let (width, height, size) = (r.next() as u16, r.next() as u16, r.next() as u32);
+    if r.once_in(3) {
+        let shortest = if r.once_in(30) { 0 } else { interval(r) };
+        let step = match r.below(20) {
+            0 => 0,
+            1 => interval(r),
+            _ => 1 + r.below(1000) as u32,
+        };
+        let times = r.below(50) as u32;
+        let longest =
+            if r.once_in(12) { interval(r) } else { shortest.saturating_add(step.saturating_mul(times)).saturating_add(r.below(3) as u32) };
+        let default =
+            if r.once_in(15) { interval(r) } else { shortest.wrapping_add(step.wrapping_mul(r.below(times as usize + 1) as u32)) };
+        offered.extend([default, shortest, longest]);
+        return blocks::frame(subtype, index, width, height, size, default, 0, &[shortest, longest, step]);
+    }
+    let k = if r.once_in(40) { 57 } else { 1 + r.below(5) };
+    let mut list: Vec<u32> = (0..k).map(|_| interval(r)).collect();
+    if !r.once_in(20) {
+        list.sort_unstable();
+        list.dedup();
+        list.retain(|&x| x != 0);
+    }
+    if list.is_empty() {
+        list.push(333_333);
+    }
+    let default = if r.once_in(15) { interval(r) } else { r.pick(&list) };
+    offered.push(default);
+    offered.extend(&list);
+    blocks::frame(subtype, index, width, height, size, default, list.len() as u8, &list)
+}
+
+/// A streaming block, and intervals that its frames may offer.
+pub fn streaming(r: &mut Random) -> (Vec<u8>, Vec<u32>) {
+    let formats = match r.below(20) {
+        0 => r.pick(&[7, 8, 9]),
+        1 => 0,
+        _ => 1 + r.below(3),
+    };
+    let mut offered = vec![0, 333_333];
+    let mut all: Vec<Vec<u8>> = Vec::new();
+    for number in 1..=formats {
+        let frames = if r.once_in(25) { r.pick(&[32, 64, 65]) } else { 1 + r.below(4) };
+        let count = if r.once_in(25) { r.below(5) } else { frames };
+        let default = if r.once_in(25) { r.below(6) } else { 1 + r.below(frames) };
+        let index = if r.once_in(25) { r.byte() } else { number as u8 };
+        let subtype = r.pick(&[4, 6]);
+        if subtype == 4 {
+            let mut guid = r.pick(&[blocks::YUY2, blocks::NV12, [7; 16]]);
+            if r.once_in(4) {
+                guid[r.below(16)] ^= 1;
+            }
+            all.push(blocks::uncompressed(index, count as u8, &guid, r.byte(), default as u8));
+        } else {
+            all.push(blocks::mjpeg(index, count as u8, default as u8));
+        }
+        for f in 1..=frames {
+            if r.once_in(10) {
+                let between = r.pick(&[3, 0x0D, 0x0E, 0x20, 8, 9, 0x0B, 0x0F, 0x19]);
+                let k = r.below(8);
+                let rest = r.bytes(k);
+                all.push(blocks::descriptor(between, &rest));
+            }
+            let subtype = if r.once_in(60) { r.pick(&[5, 7]) } else { subtype + 1 };
+            let index = if r.once_in(60) { r.byte() } else { f as u8 };
+            all.push(frame(r, subtype, index, &mut offered));
+        }
+    }
+    if r.once_in(30) {
+        all.push(blocks::descriptor(r.pick(&[2, 0x0A, 0x0C, 0x10, 0x14, 0x18]), &[1, 2, 3]));
+    }
+    let p = if r.once_in(20) { r.below(10) } else { formats };
+    let endpoint = if r.once_in(20) { 0x02 } else { 0x80 | r.byte() };
+    let link = if r.once_in(20) { r.pick(&[0, 1, 2, 3]) } else { 9 };
+    let n = r.below(3) as u8;
+    (blocks::streaming(p as u8, endpoint, link, n, &all), offered)
+}
+
+fn maybe_damaged_streaming(r: &mut Random) -> (Vec<u8>, Vec<u32>) {
+    let (mut block, offered) = streaming(r);
+    if r.once_in(3) {
+        damage(r, &mut block, STREAMING_TOTAL);
+    }
+    (block, offered)
+}
+
+fn hostile(r: &mut Random) -> Case {
+    let (block, _) = maybe_damaged_streaming(r);
+    let count = match r.below(4) {
+        0 => 32 + r.below(9),
+        1 => r.below(41),
+        _ => r.below(33),
+    };
+    let sound = r.once_in(2);
+    let mut places: Vec<Place> = (0..32)
+        .map(|_| Place {
+            id: if r.once_in(5) { 9 } else { r.byte() % 12 },
+            kind: if sound { 3 } else { r.below(8) as u8 },
+            terminal: if sound { 0x0101 } else { r.pick(&[0x0101, 0x0101, 0x0201, 0x0001, 0x0100]) },
+            offset: r.next() as u16,
+        })
+        .collect();
+    if r.once_in(2) {
+        places[r.below(32)] = Place { id: 9, kind: 3, terminal: 0x0101, offset: 0 };
+    }
+    Case::Hostile(count as u8, places, block)
+}
+
+fn size_near(r: &mut Random, edges: &[u32]) -> u32 {
+    match r.below(4) {
+        0 => r.next() as u32,
+        1 => r.pick(edges).wrapping_add(r.below(3) as u32).wrapping_sub(1),
+        _ => 2 + r.below(60_000) as u32,
+    }
+}
+
+fn probe(r: &mut Random, offered: &[u32]) -> Vec<u8> {
+    let format = if r.once_in(5) { r.below(11) } else { 1 + r.below(2) } as u8;
+    let frame = if r.once_in(5) { r.below(70) } else { 1 + r.below(2) } as u8;
+    let interval = if r.once_in(6) { interval(r) } else { r.pick(offered) };
+    let frame_size = size_near(r, &[0, 1, 16_777_216]);
+    let payload_size = size_near(r, &[0, 2, 65_536]);
+    let mut p = blocks::probe(format, frame, interval, frame_size, payload_size);
+    if r.once_in(10) {
+        let n = r.below(64);
+        p.resize(n, 0x77);
+    }
+    p
+}
+
+fn write(r: &mut Random) -> Case {
+    let n = if r.once_in(4) { r.below(65) } else { 48 };
+    let m = if r.once_in(4) { r.below(65) } else { 48 + r.below(17) };
+    Case::Write(r.bytes(n), r.bytes(m))
+}
+
+/// A list of calls on one session: frames of a few transfers, with every fault now and then.
+pub fn calls(r: &mut Random, most: usize) -> Case {
+    let frame = match r.below(30) {
+        0 => r.pick(&[0, 16_777_216, 16_777_217, u32::MAX]),
+        1 => 1,
+        _ => 1 + r.below(40) as u32,
+    };
+    let payload = match r.below(30) {
+        0 => r.pick(&[0, 1, 2, 65_536, 65_537]),
+        1 => 2 + r.below(12) as u32,
+        _ => 20 + r.below(60) as u32,
+    };
+    let room = match r.below(30) {
+        0 => (frame as usize).saturating_sub(1).min(300),
+        _ => (frame as usize).min(300) + r.below(8),
+    };
+    let buffer = r.bytes(room);
+    let n = r.below(most + 1);
+    let eofs = 1 + r.below(6);
+    let turns = 1 + r.below(8);
+    let faulty = r.pick(&[3, 8, 30, 1000]);
+    let mut fid = 0u8;
+    let mut stamp = r.pick(&[0, 0x10, 0xFFFF_FFF0, 0x7FFF_FFF8, 0x8000_0000, 12_345]);
+    let mut list = Vec::with_capacity(n);
+    for i in 0..n {
+        if r.once_in(faulty * 2) {
+            list.push(match r.below(8) {
+                0 | 1 => Call::Transfer(vec![]),
+                2 | 3 => Call::Lost,
+                4 => Call::Transfer(vec![r.byte()]),
+                5 => {
+                    let k = 2 + r.below(20);
+                    Call::Transfer(r.bytes(k))
+                }
+                6 => {
+                    let mut t = blocks::transfer(blocks::END | (r.byte() & 0x7F), stamp, 0, &[1, 2]);
+                    match r.below(4) {
+                        0 => t[0] = r.below(3) as u8,
+                        1 => t[0] = t.len() as u8 + 1,
+                        2 => t[1] |= r.pick(&[4, 8, 12]),
+                        _ => t[1] &= 0x7F,
+                    }
+                    Call::Transfer(t)
+                }
+                _ if i + 3 > n || r.once_in(40) => Call::Close,
+                _ => Call::Transfer(blocks::transfer(0x80, 0, payload.min(300) as usize + r.below(3), &[])),
+            });
+            continue;
+        }
+        if r.once_in(turns) {
+            fid ^= 1;
+            stamp = match r.below(12) {
+                0 => r.next() as u32,
+                1 => stamp.wrapping_add(0x7FFF_FFFF).wrapping_add(r.below(3) as u32),
+                2 => stamp.wrapping_sub(r.below(40) as u32),
+                _ => stamp.wrapping_add(r.below(40) as u32),
+            };
+        }
+        let mut flags = blocks::END | fid | (r.byte() & 0x30);
+        if r.once_in(eofs) {
+            flags |= blocks::EOF;
+        }
+        if r.once_in(3) {
+            flags |= blocks::PTS;
+        }
+        if r.once_in(8) {
+            flags |= blocks::SCR;
+        }
+        if r.once_in(faulty) {
+            flags |= blocks::ERROR;
+        }
+        let s = if r.once_in(faulty * 2) { stamp ^ 1 } else { stamp };
+        let more = if r.once_in(6) { r.below(5) } else { 0 };
+        let size = match r.below(5) {
+            0 => 0,
+            1 => r.below(frame.min(60) as usize + 3),
+            _ => r.below(frame.min(60) as usize / 3 + 2),
+        };
+        let data = r.bytes(size);
+        list.push(Call::Transfer(blocks::transfer(flags, s, more, &data)));
+    }
+    if r.once_in(2) {
+        list.push(Call::Close);
+        if r.once_in(3) {
+            list.push(r.pick(&[Call::Close, Call::Lost, Call::Transfer(vec![]), Call::Transfer(vec![2, 0x80, 1])]));
+        }
+    }
+    if r.once_in(400) {
+        let at = r.below(list.len() + 1);
+        list.insert(at, Call::Transfer(vec![2; 65_536 + r.below(2)]));
+    }
+    Case::Calls { frame, payload, buffer, calls: list }
+}
+
+/// A record that holds, then mostly with one number at or past an edge.
+pub fn record(r: &mut Random) -> Record {
+    let taken = r.pick(&[0, 1, 2, 100, 65_537, u32::MAX - 1, u32::MAX]);
+    let n = u64::from(taken);
+    let frame = 1 + r.below(40) as u64;
+    let fill = r.below(frame as usize + 1) as u64;
+    let fault = if r.once_in(2) { 0 } else { r.below(7) as u8 };
+    let stamp = r.pick(&[None, Some(7), Some(8)]);
+    let phase = match r.below(4) {
+        0 => Phase::Fresh,
+        1 => Phase::Past(r.once_in(2)),
+        _ => Phase::Under { fid: r.once_in(2), fault, bytes: if fault == 0 { fill } else { fill + r.below(50) as u64 }, fill, stamp },
+    };
+    let mut numbers = [0; 27];
+    for (i, x) in numbers.iter_mut().enumerate() {
+        let most = if i == 24 {
+            n << 31
+        } else if i < 22 && i % 2 == 1 {
+            n << 16
+        } else {
+            n
+        };
+        *x = r.pick(&[0, 0, most.min(1), most / 2, most]);
+    }
+    let mut it = Record {
+        frame,
+        payload: 2 + r.below(60) as u64,
+        closed: r.once_in(8),
+        taken,
+        phase,
+        gap: r.once_in(3),
+        numbers,
+        last: r.pick(&[None, Some(1), Some(u32::MAX)]),
+    };
+    match r.below(10) {
+        0..=2 => {
+            let i = r.below(27);
+            let most = if i == 24 {
+                n << 31
+            } else if i < 22 && i % 2 == 1 {
+                n << 16
+            } else {
+                n
+            };
+            it.numbers[i] = r.pick(&[most + 1, most, u64::MAX, 1 << 63, most + 65_536]);
+        }
+        3 => it.frame = r.pick(&[0, 16_777_216, 16_777_217, u64::MAX, 1 << 32]),
+        4 => it.payload = r.pick(&[0, 1, 2, 65_536, 65_537, u64::MAX]),
+        5 => {
+            if let Phase::Under { bytes, fill, .. } = &mut it.phase {
+                match r.below(4) {
+                    0 => *fill = it.frame + 1,
+                    1 => *fill = r.pick(&[u64::MAX, 0, it.frame]),
+                    2 => *bytes = r.pick(&[n << 16, (n << 16) + 1, u64::MAX]),
+                    _ => *bytes += 1,
+                }
+            }
+        }
+        _ => {}
+    }
+    it
+}
+
+fn forged(r: &mut Random) -> Case {
+    let it = record(r);
+    let room = match r.below(6) {
+        0 => (it.frame as usize).saturating_sub(1).min(100),
+        _ => (it.frame as usize).min(100) + r.below(4),
+    };
+    let buffer = r.bytes(room);
+    let transfer = match r.below(10) {
+        0 => {
+            let k = r.below(4);
+            r.bytes(k)
+        }
+        1 if r.once_in(10) => vec![2; 65_536 + r.below(2)],
+        _ => {
+            let flags = 0x80 | r.byte();
+            let k = r.below(20);
+            let data = r.bytes(k);
+            let stamp = r.pick(&[7, 8]);
+            blocks::transfer(if r.once_in(2) { flags & !blocks::ERROR } else { flags }, stamp, 0, &data)
+        }
+    };
+    Case::Forged(it, buffer, transfer)
+}
+
+/// Any case; lists of calls have up to `most` calls.
+pub fn case(r: &mut Random, most: usize) -> Case {
+    match r.below(16) {
+        0..=2 => Case::Control(maybe_damaged_control(r)),
+        3 => {
+            let block = if r.once_in(5) { maybe_damaged_control(r) } else { control(r) };
+            let id = if r.once_in(4) { r.byte() } else { 1 + r.below(8) as u8 };
+            Case::Map(block, id)
+        }
+        4..=5 => {
+            let control = linked_control(r);
+            let (block, _) = maybe_damaged_streaming(r);
+            Case::Streaming(control, block)
+        }
+        6 => hostile(r),
+        7..=8 => {
+            let control = linked_control(r);
+            let (block, offered) = if r.once_in(6) { maybe_damaged_streaming(r) } else { streaming(r) };
+            let probe = probe(r, &offered);
+            Case::Check(control, block, probe)
+        }
+        9 => write(r),
+        10 | 11 => forged(r),
+        _ => calls(r, most),
+    }
+}

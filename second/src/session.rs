@@ -1,0 +1,166 @@
+//! Opening, the calls on a session, and the refusals that are no part of its history.
+
+use crate::cases::{Phase, Record};
+use crate::frames::{answer, judge, ledger, reason_name, sort, written, Call, Reason, Sort};
+use crate::streaming::sizes;
+use std::fmt::Write;
+
+pub fn hash(bytes: &[u8]) -> u32 {
+    bytes.iter().fold(2_166_136_261u32, |h, &b| h.wrapping_mul(16_777_619).wrapping_add(u32::from(b)))
+}
+
+pub fn hex(bytes: &[u8]) -> String {
+    bytes.iter().map(|b| format!("{b:02x}")).collect()
+}
+
+fn why(reason: Option<Reason>) -> &'static str {
+    reason.map_or("none", reason_name)
+}
+
+/// All that is printed of a list of calls.
+pub fn calls(frame: u32, payload: u32, initial: &[u8], list: &[Call]) -> String {
+    let mut out = String::new();
+    let mut buffer = initial.to_vec();
+    let opening = match sizes(u64::from(frame), u64::from(payload)) {
+        Err(r) => Some(r.number),
+        Ok(()) if buffer.len() < frame as usize => Some(47),
+        Ok(()) => None,
+    };
+    match opening {
+        Some(k) => writeln!(out, "open refused {k}").unwrap(),
+        None => writeln!(out, "open").unwrap(),
+    }
+    let (frame, payload) = (frame as usize, payload as usize);
+    let mut taken: Vec<Call> = Vec::new();
+    let mut old = judge(&taken, frame, payload);
+    for call in list {
+        // What a refused opening leaves behind has no sizes; 51 and 52 cannot be met here.
+        let refused = if opening.is_some() {
+            Some(50)
+        } else if taken.contains(&Call::Close) {
+            Some(53)
+        } else {
+            match call {
+                Call::Transfer(t) if t.len() > 65_536 => Some(55),
+                _ => None,
+            }
+        };
+        if let Some(k) = refused {
+            write!(out, "refused {k}").unwrap();
+        } else {
+            taken.push(call.clone());
+            let new = judge(&taken, frame, payload);
+            let (ended, fate) = answer(&taken, &old, &new, payload);
+            if let Some((at, data)) = written(&taken, &new) {
+                buffer[at..at + data.len()].copy_from_slice(data);
+            }
+            match call {
+                Call::Transfer(_) => write!(out, "taken ended {} fate {fate}", why(ended)),
+                Call::Lost => write!(out, "lost noted"),
+                Call::Close => write!(out, "closed {}", why(ended)),
+            }
+            .unwrap();
+            old = new;
+        }
+        writeln!(out, " hash {}", hash(&buffer)).unwrap();
+    }
+    write!(out, "ledger").unwrap();
+    for n in ledger(&old) {
+        write!(out, " {n}").unwrap();
+    }
+    writeln!(out).unwrap();
+    if buffer.len() <= 64 {
+        writeln!(out, "buffer {}", hex(&buffer)).unwrap();
+    }
+    out
+}
+
+/// Rule 50, word for word.
+fn broken(r: &Record) -> bool {
+    let taken = u128::from(r.taken);
+    if sizes(r.frame, r.payload).is_err() {
+        return true;
+    }
+    // The frame under way is kept with the run; its account is that frame's, whatever the record holds in its place.
+    let mut numbers: Vec<u128> = r.numbers.iter().map(|&n| u128::from(n)).collect();
+    numbers[14] = 0;
+    numbers[15] = 0;
+    if let Phase::Under { fault, bytes, fill, .. } = r.phase {
+        if fill > r.frame || (fault == 0 && fill != bytes) {
+            return true;
+        }
+        numbers[14] = 1;
+        numbers[15] = u128::from(bytes);
+    }
+    numbers.iter().enumerate().any(|(i, &n)| match i {
+        1 | 3 | 5 | 7 | 9 | 11 | 13 | 15 | 17 | 19 | 21 => n > 65_536 * taken,
+        24 => n > (1 << 31) * taken,
+        _ => n > taken,
+    })
+}
+
+/// 50; then 53, 52, 51, 55 as far as the call meets them.
+fn refusal(r: &Record, lost_or_take: bool, take: Option<(usize, usize)>) -> Option<u8> {
+    if broken(r) {
+        return Some(50);
+    }
+    if r.closed {
+        return Some(53);
+    }
+    if lost_or_take && r.taken == u32::MAX {
+        return Some(52);
+    }
+    match take {
+        Some((room, _)) if (room as u64) < r.frame => Some(51),
+        Some((_, n)) if n > 65_536 => Some(55),
+        _ => None,
+    }
+}
+
+/// Where a transfer writes on a record that refuses nothing. The record's gap is for a frame that begins; its fault is the frame's.
+fn place(r: &Record, transfer: &[u8]) -> Option<(usize, usize)> {
+    if let Sort::Readable { fid, error, stamp, header, .. } = sort(transfer, r.payload as usize) {
+        let n = transfer.len() - header;
+        let begins = Some((r.gap, 0, 0, None));
+        let run = match r.phase {
+            Phase::Fresh => begins,
+            Phase::Past(f) => {
+                if f == fid {
+                    None
+                } else {
+                    begins
+                }
+            }
+            Phase::Under { fid: f, fault, bytes, fill, stamp } => {
+                if f == fid {
+                    Some((fault != 0, bytes, fill, stamp))
+                } else {
+                    begins
+                }
+            }
+        };
+        if let Some((faulted, bytes, fill, first)) = run {
+            let clock = first.is_some() && stamp.is_some() && first != stamp;
+            if !faulted && !error && !clock && bytes + n as u64 <= r.frame {
+                return Some((fill as usize, header));
+            }
+        }
+    }
+    None
+}
+
+/// What take, lost and close say to a record as it stands.
+pub fn forged(r: &Record, buffer: &[u8], transfer: &[u8]) -> String {
+    let mut buffer = buffer.to_vec();
+    let say = |k: Option<u8>| k.map_or("taken".to_string(), |k| format!("refused {k}"));
+    let take = refusal(r, true, Some((buffer.len(), transfer.len())));
+    if take.is_none() {
+        if let Some((at, header)) = place(r, transfer) {
+            let data = &transfer[header..];
+            buffer[at..at + data.len()].copy_from_slice(data);
+        }
+    }
+    let lost = refusal(r, true, None);
+    let close = refusal(r, false, None);
+    format!("take {} hash {}\nlost {}\nclose {}\n", say(take), hash(&buffer), say(lost), say(close))
+}
