@@ -53,7 +53,7 @@ fn damage(r: &mut Random, block: &mut Vec<u8>, total_at: usize) {
             return;
         }
         let at = r.below(block.len());
-        match r.below(8) {
+        match r.below(12) {
             0 | 1 => block[at] = r.byte(),
             2 => block[at] = block[at].wrapping_add(r.pick(&[1, 255])),
             3 => block[at] = r.pick(&[0, 1, 2, 3, 5, 6, 7, 0x0A, 0x0D, 0x10, 0x24, 0xFF]),
@@ -66,10 +66,43 @@ fn damage(r: &mut Random, block: &mut Vec<u8>, total_at: usize) {
             6 => {
                 block.remove(at);
             }
-            _ => block.insert(at, r.byte()),
+            7 => block.insert(at, r.byte()),
+            _ => one_descriptor(r, block),
         }
         if !r.once_in(4) {
             blocks::total(block, total_at);
+        }
+    }
+}
+
+/// Makes a descriptor a byte longer or shorter, or sets a copy of it behind another.
+fn one_descriptor(r: &mut Random, block: &mut Vec<u8>) {
+    let mut starts = vec![0];
+    let mut at = 0;
+    while at < block.len() && block[at] > 0 {
+        at += block[at] as usize;
+        starts.push(at);
+    }
+    let at = r.pick(&starts);
+    let end = at + block.get(at).map_or(0, |&n| n as usize);
+    if end <= at + 3 || end > block.len() {
+        return;
+    }
+    match r.below(3) {
+        0 => {
+            block.insert(end, r.byte());
+            block[at] = block[at].wrapping_add(1);
+        }
+        1 => {
+            block.remove(end - 1);
+            block[at] -= 1;
+        }
+        _ => {
+            let copy = block[at..end].to_vec();
+            let to = r.pick(&starts).min(block.len());
+            let rest = block.split_off(to);
+            block.extend(copy);
+            block.extend(rest);
         }
     }
 }
@@ -215,6 +248,9 @@ fn frame(r: &mut Random, subtype: u8, index: u8, offered: &mut Vec<u32>) -> Vec<
     if list.is_empty() {
         list.push(333_333);
     }
+    if r.once_in(25) {
+        list.insert(0, list[0]);
+    }
     let default = if r.once_in(15) { interval(r) } else { r.pick(&list) };
     offered.push(default);
     offered.extend(&list);
@@ -231,7 +267,7 @@ pub fn streaming(r: &mut Random) -> (Vec<u8>, Vec<u32>) {
     let mut offered = vec![0, 333_333];
     let mut all: Vec<Vec<u8>> = Vec::new();
     for number in 1..=formats {
-        let frames = if r.once_in(25) { r.pick(&[32, 64, 65]) } else { 1 + r.below(4) };
+        let frames = if r.once_in(25) { r.pick(&[32, 33, 63, 64, 65]) } else { 1 + r.below(4) };
         let count = if r.once_in(25) { r.below(5) } else { frames };
         let default = if r.once_in(25) { r.below(6) } else { 1 + r.below(frames) };
         let index = if r.once_in(25) { r.byte() } else { number as u8 };
@@ -251,6 +287,10 @@ pub fn streaming(r: &mut Random) -> (Vec<u8>, Vec<u32>) {
                 let k = r.below(8);
                 let rest = r.bytes(k);
                 all.push(blocks::descriptor(between, &rest));
+            }
+            if frames > 30 {
+                all.push(blocks::frame(subtype + 1, f as u8, 640, 480, 614_400, 333_333, 1, &[333_333]));
+                continue;
             }
             let subtype = if r.once_in(60) { r.pick(&[5, 7]) } else { subtype + 1 };
             let index = if r.once_in(60) { r.byte() } else { f as u8 };
@@ -412,8 +452,8 @@ pub fn calls(r: &mut Random, most: usize) -> Case {
             list.push(r.pick(&[Call::Close, Call::Lost, Call::Transfer(vec![]), Call::Transfer(vec![2, 0x80, 1])]));
         }
     }
-    if r.once_in(400) {
-        let at = r.below(list.len() + 1);
+    if r.once_in(150) {
+        let at = r.below(list.len().min(4) + 1);
         list.insert(at, Call::Transfer(vec![2; 65_536 + r.below(2)]));
     }
     Case::Calls { frame, payload, buffer, calls: list }
