@@ -1,0 +1,101 @@
+use mathlib.Core.Path.{_≡_}
+use Prim.Native.Nat.{_+_, _*_, _-_, _≤_, _<_}
+use lib.ListN.{length}
+use borrow.Author.Needs.{needs}
+use native.Mathlib.Omega.{arith}
+use Rattle.exports.proofs.Rounds.{round-less}
+use Rattle.exports.proofs.take.palkodhen_take.Statement.{statement}
+use Rattle.exports.proofs.take.palkodhen_take.Tie as tie
+
+abbrev Inv-loop : tie.InvT-loop
+Inv-loop frame payload size times buffer₀ transfers s₀ i₀ at₀ buffer s i at = (length buffer ≡ length buffer₀) × (0 < size) × (at + size ≤ length transfers) × (i ≤ times)
+
+abbrev μ-loop : tie.MeasureT-loop
+μ-loop frame payload size times buffer₀ transfers s₀ i₀ at₀ buffer s i at = (times - i) * (length transfers + 1) + (length transfers - at)
+
+open-requires : tie.Need-open-requires Inv-loop μ-loop
+open-requires c κs = search needs
+
+same-length : tie.Need-same-length Inv-loop μ-loop
+same-length c = search needs
+
+returns : tie.Need-returns Inv-loop μ-loop
+returns c = search needs
+
+same-length-2 : tie.Need-same-length-2 Inv-loop μ-loop
+same-length-2 c = search needs
+
+returns-2 : tie.Need-returns-2 Inv-loop μ-loop
+returns-2 c = search needs
+
+loop-holds : tie.Need-loop-holds Inv-loop μ-loop
+loop-holds c = search needs
+
+add-end : tie.Need-add-end Inv-loop μ-loop
+add-end c = search needs
+
+sub-take : tie.Need-sub-take Inv-loop μ-loop
+sub-take c = search needs
+
+part-take-start : tie.Need-part-take-start Inv-loop μ-loop
+part-take-start c = search needs
+
+part-take-end : tie.Need-part-take-end Inv-loop μ-loop
+part-take-end c = search needs
+
+take-requires : tie.Need-take-requires Inv-loop μ-loop
+take-requires c κs = search needs
+
+sub-if3 : tie.Need-sub-if3 Inv-loop μ-loop
+sub-if3 c = search needs
+
+add-i : tie.Need-add-i Inv-loop μ-loop
+add-i c = search needs
+
+loop-less : tie.Need-loop-less Inv-loop μ-loop
+loop-less c = search (needs, round-less)
+
+loop-again : tie.Need-loop-again Inv-loop μ-loop
+loop-again c = search needs
+
+loop-less-2 : tie.Need-loop-less-2 Inv-loop μ-loop
+loop-less-2 c = search needs
+
+loop-again-2 : tie.Need-loop-again-2 Inv-loop μ-loop
+loop-again-2 c = search needs
+
+bytes-requires : tie.Need-bytes-requires Inv-loop μ-loop
+bytes-requires c κs = search needs
+
+same-length-3 : tie.Need-same-length-3 Inv-loop μ-loop
+same-length-3 c = search needs
+
+returns-3 : tie.Need-returns-3 Inv-loop μ-loop
+returns-3 c = search needs
+
+pub palkodhen-take-spec : {M : Type 1} → statement M
+palkodhen-take-spec =
+    tie.close
+    (tie.spec
+    Inv-loop
+    μ-loop
+    open-requires
+    same-length
+    returns
+    same-length-2
+    returns-2
+    loop-holds
+    add-end
+    sub-take
+    part-take-start
+    part-take-end
+    take-requires
+    sub-if3
+    add-i
+    loop-less
+    loop-again
+    loop-less-2
+    loop-again-2
+    bytes-requires
+    same-length-3
+    returns-3)

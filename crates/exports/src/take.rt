@@ -1,0 +1,37 @@
+// Takes transfers in a session.
+use ledger::Account;
+use session::Session;
+
+// Opens a session, and takes the transfers of `size` bytes that lie one after another in `transfers`, all of them so many times. It answers the bytes delivered.
+#[no_mangle]
+pub extern "C" fn palkodhen_take(
+    frame: usize,
+    payload: usize,
+    size: usize,
+    times: u64,
+    buffer: &mut [u8],
+    transfers: &[u8],
+) -> u64 {
+    let opened = Session::open(frame, payload, buffer);
+    let mut s = opened.session;
+    if size == 0 {
+        return 0;
+    }
+    if transfers.len() < size {
+        return 0;
+    }
+    let mut i: u64 = 0;
+    let mut at: usize = 0;
+    while i < times {
+        let end = at + size;
+        let taken = s.take(buffer, &transfers[at..end]);
+        s = taken.session;
+        at = end;
+        if transfers.len() - at < size {
+            at = 0;
+            i += 1;
+        }
+    }
+    let l = s.ledger;
+    l.bytes(Account::Delivered)
+}
