@@ -1,7 +1,20 @@
--- What is left to take grows less when a round ends.
-use Prim.Native.Nat.{ℕ, _+_, _*_, _-_, _<_, _≤_}
-use mathlib.Core.Path.{_≡_}
+-- Taking transfers round by round: what holds after each, and that what is left grows less.
+use Prim.Native.Nat.{ℕ, zero, suc, _+_, _*_, _-_, _/_, _<_, _≤_}
+use mathlib.Core.Path.{_≡_, refl, sym, ap, _∙_}
+use mathlib.Core.List.{List}
+use lib.ListN.{length, take, drop}
+use lib.Arith.{digits-div}
+use native.Mathlib.Nat.{div-eq-of-lt, div-zero, zero-mul}
+use native.Mathlib.Numerals.{add-one}
 use native.Mathlib.Omega.{arith}
+use Rattle.session.specs.declared.Session.{Session}
+use Rattle.ledger.specs.Ledger.{bytesOf}
+use Rattle.session.specs.declared.Taken.{Taken}
+use Rattle.session.specs.declared.Opened.{Opened}
+use Rattle.rules.specs.Numbered.{firstFrom}
+use Rattle.session.specs.Refusals.{openingFlags}
+use Rattle.session.specs.Session.{openOf, openBy, takeOf, bufferOf}
+use Rattle.exports.specs.Taking.{State, tookFirst, tookAll, opened, deliveredOf}
 
 pub round-less : (times i n at : ℕ) → i < times → (times - (i + 1)) * (n + 1) + (n - 0) < (times - i) * (n + 1) + (n - at)
 round-less times i n at h =
@@ -10,3 +23,73 @@ round-less times i n at h =
   where
     step : (k n at : ℕ) → k * (n + 1) + (n - 0) < (k + 1) * (n + 1) + (n - at)
     step k n at = omega arith
+
+-- ---- a round's transfers are counted by k
+pub record Going (size times : ℕ) (l : List ℕ) (a : State) (b : List ℕ) (s : Session) (i at : ℕ) : Type 0 where
+  pub k : ℕ
+  pub place : at ≡ k * size
+  pub state : record { session = s; buffer = b } ≡ tookFirst size l (tookAll size l a i) k
+  pub ended : times ≤ i → k ≡ 0
+
+pub going-start : (frame payload size times : ℕ) (l b : List ℕ) (o : Opened) → o ≡ openOf frame payload (length b) → Going size times l (opened frame payload b) b (o .session) 0 0
+unfolding tookFirst tookAll
+going-start frame payload size times l b o e = record { k = 0; place = sym (zero-mul size); state = rw e refl; ended = λ h. refl }
+
+whole : (size n k : ℕ) → k * size + size ≤ n → n - (k * size + size) < size → n / size ≡ suc k
+whole size n k h e =
+    let m : suc k * size + (n - (k * size + size)) ≡ n = omega arith in
+    ap (λ (x : ℕ). x / size) (sym m) ∙ digits-div (suc k) e
+
+module _ (size times : ℕ) (l : List ℕ) (a : State) (b : List ℕ) (s : Session) (i at : ℕ) (g : Going size times l a b s i at) (d : List ℕ) (r : Taken)
+    (v : r ≡ takeOf s (length b) (take (at + size - at) (drop at l))) (w : d ≡ bufferOf s b (take (at + size - at) (drop at l))) where
+  next : record { session = r .session; buffer = d } ≡ tookFirst size l (tookAll size l a i) (suc (g .k))
+  unfolding tookFirst
+  next =
+      let e : at + size - at ≡ size = omega arith in
+      rw (← g .state, v, w, e, g .place) refl
+
+  pub going-more : i < times → Going size times l a d (r .session) i (at + size)
+  going-more h = record { k = suc (g .k); place = rw (g .place) (step (g .k)); state = next; ended = λ e. absurd (omega arith) }
+    where
+      step : (k : ℕ) → k * size + size ≡ suc k * size
+      step k = omega arith
+
+  pub going-round : at + size ≤ length l → length l - (at + size) < size → Going size times l a d (r .session) (i + 1) 0
+  unfolding tookFirst tookAll
+  going-round h e =
+      let m : length l / size ≡ suc (g .k) = whole size (length l) (g .k) (rw (← g .place) h) (rw (← g .place) e) in
+      record { k = 0; place = sym (zero-mul size); state = rw (add-one i, m) next; ended = λ x. refl }
+
+-- ---- the answer: the bytes delivered, and the buffer
+abbrev Answered : ℕ → List ℕ → State → ℕ → ℕ → List ℕ → Type 0
+Answered size l a times r b = (r ≡ deliveredOf (tookAll size l a times)) × (b ≡ tookAll size l a times .buffer)
+
+pub all-taken : (size times : ℕ) (l : List ℕ) (a : State) (b : List ℕ) (s : Session) (i at r : ℕ) → Going size times l a b s i at → i ≤ times → times ≤ i
+    → r ≡ bytesOf (s .ledger) 0 → Answered size l a times r b
+unfolding tookFirst
+all-taken size times l a b s i at r g h e q =
+    let j : i ≡ times = omega arith in
+    let x : record { session = s; buffer = b } ≡ tookAll size l a times = rw (g .ended e, j) at (g .state) in
+    (q ∙ ap (λ (y : State). deliveredOf y) x, ap (λ (y : State). y .buffer) x)
+
+no-round : (size : ℕ) (l : List ℕ) (a : State) (i : ℕ) → length l / size ≡ 0 → a ≡ tookAll size l a i
+unfolding tookFirst tookAll
+no-round size l a zero e = refl
+no-round size l a (suc i) e = rw e (no-round size l a i e)
+
+module _ (frame payload size times : ℕ) (l b : List ℕ) where
+  none : (k : ℕ) → 0 ≡ bytesOf (openBy k frame payload .session .ledger) 0
+  none zero = refl
+  none (suc k) = refl
+
+  nothing : length l / size ≡ 0 → Answered size l (opened frame payload b) times 0 b
+  unfolding openOf
+  nothing e =
+      let x = no-round size l (opened frame payload b) times e in
+      (none (firstFrom 45 (openingFlags frame payload (length b))) ∙ ap (λ (y : State). deliveredOf y) x, ap (λ (y : State). y .buffer) x)
+
+  pub no-size : size ≡ 0 → Answered size l (opened frame payload b) times 0 b
+  no-size e = nothing (rw e (div-zero (length l)))
+
+  pub too-short : length l < size → Answered size l (opened frame payload b) times 0 b
+  too-short h = nothing (div-eq-of-lt h)

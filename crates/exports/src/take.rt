@@ -1,4 +1,6 @@
 // Takes transfers in a session.
+ghost use mathlib.Core.Path.{_≡_};
+ghost use Rattle.exports.specs.Taking.{opened, tookAll, deliveredOf};
 use ledger::Account;
 use session::Session;
 
@@ -11,9 +13,12 @@ pub extern "C" fn palkodhen_take(
     times: u64,
     buffer: &mut [u8],
     transfers: &[u8],
-) -> u64 {
-    let opened = Session::open(frame, payload, buffer);
-    let mut s = opened.session;
+) -> u64
+    ensures { λ r. ⌜ r ≡ deliveredOf (tookAll size (now (transfers .entry)) (opened frame payload (now (buffer .entry))) times) ⌝ }
+    ensures { λ _. ⌜ now (buffer .exit) ≡ tookAll size (now (transfers .entry)) (opened frame payload (now (buffer .entry))) times .buffer ⌝ }
+{
+    let start = Session::open(frame, payload, buffer);
+    let mut s = start.session;
     if size == 0 {
         return 0;
     }

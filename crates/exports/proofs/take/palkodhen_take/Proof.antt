@@ -3,12 +3,14 @@ use Prim.Native.Nat.{_+_, _*_, _-_, _≤_, _<_}
 use lib.ListN.{length}
 use borrow.Author.Needs.{needs}
 use native.Mathlib.Omega.{arith}
-use Rattle.exports.proofs.Rounds.{round-less}
+use Rattle.exports.specs.Taking.{opened}
+use Rattle.exports.proofs.Rounds.{round-less, Going, going-start, going-more, going-round, all-taken, no-size, too-short}
 use Rattle.exports.proofs.take.palkodhen_take.Statement.{statement}
 use Rattle.exports.proofs.take.palkodhen_take.Tie as tie
 
 abbrev Inv-loop : tie.InvT-loop
 Inv-loop frame payload size times buffer₀ transfers s₀ i₀ at₀ buffer s i at = (length buffer ≡ length buffer₀) × (0 < size) × (at + size ≤ length transfers) × (i ≤ times)
+    × Going size times transfers (opened frame payload buffer₀) buffer s i at
 
 abbrev μ-loop : tie.MeasureT-loop
 μ-loop frame payload size times buffer₀ transfers s₀ i₀ at₀ buffer s i at = (times - i) * (length transfers + 1) + (length transfers - at)
@@ -20,16 +22,16 @@ same-length : tie.Need-same-length Inv-loop μ-loop
 same-length c = search needs
 
 returns : tie.Need-returns Inv-loop μ-loop
-returns c = search needs
+returns c = no-size _ _ _ _ _ _ (c .if1 .taken)
 
 same-length-2 : tie.Need-same-length-2 Inv-loop μ-loop
 same-length-2 c = search needs
 
 returns-2 : tie.Need-returns-2 Inv-loop μ-loop
-returns-2 c = search needs
+returns-2 c = too-short _ _ _ _ _ _ (c .if2 .taken)
 
 loop-holds : tie.Need-loop-holds Inv-loop μ-loop
-loop-holds c = search needs
+loop-holds c = (search needs, search needs, search needs, search needs, search going-start)
 
 add-end : tie.Need-add-end Inv-loop μ-loop
 add-end c = search needs
@@ -56,13 +58,19 @@ loop-less : tie.Need-loop-less Inv-loop μ-loop
 loop-less c = search (needs, round-less)
 
 loop-again : tie.Need-loop-again Inv-loop μ-loop
-loop-again c = search needs
+loop-again c =
+    let taken = c .before .before .before .before .take .ensures in
+    let inv = c .before .before .before .before .before .before .before .before .loop .inv in
+    (search needs, search needs, search needs, search needs, going-round _ _ _ _ _ _ _ _ (inv .4) _ _ (taken .0) (taken .1) (inv .2) (c .if3 .taken))
 
 loop-less-2 : tie.Need-loop-less-2 Inv-loop μ-loop
 loop-less-2 c = search needs
 
 loop-again-2 : tie.Need-loop-again-2 Inv-loop μ-loop
-loop-again-2 c = search needs
+loop-again-2 c =
+    let taken = c .before .before .before .before .take .ensures in
+    let inv = c .before .before .before .before .before .before .before .before .loop .inv in
+    (search needs, search needs, search needs, search needs, going-more _ _ _ _ _ _ _ _ (inv .4) _ _ (taken .0) (taken .1) (c .before .before .before .before .before .before .before .loop-test .taken))
 
 bytes-requires : tie.Need-bytes-requires Inv-loop μ-loop
 bytes-requires c κs = search needs
@@ -71,7 +79,9 @@ same-length-3 : tie.Need-same-length-3 Inv-loop μ-loop
 same-length-3 c = search needs
 
 returns-3 : tie.Need-returns-3 Inv-loop μ-loop
-returns-3 c = search needs
+returns-3 c =
+    let inv = c .before .before .before .loop .inv in
+    all-taken _ _ _ _ _ _ _ _ _ (inv .4) (inv .3) (c .before .before .loop-test .left) (c .bytes .ensures)
 
 pub palkodhen-take-spec : {M : Type 1} → statement M
 palkodhen-take-spec =

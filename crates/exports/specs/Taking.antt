@@ -1,0 +1,36 @@
+-- What taking the same transfers over and over makes of a session and of its buffer.
+use Prim.Native.Nat.{ℕ, zero, suc, _*_, _/_}
+use mathlib.Core.List.{List}
+use lib.ListN.{length, take, drop}
+use Rattle.session.specs.declared.Session.{Session}
+use Rattle.session.specs.Session.{openOf, takeOf, bufferOf}
+use Rattle.ledger.specs.Ledger.{bytesOf}
+
+pub record State : Type 0 where
+  pub session : Session
+  pub buffer : List ℕ
+
+-- one transfer
+abbrev pub tookOne : State → List ℕ → State
+tookOne a t = record { session = takeOf (a .session) (length (a .buffer)) t .session; buffer = bufferOf (a .session) (a .buffer) t }
+
+-- the transfer at k, from 0, of those of `size` bytes that lie one after another in l
+abbrev pub transferAt : ℕ → List ℕ → ℕ → List ℕ
+transferAt size l k = take size (drop (k * size) l)
+
+-- the first k of them
+unfoldable pub tookFirst : ℕ → List ℕ → State → ℕ → State
+tookFirst size l a zero = a
+tookFirst size l a (suc k) = tookOne (tookFirst size l a k) (transferAt size l k)
+
+-- all of them, so many times
+unfoldable pub tookAll : ℕ → List ℕ → State → ℕ → State
+tookAll size l a zero = a
+tookAll size l a (suc i) = tookFirst size l (tookAll size l a i) (length l / size)
+
+abbrev pub opened : ℕ → ℕ → List ℕ → State
+opened frame payload b = record { session = openOf frame payload (length b) .session; buffer = b }
+
+-- the bytes delivered
+abbrev pub deliveredOf : State → ℕ
+deliveredOf a = bytesOf (a .session .ledger) 0
