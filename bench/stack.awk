@@ -1,5 +1,5 @@
 # Reads what `objdump -tdr --no-show-raw-insn` prints of an object and prints a line for each of its functions: name, own frame, deepest stack, and the way there.
-# A frame counts the return address that the call of the function leaves. A C library function counts nothing but its return address.
+# A frame counts the return address that the call of the function leaves, and what is used below its end. A C library function counts nothing but its return address.
 # The stack is followed along every path of a function; an instruction that moves it in a way not known here ends the run with an error.
 
 function fail(f, i, what) {
@@ -54,8 +54,7 @@ function callee(f, i, d, at, key, to) {
 }
 
 function follow(f, i, t, d, at) {
-    left = 0
-    jumped = 0
+    left = jumped = probing = end = 0
     reach(f, 1, 8)
     own[f] = 8
     while (1) {
@@ -70,6 +69,9 @@ function follow(f, i, t, d, at) {
         i = todo[left--]
         d = depth[f, i]
         t = text[f, i]
+        # a function that calls nothing may use 128 bytes below the stack's end
+        if (match(t, /-0x[0-9a-f]+\(%rsp/)) move(f, d + number(substr(t, RSTART + 1, RLENGTH - 6)))
+        if (t ~ /^ret/ && d != 8) fail(f, i, "returns with " d - 8 " bytes")
         if (t ~ /^(ret|ud2|hlt)/) continue
         if (t ~ /^push/) d = move(f, d + 8)
         else if (t ~ /^pop/) d -= 8
@@ -93,14 +95,17 @@ function follow(f, i, t, d, at) {
         } else if (t ~ /^add +\$0x[0-9a-f]+,%rsp$/) {
             match(t, /0x[0-9a-f]+/)
             d = move(f, d - number(substr(t, RSTART, RLENGTH)))
-        } else if (t ~ /^lea +-0x[0-9a-f]+\(%rsp\),%r11$/) {
+        } else if (t ~ /^mov +%rsp,%r11$/) {
+            # a large frame is taken page by page in a loop, up to r11
+            end = d
+        } else if (t ~ /^sub +\$0x[0-9a-f]+,%r11$/) {
             match(t, /0x[0-9a-f]+/)
-            end = d + number(substr(t, RSTART, RLENGTH))
+            end += number(substr(t, RSTART, RLENGTH))
         } else if (t ~ /^cmp +%r11,%rsp$/) {
-            # a large frame is taken page by page, up to r11
+            if (end <= d - 4096) fail(f, i, "a loop up to no known place")
             d = move(f, end)
             probing = 1
-        } else if (t ~ /^mov +%rbp,%rsp$|^leave|,%rsp$|,%esp$/ && t !~ /^(cmp|test)/) fail(f, i, "moves the stack")
+        } else if (t ~ /^leave|,%rsp$|,%esp$|^mov +%rsp,%rbp$/ && t !~ /^(cmp|test)/) fail(f, i, "moves the stack")
         reach(f, i + 1, d)
     }
 }
