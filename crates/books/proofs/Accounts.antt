@@ -26,7 +26,7 @@ use Rattle.frames.specs.declared.Fate.{Fate}
 use Rattle.frames.specs.declared.Turn.{Turn}
 use Rattle.frames.specs.Track.{underCount, underBytes, turnOf, closedOf}
 use Rattle.ledger.specs.declared.Account.{Account}
-use Rattle.ledger.specs.declared.Entry.{Entry}
+use Rattle.ledger.specs.Entry.{Entry}
 use Rattle.ledger.specs.declared.Ledger.{Ledger}
 use Rattle.ledger.specs.Ledger.{placeOf, countAt, bytesAt, lostAt, idleAt, ticksAt, backwardAt, untimedAt, noLedger, shownOf}
 use Rattle.session.specs.declared.Session.{Session}

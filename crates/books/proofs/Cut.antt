@@ -22,7 +22,7 @@ use Rattle.frames.specs.declared.Phase.{Phase}
 use Rattle.frames.specs.declared.Phase.the-variants.{Fresh, Under, Past}
 use Rattle.frames.specs.declared.Fate.{Fate}
 use Rattle.frames.specs.Track.{firstOf, clashOf, earlierOf, faultOf, joinedOf, completeOf, fateOf, phaseOf}
-use Rattle.ledger.specs.declared.Entry.{Entry}
+use Rattle.ledger.specs.Entry.{Entry}
 use Rattle.books.specs.Rule.{Seen, same, ahead, runs, frameOf, strayOf, complete, dataOf, _orStamp_, firstStamp, _or_, when, differs, faultAt, gapAfter, faultFrom, Item, verdict, settled, strays, judge, nothing, judged}
 use Rattle.books.specs.Demands.{fateItems}
 

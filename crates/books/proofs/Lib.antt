@@ -4,6 +4,7 @@ pub mod Made
 pub mod Cut
 pub mod Owed
 pub mod Posts
+pub mod Sized
 pub mod Taken
 pub mod History
 pub mod Accounts

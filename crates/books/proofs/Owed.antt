@@ -23,7 +23,7 @@ use Rattle.frames.specs.declared.Ended.the-variants.{Nothing, Frame}
 use Rattle.frames.specs.declared.Fate.{Fate}
 use Rattle.frames.specs.declared.Turn.{Turn}
 use Rattle.frames.specs.Track.{firstOf, whyOf, sameOf, begunOf, faultOf, joinedOf, fateOf, phaseOf, joinTurn, strayTurn, turnBy, turnOf, spoiltBy}
-use Rattle.ledger.specs.declared.Entry.{Entry}
+use Rattle.ledger.specs.Entry.{Entry}
 use Rattle.books.specs.Rule.{Event, idle, unreadable, missing, readable, Seen, spoiled, readables, runs, frameOf, _orStamp_, _or_, when, Item, judged, nothing, gapBefore}
 use Rattle.books.specs.Demands.{endedItems, fateItems}
 use Rattle.books.proofs.Made.{base, turnItems}

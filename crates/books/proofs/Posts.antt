@@ -15,7 +15,7 @@ use Rattle.payload.specs.declared.Stamp.the-variants.{Absent, At}
 use Rattle.frames.specs.declared.Reason.{Reason}
 use Rattle.frames.specs.declared.Reason.the-variants.{Gap, Error, Clock, Long, Cut, Empty}
 use Rattle.ledger.specs.declared.Account.{Account}
-use Rattle.ledger.specs.declared.Entry.{Entry}
+use Rattle.ledger.specs.Entry.{Entry}
 use Rattle.ledger.specs.declared.Step.the-variants.{Forward, Backward}
 use Rattle.ledger.specs.declared.Ledger.{Ledger}
 use Rattle.ledger.specs.Step.{aheadOf}

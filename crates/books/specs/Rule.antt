@@ -16,7 +16,7 @@ use Rattle.frames.specs.declared.Reason.{Reason}
 use Rattle.frames.specs.declared.Reason.the-variants.{Gap, Error, Clock, Long, Cut, Empty}
 use Rattle.frames.specs.declared.Fault.{Fault}
 use Rattle.frames.specs.declared.Fault.the-variants.{Sound, Bad}
-use Rattle.ledger.specs.declared.Entry.{Entry}
+use Rattle.ledger.specs.Entry.{Entry}
 
 -- THE LIST holds the calls taken in order: transfers with their bytes, lost reports, close.
 pub data Call : Type 0 where

@@ -9,11 +9,16 @@ use native.Mathlib.Numerals.{add-one}
 use native.Mathlib.Omega.{arith}
 use Rattle.session.specs.declared.Session.{Session}
 use Rattle.ledger.specs.Ledger.{bytesOf}
+use Rattle.session.specs.declared.Rest.{Rest}
 use Rattle.session.specs.declared.Taken.{Taken}
+use Rattle.session.specs.declared.RestTaken.{RestTaken}
 use Rattle.session.specs.declared.Opened.{Opened}
 use Rattle.rules.specs.Numbered.{firstFrom}
 use Rattle.session.specs.Refusals.{openingFlags}
-use Rattle.session.specs.Session.{openOf, openBy, takeOf, bufferOf}
+use Rattle.session.specs.Session.{openOf, openBy, takeOf, bufferOf, restOf, wholeOf, takenWith}
+use Rattle.books.specs.Calls.{Offer}
+use Rattle.books.proofs.Posts.{Sized}
+use Rattle.books.proofs.Sized.{next-sized}
 use Rattle.exports.specs.Taking.{State, tookFirst, tookAll, opened, deliveredOf}
 
 pub round-less : (times i n at : ℕ) → i < times → (times - (i + 1)) * (n + 1) + (n - 0) < (times - i) * (n + 1) + (n - at)
@@ -30,47 +35,55 @@ pub record Going (size times : ℕ) (l : List ℕ) (a : State) (b : List ℕ) (s
   pub place : at ≡ k * size
   pub state : record { session = s; buffer = b } ≡ tookFirst size l (tookAll size l a i) k
   pub ended : times ≤ i → k ≡ 0
+  pub sized : Sized (s .ledger)
 
-pub going-start : (frame payload size times : ℕ) (l b : List ℕ) (o : Opened) → o ≡ openOf frame payload (length b) → Going size times l (opened frame payload b) b (o .session) 0 0
+pub going-start : (frame payload size times : ℕ) (l b m : List ℕ) (o : Opened) (r : Rest) → o ≡ openOf frame payload (length b) → (m ≡ o .session .ledger .numbers) × (length m ≡ 27) →
+    r ≡ restOf (o .session) → Going size times l (opened frame payload b) b (wholeOf r m) 0 0
 unfolding tookFirst tookAll
-going-start frame payload size times l b o e = record { k = 0; place = sym (zero-mul size); state = rw e refl; ended = λ h. refl }
+going-start frame payload size times l b m o r e f g = record { k = 0; place = sym (zero-mul size); state = rw (g, f .0, e) refl; ended = λ h. refl; sized = f .1 }
 
 whole : (size n k : ℕ) → k * size + size ≤ n → n - (k * size + size) < size → n / size ≡ suc k
 whole size n k h e =
     let m : suc k * size + (n - (k * size + size)) ≡ n = omega arith in
     ap (λ (x : ℕ). x / size) (sym m) ∙ digits-div (suc k) e
 
-module _ (size times : ℕ) (l : List ℕ) (a : State) (b : List ℕ) (s : Session) (i at : ℕ) (g : Going size times l a b s i at) (d : List ℕ) (r : Taken)
-    (v : r ≡ takeOf s (length b) (take (at + size - at) (drop at l))) (w : d ≡ bufferOf s b (take (at + size - at) (drop at l))) where
-  next : record { session = r .session; buffer = d } ≡ tookFirst size l (tookAll size l a i) (suc (g .k))
+module _ (size times : ℕ) (l : List ℕ) (a : State) (b : List ℕ) (s : Session) (i at : ℕ) (g : Going size times l a b s i at) (d : List ℕ) (x : RestTaken) (m : List ℕ)
+    (v : takenWith x m ≡ takeOf s (length b) (take (at + size - at) (drop at l))) (w : d ≡ bufferOf s b (take (at + size - at) (drop at l))) where
+  abbrev after : Session
+  after = wholeOf (x .rest) m
+
+  kept : Sized (after .ledger)
+  kept = ap (λ (y : Taken). length (y .session .ledger .numbers)) v ∙ next-sized s (g .sized) (Offer.take b (take (at + size - at) (drop at l)))
+
+  next : record { session = after; buffer = d } ≡ tookFirst size l (tookAll size l a i) (suc (g .k))
   unfolding tookFirst
   next =
       let e : at + size - at ≡ size = omega arith in
-      rw (← g .state, v, w, e, g .place) refl
+      ap (λ (y : Taken). record { session = y .session; buffer = d }) v ∙ rw (← g .state, w, e, g .place) refl
 
-  pub going-more : i < times → Going size times l a d (r .session) i (at + size)
-  going-more h = record { k = suc (g .k); place = rw (g .place) (step (g .k)); state = next; ended = λ e. absurd (omega arith) }
+  pub going-more : i < times → Going size times l a d after i (at + size)
+  going-more h = record { k = suc (g .k); place = rw (g .place) (step (g .k)); state = next; ended = λ e. absurd (omega arith); sized = kept }
     where
       step : (k : ℕ) → k * size + size ≡ suc k * size
       step k = omega arith
 
-  pub going-round : at + size ≤ length l → length l - (at + size) < size → Going size times l a d (r .session) (i + 1) 0
+  pub going-round : at + size ≤ length l → length l - (at + size) < size → Going size times l a d after (i + 1) 0
   unfolding tookFirst tookAll
   going-round h e =
-      let m : length l / size ≡ suc (g .k) = whole size (length l) (g .k) (rw (← g .place) h) (rw (← g .place) e) in
-      record { k = 0; place = sym (zero-mul size); state = rw (add-one i, m) next; ended = λ x. refl }
+      let n : length l / size ≡ suc (g .k) = whole size (length l) (g .k) (rw (← g .place) h) (rw (← g .place) e) in
+      record { k = 0; place = sym (zero-mul size); state = rw (add-one i, n) next; ended = λ z. refl; sized = kept }
 
 -- ---- the answer: the bytes delivered, and the buffer
 abbrev Answered : ℕ → List ℕ → State → ℕ → ℕ → List ℕ → Type 0
 Answered size l a times r b = (r ≡ deliveredOf (tookAll size l a times)) × (b ≡ tookAll size l a times .buffer)
 
-pub all-taken : (size times : ℕ) (l : List ℕ) (a : State) (b : List ℕ) (s : Session) (i at r : ℕ) → Going size times l a b s i at → i ≤ times → times ≤ i
-    → r ≡ bytesOf (s .ledger) 0 → Answered size l a times r b
+pub all-taken : (size times : ℕ) (l : List ℕ) (a : State) (b : List ℕ) (s y : Session) (i at r : ℕ) → Going size times l a b s i at → i ≤ times → times ≤ i
+    → y ≡ s → r ≡ bytesOf (y .ledger) 0 → Answered size l a times r b
 unfolding tookFirst
-all-taken size times l a b s i at r g h e q =
+all-taken size times l a b s y i at r g h e f q =
     let j : i ≡ times = omega arith in
     let x : record { session = s; buffer = b } ≡ tookAll size l a times = rw (g .ended e, j) at (g .state) in
-    (q ∙ ap (λ (y : State). deliveredOf y) x, ap (λ (y : State). y .buffer) x)
+    (q ∙ ap (λ (z : Session). bytesOf (z .ledger) 0) f ∙ ap (λ (z : State). deliveredOf z) x, ap (λ (z : State). z .buffer) x)
 
 no-round : (size : ℕ) (l : List ℕ) (a : State) (i : ℕ) → length l / size ≡ 0 → a ≡ tookAll size l a i
 unfolding tookFirst tookAll

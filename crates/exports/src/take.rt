@@ -18,7 +18,9 @@ pub extern "C" fn palkodhen_take(
     ensures { λ _. ⌜ now (buffer .exit) ≡ tookAll size (now (transfers .entry)) (opened frame payload (now (buffer .entry))) times .buffer ⌝ }
 {
     let start = Session::open(frame, payload, buffer);
-    let mut s = start.session;
+    let s = start.session;
+    let mut numbers = s.numbers();
+    let mut rest = s.rest();
     if size == 0 {
         return 0;
     }
@@ -29,14 +31,15 @@ pub extern "C" fn palkodhen_take(
     let mut at: usize = 0;
     while i < times {
         let end = at + size;
-        let taken = s.take(buffer, &transfers[at..end]);
-        s = taken.session;
+        let taken = rest.take(&mut numbers, buffer, &transfers[at..end]);
+        rest = taken.rest;
         at = end;
         if transfers.len() - at < size {
             at = 0;
             i += 1;
         }
     }
-    let l = s.ledger;
+    let last = rest.whole(numbers);
+    let l = last.ledger;
     l.bytes(Account::Delivered)
 }

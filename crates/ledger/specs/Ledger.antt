@@ -14,7 +14,7 @@ use Rattle.frames.specs.declared.Answer.{Answer}
 use Rattle.frames.specs.declared.Phase.{Phase}
 use Rattle.frames.specs.Track.{underCount, underBytes}
 use Rattle.ledger.specs.declared.Account.{Account}
-use Rattle.ledger.specs.declared.Entry.{Entry}
+use Rattle.ledger.specs.Entry.{Entry}
 use Rattle.ledger.specs.declared.Step.{Step}
 use Rattle.ledger.specs.declared.Step.the-variants.{Forward, Backward}
 use Rattle.ledger.specs.declared.Ledger.{Ledger}
@@ -82,14 +82,25 @@ plusAt l i n = set l i (getD l i 0 + n)
 unfoldable pub plusOf : Ledger → ℕ → ℕ → Ledger
 plusOf l i n = record { numbers = plusAt (l .numbers) i n; last = l .last }
 
+abbrev pub enteredIn : List ℕ → Account → ℕ → List ℕ
+enteredIn l a n = plusAt (plusAt l (countAt (placeOf a)) 1) (bytesAt (placeOf a)) n
+
 -- one more in an account, of n bytes
 abbrev pub enteredOf : Ledger → Account → ℕ → Ledger
 enteredOf l a n = plusOf (plusOf l (countAt (placeOf a)) 1) (bytesAt (placeOf a)) n
 
 -- forward adds to the ticks, backward is counted
+abbrev pub steppedIn : List ℕ → Step → List ℕ
+steppedIn l (Forward n) = plusAt l ticksAt n
+steppedIn l (Backward n) = plusAt l backwardAt 1
+
 abbrev pub steppedOf : Ledger → Step → Ledger
 steppedOf l (Forward n) = plusOf l ticksAt n
 steppedOf l (Backward n) = plusOf l backwardAt 1
+
+-- a ledger of lent numbers
+abbrev pub ledgerWith : List ℕ → Stamp → Ledger
+ledgerWith l s = record { numbers = l; last = s }
 
 abbrev pub lastIs : Ledger → Stamp → Ledger
 lastIs l s = record { numbers = l .numbers; last = s }
@@ -114,17 +125,11 @@ postOf l (Entry.Headers n) = enteredOf l Account.Headers n
 postOf l Entry.Lost = plusOf l lostAt 1
 postOf l Entry.Idle = plusOf l idleAt 1
 
-abbrev pub entryBytes : Entry → ℕ
-entryBytes (Entry.Delivered d) = d .len
-entryBytes (Entry.Dropped why n) = n
-entryBytes (Entry.UnderWay n) = n
-entryBytes (Entry.Stray n) = n
-entryBytes (Entry.Unreadable n) = n
-entryBytes (Entry.Headers n) = n
-entryBytes Entry.Lost = 0
-entryBytes Entry.Idle = 0
-
 -- an answer: the frame that was ended, with its bytes, and then the transfer's fate, with its own
+abbrev pub endedIn : List ℕ → Ended → ℕ → List ℕ
+endedIn l Nothing gone = l
+endedIn l (Frame why) gone = enteredIn l (accountFor why) gone
+
 abbrev pub endedOf : Ledger → Ended → ℕ → Ledger
 endedOf l Nothing gone = l
 endedOf l (Frame why) gone = postOf l (Entry.Dropped why gone)
@@ -158,22 +163,11 @@ shownOf l p =
     }
 
 -- ROOM FOR MORE, so that no sum wraps: neither number of an account is above b
-pub record Spare (b : ℕ) (l : Ledger) (k : ℕ) : Type 0 where
-  pub count : countOf l k ≤ b
-  pub bytes : bytesOf l k ≤ b
+pub record Spare (b : ℕ) (l : List ℕ) (k : ℕ) : Type 0 where
+  pub count : getD l (countAt k) 0 ≤ b
+  pub bytes : getD l (bytesAt k) 0 ≤ b
 
 -- and no other number is. The account of the frame under way is left out: while the frame goes on, the track has it.
-pub record Room (b : ℕ) (l : Ledger) : Type 0 where
+pub record Room (b : ℕ) (l : List ℕ) : Type 0 where
   pub accounts : (k : ℕ) → k < 11 → (k ≡ placeOf Account.UnderWay → ⊥) → Spare b l k
-  pub others : (i : ℕ) → lostAt ≤ i → i ≤ untimedAt → getD (l .numbers) i 0 ≤ b
-
--- what an entry of a frame under way needs besides
-abbrev pub Held : ℕ → Ledger → Entry → Type 0
-Held b l (Entry.Delivered d) = Unit {0}
-Held b l (Entry.Dropped why n) = Unit {0}
-Held b l (Entry.UnderWay n) = Spare b l (placeOf Account.UnderWay)
-Held b l (Entry.Stray n) = Unit {0}
-Held b l (Entry.Unreadable n) = Unit {0}
-Held b l (Entry.Headers n) = Unit {0}
-Held b l Entry.Lost = Unit {0}
-Held b l Entry.Idle = Unit {0}
+  pub others : (i : ℕ) → lostAt ≤ i → i ≤ untimedAt → getD l i 0 ≤ b

@@ -2,11 +2,10 @@
 ghost use mathlib.Core.Path.{_≡_};
 ghost use Prim.Native.Nat.{_+_, _<_, _≤_, _^_};
 ghost use lib.ListN.{getD};
-ghost use Rattle.ledger.specs.Ledger.{noLedger, placeOf, accountFor, plusOf, enteredOf, steppedOf, timedOf, postOf, endedOf, fatedOf, answeredOf, shownOf, countOf, bytesOf, entryBytes, fateBytes, Room, Spare, Held};
+ghost use Rattle.ledger.specs.Ledger.{noLedger, placeOf, accountFor, plusAt, enteredIn, steppedIn, timedOf, endedIn, fatedOf, answeredOf, shownOf, countOf, bytesOf, fateBytes, ledgerWith, Room, Spare};
 ghost use Rattle.frames.specs.Track.{underCount, underBytes};
 ghost use Rattle.ledger.specs.Step.{stepOf};
 use frames::Answer;
-use frames::Delivery;
 use frames::Ended;
 use frames::Fate;
 use frames::Phase;
@@ -34,20 +33,11 @@ pub enum Step {
     Backward(u32),
 }
 
-// What is entered: a frame with its bytes, a transfer with its bytes, or a report.
-pub enum Entry {
-    Delivered(Delivery),
-    Dropped(Reason, u64),
-    UnderWay(u64),
-    Stray(u64),
-    Unreadable(u64),
-    Headers(u64),
-    Lost,
-    Idle,
-}
+// The numbers in the order of print: each account's count and bytes, then lost, idle, ticks, backward and untimed.
+pub type Numbers = [u64; 27];
 
-// The numbers in the order of print: each account's count and bytes, then lost, idle, ticks, backward and untimed;
-// and the stamp of the last delivered frame that has one.
+// The numbers, and the stamp of the last delivered frame that has one.
+// What is entered is entered in place: a session lends the numbers, and none of them is copied.
 pub struct Ledger {
     pub numbers: [u64; 27],
     pub last: Stamp,
@@ -109,117 +99,107 @@ impl Ledger {
         self.numbers[at]
     }
 
-    // n more at a place.
-    fn plus(mut self, at: usize, n: u64) -> Self
-        requires { ⌜ (at < 27) × (getD (self .numbers) at 0 + n < 2 ^ 64) ⌝ }
-        ensures { λ r. ⌜ r ≡ plusOf self at n ⌝ }
+    // Inner: n more at a place. The session has looked at the bounds (50), here and below.
+    pub fn plus(m: &mut Numbers, at: usize, n: u64)
+        requires { ⌜ (at < 27) × (getD (now m) at 0 + n < 2 ^ 64) ⌝ }
+        ensures { λ _. ⌜ now (m .exit) ≡ plusAt (now (m .entry)) at n ⌝ }
     {
-        let was = self.numbers[at];
-        self.numbers[at] = was + n;
-        self
+        let was = m[at];
+        m[at] = was + n;
     }
 
-    // One more in an account, of n bytes.
-    fn entered(self, a: Account, n: u64) -> Self
-        requires { ⌜ (Spare (2 ^ 63 + 2 ^ 60) self (placeOf a)) × (n ≤ 2 ^ 50) ⌝ }
-        ensures { λ r. ⌜ r ≡ enteredOf self a n ⌝ }
+    // Inner: one more in an account, of n bytes.
+    pub fn entered(m: &mut Numbers, a: Account, n: u64)
+        requires { ⌜ (Spare (2 ^ 63 + 2 ^ 60) (now m) (placeOf a)) × (n ≤ 2 ^ 50) ⌝ }
+        ensures { λ _. ⌜ now (m .exit) ≡ enteredIn (now (m .entry)) a n ⌝ }
     {
         let at = 2 * place(a);
-        let l = self.plus(at, 1);
-        l.plus(at + 1, n)
+        Ledger::plus(m, at, 1);
+        Ledger::plus(m, at + 1, n);
     }
 
     // A step: forward adds to the ticks, backward is counted.
-    fn stepped(self, s: Step) -> Self
-        requires { ⌜ Room (2 ^ 63 + 2 ^ 61) self ⌝ }
-        ensures { λ r. ⌜ r ≡ steppedOf self s ⌝ }
+    fn stepped(m: &mut Numbers, s: Step)
+        requires { ⌜ Room (2 ^ 63 + 2 ^ 61) (now m) ⌝ }
+        ensures { λ _. ⌜ now (m .exit) ≡ steppedIn (now (m .entry)) s ⌝ }
     {
         match s {
-            Step::Forward(n) => self.plus(Ledger::RUNNING, n as u64),
-            Step::Backward(_) => self.plus(Ledger::BACKWARD, 1),
+            Step::Forward(n) => Ledger::plus(m, Ledger::RUNNING, n as u64),
+            Step::Backward(_) => Ledger::plus(m, Ledger::BACKWARD, 1),
         }
     }
 
-    // The time from the last stamped delivered frame to this one.
-    fn timed(self, s: Stamp) -> Self
-        requires { ⌜ Room (2 ^ 63 + 2 ^ 61) self ⌝ }
-        ensures { λ r. ⌜ r ≡ timedOf self s ⌝ }
+    // The time from the last stamped delivered frame to this one; answers the last stamp.
+    fn timed(m: &mut Numbers, last: Stamp, s: Stamp) -> Stamp
+        requires { ⌜ Room (2 ^ 63 + 2 ^ 61) (now m) ⌝ }
+        ensures { λ r. ⌜ ledgerWith (now (m .exit)) r ≡ timedOf (ledgerWith (now (m .entry)) last) s ⌝ }
     {
         match s {
-            Stamp::Absent => self.plus(Ledger::UNTIMED, 1),
-            Stamp::At(b) => {
-                let last = self.last;
-                match last {
-                    Stamp::Absent => {
-                        let numbers = self.numbers;
-                        Ledger { numbers, last: s }
-                    }
-                    Stamp::At(a) => {
-                        let l = self.stepped(step_between(a, b));
-                        let numbers = l.numbers;
-                        Ledger { numbers, last: s }
-                    }
+            Stamp::Absent => {
+                Ledger::plus(m, Ledger::UNTIMED, 1);
+                last
+            }
+            Stamp::At(b) => match last {
+                Stamp::Absent => s,
+                Stamp::At(a) => {
+                    Ledger::stepped(m, step_between(a, b));
+                    s
                 }
-            }
-        }
-    }
-
-    // Inner: enters one entry. The session has looked at the bounds (50).
-    pub fn post(self, e: Entry) -> Self
-        requires { ⌜ (Room (2 ^ 63 + 2 ^ 60) self) × (Held (2 ^ 63 + 2 ^ 60) self e) × (entryBytes e ≤ 2 ^ 50) ⌝ }
-        ensures { λ r. ⌜ r ≡ postOf self e ⌝ }
-    {
-        match e {
-            Entry::Delivered(d) => {
-                let l = self.entered(Account::Delivered, d.len);
-                let s = d.stamp;
-                l.timed(s)
-            }
-            Entry::Dropped(why, n) => self.entered(account_for(why), n),
-            Entry::UnderWay(n) => self.entered(Account::UnderWay, n),
-            Entry::Stray(n) => self.entered(Account::Stray, n),
-            Entry::Unreadable(n) => self.entered(Account::Unreadable, n),
-            Entry::Headers(n) => self.entered(Account::Headers, n),
-            Entry::Lost => self.plus(Ledger::LOST, 1),
-            Entry::Idle => self.plus(Ledger::IDLE, 1),
+            },
         }
     }
 
     // Inner: a frame of so many bytes that was ended, if there is one.
-    pub fn ended(self, e: Ended, gone: u64) -> Self
-        requires { ⌜ (Room (2 ^ 63 + 2 ^ 60) self) × (gone ≤ 2 ^ 50) ⌝ }
-        ensures { λ r. ⌜ r ≡ endedOf self e gone ⌝ }
+    pub fn ended(m: &mut Numbers, e: Ended, gone: u64)
+        requires { ⌜ (Room (2 ^ 63 + 2 ^ 60) (now m)) × (gone ≤ 2 ^ 50) ⌝ }
+        ensures { λ _. ⌜ now (m .exit) ≡ endedIn (now (m .entry)) e gone ⌝ }
     {
         match e {
-            Ended::Nothing => self,
-            Ended::Frame(why) => self.post(Entry::Dropped(why, gone)),
+            Ended::Nothing => {}
+            Ended::Frame(why) => Ledger::entered(m, account_for(why), gone),
         }
     }
 
-    // A transfer's fate, with its bytes.
-    fn fated(self, f: Fate, n: u64) -> Self
-        requires { ⌜ (Room (2 ^ 63 + 2 ^ 60) self) × (fateBytes f n ≤ 2 ^ 50) ⌝ }
-        ensures { λ r. ⌜ r ≡ fatedOf self f n ⌝ }
+    // A transfer's fate, with its bytes; answers the last stamp.
+    fn fated(m: &mut Numbers, last: Stamp, f: Fate, n: u64) -> Stamp
+        requires { ⌜ (Room (2 ^ 63 + 2 ^ 60) (now m)) × (fateBytes f n ≤ 2 ^ 50) ⌝ }
+        ensures { λ r. ⌜ ledgerWith (now (m .exit)) r ≡ fatedOf (ledgerWith (now (m .entry)) last) f n ⌝ }
     {
         match f {
-            Fate::Idle => self.post(Entry::Idle),
-            Fate::Kept => self,
-            Fate::Stray => self.post(Entry::Stray(n)),
-            Fate::Delivered(d) => self.post(Entry::Delivered(d)),
-            Fate::Dropped(why) => self.post(Entry::Dropped(why, n)),
-            Fate::Unreadable(_) => self.post(Entry::Unreadable(n)),
+            Fate::Idle => {
+                Ledger::plus(m, Ledger::IDLE, 1);
+                last
+            }
+            Fate::Kept => last,
+            Fate::Stray => {
+                Ledger::entered(m, Account::Stray, n);
+                last
+            }
+            Fate::Delivered(d) => {
+                Ledger::entered(m, Account::Delivered, d.len);
+                let s = d.stamp;
+                Ledger::timed(m, last, s)
+            }
+            Fate::Dropped(why) => {
+                Ledger::entered(m, account_for(why), n);
+                last
+            }
+            Fate::Unreadable(_) => {
+                Ledger::entered(m, Account::Unreadable, n);
+                last
+            }
         }
     }
 
-    // Inner: posts an answer: the bytes of the frame that was ended, and those of the transfer's fate.
-    pub fn answered(self, a: Answer, gone: u64, n: u64) -> Self
-        requires { ⌜ (Room (2 ^ 63 + 2 ^ 59) self) × (gone ≤ 2 ^ 50) × (fateBytes (a .fate) n ≤ 2 ^ 50) ⌝ }
-        ensures { λ r. ⌜ r ≡ answeredOf self a gone n ⌝ }
+    // Inner: posts an answer: the bytes of the frame that was ended, and those of the transfer's fate; answers the last stamp.
+    pub fn answered(m: &mut Numbers, last: Stamp, a: Answer, gone: u64, n: u64) -> Stamp
+        requires { ⌜ (Room (2 ^ 63 + 2 ^ 59) (now m)) × (gone ≤ 2 ^ 50) × (fateBytes (a .fate) n ≤ 2 ^ 50) ⌝ }
+        ensures { λ r. ⌜ ledgerWith (now (m .exit)) r ≡ answeredOf (ledgerWith (now (m .entry)) last) a gone n ⌝ }
     {
         let e = a.ended;
         let f = a.fate;
-        let l = self.ended(e, gone);
-        l.fated(f, n)
+        Ledger::ended(m, e, gone);
+        Ledger::fated(m, last, f, n)
     }
 
     // The ledger with the frame under way in its account.

@@ -36,12 +36,12 @@ fn push(r: Reader, frame: &mut [u8], piece: &mut [u8], b: u8) -> Reader
         };
     }
     Reader {
-        trace: t.step(frame, piece),
+        trace: t.run(frame, piece),
         have: 0,
     }
 }
 
-// Whole records straight from the input, and bytes of one that is in pieces.
+// Whole records straight from the input, all in one go, and bytes of one that is in pieces.
 fn feed(r: Reader, frame: &mut [u8], piece: &mut [u8], input: &[u8]) -> Reader
     requires { ⌜ (r .have < 64) × (length (now piece) ≡ 64) ⌝ }
     ensures { λ x. ⌜ x .have < 64 ⌝ }
@@ -50,11 +50,12 @@ fn feed(r: Reader, frame: &mut [u8], piece: &mut [u8], input: &[u8]) -> Reader
     let mut at = 0;
     while at < input.len() {
         if reader.have == 0 {
-            if 64 <= input.len() - at {
-                let end = at + 64;
+            let left = input.len() - at;
+            if 64 <= left {
+                let end = input.len() - left % 64;
                 let t = reader.trace;
                 reader = Reader {
-                    trace: t.step(frame, &input[at..end]),
+                    trace: t.run(frame, &input[at..end]),
                     have: 0,
                 };
                 at = end;
@@ -76,7 +77,7 @@ fn last(r: Reader, frame: &mut [u8], piece: &[u8]) -> Trace
     if have == 0 {
         return t;
     }
-    t.step(frame, &piece[0..have])
+    t.run(frame, &piece[0..have])
 }
 
 // What the whole input came to, and whether every read went well.

@@ -1,6 +1,6 @@
 -- What each call answers, one law for each way through the code.
 use Prim.Native.Nat.{ℕ, zero, suc, _+_, _-_, _≤_, _<_, _^_}
-use mathlib.Core.Path.{_≡_, refl, sym, _∙_}
+use mathlib.Core.Path.{_≡_, refl, sym, ap, _∙_}
 use mathlib.Core.List.{List}
 use mathlib.Core.Bool.{true, false}
 use native.Mathlib.Omega.{arith}
@@ -11,6 +11,7 @@ use borrow.Author.Tests.{ltb-false, eqb-false}
 use Rattle.rules.specs.Numbered.{firstFrom, firstRow, NoneOf}
 use Rattle.rules.proofs.Rows.{row-none}
 use Rattle.payload.specs.declared.Header.{Header}
+use Rattle.payload.specs.declared.Stamp.{Stamp}
 use Rattle.payload.specs.declared.Reading.{Reading}
 use Rattle.payload.specs.declared.Reading.the-variants.{Idle, Unreadable, Readable}
 use Rattle.payload.specs.Transfer.{readingOf}
@@ -19,10 +20,15 @@ use Rattle.frames.specs.declared.Track.{Track}
 use Rattle.frames.specs.declared.Turn.{Turn}
 use Rattle.frames.specs.declared.Shut.{Shut}
 use Rattle.frames.specs.declared.Fate.{Fate}
-use Rattle.frames.specs.Track.{spoiltOf, closedOf}
+use Rattle.frames.specs.Track.{turnOf, spoiltOf, closedOf}
+use Rattle.ledger.specs.declared.Account.{Account}
 use Rattle.ledger.specs.declared.Ledger.{Ledger}
-use Rattle.ledger.specs.declared.Entry.{Entry}
-use Rattle.ledger.specs.Ledger.{postOf, endedOf}
+use Rattle.ledger.specs.Ledger.{lostAt, idleAt, plusAt, enteredIn, endedIn, answeredOf, ledgerWith}
+use Rattle.ledger.proofs.Lent.{with-headers, with-unreadable, with-lost, with-idle, with-ended}
+use Rattle.session.specs.declared.Rest.{Rest}
+use Rattle.session.specs.declared.RestTaken.{RestTaken}
+use Rattle.session.specs.declared.RestReported.{RestReported}
+use Rattle.session.specs.declared.RestClosed.{RestClosed}
 use Rattle.session.specs.declared.Session.{Session}
 use Rattle.session.specs.declared.Start.{Start}
 use Rattle.session.specs.declared.Outcome.{Outcome}
@@ -31,7 +37,7 @@ use Rattle.session.specs.declared.Report.{Report}
 use Rattle.session.specs.declared.Closing.{Closing}
 use Rattle.session.specs.declared.Closed.{Closed}
 use Rattle.session.specs.Refusals.{openingFlags, recordBroken, closeRows, lostRows, takeRows, Ready}
-use Rattle.session.specs.Session.{fresh, noSession, openOf, countedOf, readOf, readBuffer, plainly, tookOf, tookBuffer, takeOf, bufferOf, lostBy, lostOf, closeBy, closeOf, openBy, takeBy, bufferBy}
+use Rattle.session.specs.Session.{fresh, noSession, openOf, countedOf, readOf, readBuffer, plainly, tookOf, tookBuffer, takeOf, bufferOf, lostBy, lostOf, closeBy, closeOf, openBy, takeBy, bufferBy, restOf, wholeOf, countedRest, takenWith, reportedWith, closedWith}
 
 -- ---- a call that nothing refuses
 module _ (s : Session) where
@@ -88,29 +94,45 @@ pub put-buffer :
     (drop from t) (y .len)
 put-buffer x y from buffer t e k = let q = part-length t from (x .len) k in rw (← e, take-length, q, add-sub-cancel-left)
 
-module _ (s : Session) (buffer t : List ℕ) where
-  pub took-idle : (r : Reading) (l : Ledger) (x : Session) → r ≡ readingOf (s .opening) t → r ≡ Idle → l ≡ postOf (s .ledger) Entry.Idle →
-      x ≡ countedOf s (s .track) l →
-      (record { session = x; outcome = Outcome.Taken (plainly Fate.Idle) } ≡ tookOf s t) × (buffer ≡ tookBuffer s buffer t)
-  unfolding tookOf tookBuffer
-  took-idle r l x e i p q = (rw (← e, i, q, p), rw (← e, i))
+-- a readable transfer, once its header and its answer are entered
+pub read-done :
+    (r : Rest) (l k m : List ℕ) (h : Header) (n : ℕ) (x : Turn) (last : Stamp) (y : Rest) → x ≡ turnOf (r .opening) (r .track) h n →
+    k ≡ enteredIn l Account.Headers (h .len) →
+    ledgerWith m last ≡ answeredOf (ledgerWith k (r .last)) (x .answer) (x .gone) (x .bytes) →
+    y ≡ countedRest r (x .track) last →
+    takenWith (record { rest = y; outcome = Outcome.Taken (x .answer) }) m ≡ readOf (wholeOf r l) h n
+unfolding readOf
+read-done r l k m h n x last y e p q v =
+    ap (λ (z : Rest). takenWith (record { rest = z; outcome = Outcome.Taken (x .answer) }) m) v
+    ∙ ap (λ (z : Ledger). record { session = countedOf (wholeOf r l) (x .track) z; outcome = Outcome.Taken (x .answer) }) q
+    ∙ rw (p, e, with-headers l (r .last) (h .len))
 
-  pub took-unreadable : (r : Reading) (k : ℕ) (l : Ledger) (w : Track) (x : Session) → r ≡ readingOf (s .opening) t → r ≡ Unreadable k →
-      l ≡ postOf (s .ledger) (Entry.Unreadable (length t)) → w ≡ spoiltOf (s .track) → x ≡ countedOf s w l →
-      (record { session = x; outcome = Outcome.Taken (plainly (Fate.Unreadable k)) } ≡ tookOf s t) × (buffer ≡ tookBuffer s buffer t)
-  unfolding tookOf tookBuffer
-  took-unreadable r k l w x e i p v q = (rw (← e, i, q, p, v), rw (← e, i))
+module _ (r : Rest) (l buffer t : List ℕ) where
+  abbrev s : Session
+  s = wholeOf r l
 
-  pub took-readable : (r : Reading) (h : Header) (x : Taken) (b : List ℕ) → r ≡ readingOf (s .opening) t → r ≡ Readable h →
-      x ≡ readOf s h (length t - h .len) → b ≡ readBuffer s h buffer t → (x ≡ tookOf s t) × (b ≡ tookBuffer s buffer t)
+  pub took-idle : (x : Reading) (m : List ℕ) (y : Rest) → x ≡ readingOf (r .opening) t → x ≡ Idle → m ≡ plusAt l idleAt 1 →
+      y ≡ countedRest r (r .track) (r .last) →
+      (takenWith (record { rest = y; outcome = Outcome.Taken (plainly Fate.Idle) }) m ≡ tookOf s t) × (buffer ≡ tookBuffer s buffer t)
   unfolding tookOf tookBuffer
-  took-readable r h x b e i p q = (rw (← e, i) p, rw (← e, i) q)
+  took-idle x m y e i p q = (rw (← e, i, q, p, with-idle l (r .last)), rw (← e, i))
 
-  pub header-within : (r : Reading) (h : Header) → r ≡ readingOf (s .opening) t → r ≡ Readable h → h .len ≤ length t
-  header-within r h e i = readable-fits (s .opening) t h (sym e ∙ i) .inside
+  pub took-unreadable : (x : Reading) (k : ℕ) (m : List ℕ) (w : Track) (y : Rest) → x ≡ readingOf (r .opening) t → x ≡ Unreadable k →
+      m ≡ enteredIn l Account.Unreadable (length t) → w ≡ spoiltOf (r .track) → y ≡ countedRest r w (r .last) →
+      (takenWith (record { rest = y; outcome = Outcome.Taken (plainly (Fate.Unreadable k)) }) m ≡ tookOf s t) × (buffer ≡ tookBuffer s buffer t)
+  unfolding tookOf tookBuffer
+  took-unreadable x k m w y e i p v q = (rw (← e, i, q, p, v, with-unreadable l (r .last) (length t)), rw (← e, i))
+
+  pub took-readable : (x : Reading) (h : Header) (y : Taken) (b : List ℕ) → x ≡ readingOf (r .opening) t → x ≡ Readable h →
+      y ≡ readOf s h (length t - h .len) → b ≡ readBuffer s h buffer t → (y ≡ tookOf s t) × (b ≡ tookBuffer s buffer t)
+  unfolding tookOf tookBuffer
+  took-readable x h y b e i p q = (rw (← e, i) p, rw (← e, i) q)
+
+  pub header-within : (x : Reading) (h : Header) → x ≡ readingOf (r .opening) t → x ≡ Readable h → h .len ≤ length t
+  header-within x h e i = readable-fits (r .opening) t h (sym e ∙ i) .inside
 
   module _ (n : ℕ) (e : n ≡ firstRow (takeRows s (length buffer) (length t))) where
-    pub take-refused : (n ≡ 0 → ⊥) → (record { session = s; outcome = Outcome.Refused n } ≡ takeOf s (length buffer) t) ×
+    pub take-refused : (n ≡ 0 → ⊥) → (takenWith (record { rest = r; outcome = Outcome.Refused n }) l ≡ takeOf s (length buffer) t) ×
         (buffer ≡ bufferOf s buffer t)
     unfolding takeOf bufferOf
     take-refused h = rw (← e) (go n h)
@@ -125,35 +147,58 @@ module _ (s : Session) (buffer t : List ℕ) where
     take-taken x b z p q = (rw (← e, z) p, rw (← e, z) q)
 
 -- ---- lost
-module _ (s : Session) (n : ℕ) (e : n ≡ firstRow (lostRows s)) where
-  pub lost-refused : (n ≡ 0 → ⊥) → record { session = s; report = Report.Refused n } ≡ lostOf s
+module _ (r : Rest) (l : List ℕ) (n : ℕ) (e : n ≡ firstRow (lostRows (wholeOf r l))) where
+  pub lost-refused : (n ≡ 0 → ⊥) → reportedWith (record { rest = r; report = Report.Refused n }) l ≡ lostOf (wholeOf r l)
   unfolding lostOf
   lost-refused h = rw (← e) (go n h)
     where
-      go : (m : ℕ) → (m ≡ 0 → ⊥) → record { session = s; report = Report.Refused m } ≡ lostBy m s
+      go : (m : ℕ) → (m ≡ 0 → ⊥) → record { session = wholeOf r l; report = Report.Refused m } ≡ lostBy m (wholeOf r l)
       go zero h = absurd (h refl)
       go (suc m) h = refl
 
-  pub lost-noted : (l : Ledger) (w : Track) (x : Session) → n ≡ 0 → l ≡ postOf (s .ledger) Entry.Lost → w ≡ spoiltOf (s .track) →
-      x ≡ countedOf s w l →
-      record { session = x; report = Report.Noted } ≡ lostOf s
+  pub lost-noted : (m : List ℕ) (w : Track) (y : Rest) → n ≡ 0 → m ≡ plusAt l lostAt 1 → w ≡ spoiltOf (r .track) →
+      y ≡ countedRest r w (r .last) →
+      reportedWith (record { rest = y; report = Report.Noted }) m ≡ lostOf (wholeOf r l)
   unfolding lostOf
-  lost-noted l w x z p v q = rw (← e, z, q, p, v)
+  lost-noted m w y z p v q = rw (← e, z, q, p, v, with-lost l (r .last))
 
 -- ---- close
-module _ (s : Session) (n : ℕ) (e : n ≡ firstRow (closeRows s)) where
-  pub close-refused : (n ≡ 0 → ⊥) → record { session = s; closing = Closing.Refused n } ≡ closeOf s
+module _ (r : Rest) (l : List ℕ) (n : ℕ) (e : n ≡ firstRow (closeRows (wholeOf r l))) where
+  pub close-refused : (n ≡ 0 → ⊥) → closedWith (record { rest = r; closing = Closing.Refused n }) l ≡ closeOf (wholeOf r l)
   unfolding closeOf
   close-refused h = rw (← e) (go n h)
     where
-      go : (m : ℕ) → (m ≡ 0 → ⊥) → record { session = s; closing = Closing.Refused m } ≡ closeBy m s
+      go : (m : ℕ) → (m ≡ 0 → ⊥) → record { session = wholeOf r l; closing = Closing.Refused m } ≡ closeBy m (wholeOf r l)
       go zero h = absurd (h refl)
       go (suc m) h = refl
 
-  pub close-closed : (w : Shut) (l : Ledger) → n ≡ 0 → w ≡ closedOf (s .track) → l ≡ endedOf (s .ledger) (w .ended) (w .gone) →
+  pub close-closed : (w : Shut) (m : List ℕ) → n ≡ 0 → w ≡ closedOf (r .track) → m ≡ endedIn l (w .ended) (w .gone) →
+      closedWith (
       record {
-        session = record { opening = s .opening; closed = true; taken = s .taken; track = w .track; ledger = l };
+        rest = record { opening = r .opening; closed = true; taken = r .taken; track = w .track; last = r .last };
         closing = Closing.Closed (w .ended);
-      } ≡ closeOf s
+      }
+      ) m ≡ closeOf (wholeOf r l)
   unfolding closeOf
-  close-closed w l z p q = rw (← e, z, q, p)
+  close-closed w m z p q = rw (← e, z, q, p, with-ended l (r .last) (closedOf (r .track) .ended) (closedOf (r .track) .gone))
+
+-- ---- a call on the whole record is the call on its two parts
+module _ (s : Session) (r : Rest) (e : r ≡ restOf s) (m : List ℕ) (y : Session) where
+  pub whole-taken : (x : RestTaken) (buffer b t : List ℕ) → y ≡ wholeOf (x .rest) m →
+      takenWith x m ≡ takeOf (wholeOf r (s .ledger .numbers)) (length buffer) t → b ≡ bufferOf (wholeOf r (s .ledger .numbers)) buffer t →
+      (record { session = y; outcome = x .outcome } ≡ takeOf s (length buffer) t) × (b ≡ bufferOf s buffer t)
+  whole-taken x buffer b t p q w = (
+    ap (λ (z : Session). record { session = z; outcome = x .outcome }) p
+        ∙ q ∙ ap (λ (z : Rest). takeOf (wholeOf z (s .ledger .numbers)) (length buffer) t) e,
+    w ∙ ap (λ (z : Rest). bufferOf (wholeOf z (s .ledger .numbers)) buffer t) e,
+  )
+
+  pub whole-reported : (x : RestReported) → y ≡ wholeOf (x .rest) m → reportedWith x m ≡ lostOf (wholeOf r (s .ledger .numbers)) →
+      record { session = y; report = x .report } ≡ lostOf s
+  whole-reported x p q =
+      ap (λ (z : Session). record { session = z; report = x .report }) p ∙ q ∙ ap (λ (z : Rest). lostOf (wholeOf z (s .ledger .numbers))) e
+
+  pub whole-closed : (x : RestClosed) → y ≡ wholeOf (x .rest) m → closedWith x m ≡ closeOf (wholeOf r (s .ledger .numbers)) →
+      record { session = y; closing = x .closing } ≡ closeOf s
+  whole-closed x p q =
+      ap (λ (z : Session). record { session = z; closing = x .closing }) p ∙ q ∙ ap (λ (z : Rest). closeOf (wholeOf z (s .ledger .numbers))) e

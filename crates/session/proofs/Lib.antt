@@ -1,5 +1,6 @@
 -- Laws of a session.
 pub mod Checks
+pub mod Parts
 pub mod Row50
 pub mod Ready
 pub mod Calls

@@ -1,11 +1,10 @@
 -- What a session record that rule 50 lets through is good for: no sum can wrap, and data goes within the frame. From 50 alone, and the record's types.
 use Prim.Native.Nat.{ℕ, _≤_, _<_, _^_}
-use mathlib.Core.Path.{_≡_, sym, subst, _∙_}
+use mathlib.Core.Path.{_≡_, sym, subst}
 use mathlib.Core.Bool.{false}
 use native.Mathlib.Omega.{arith}
 use native.Mathlib.Decide.{ℕ-discrete}
-use lib.ListN.{length, getD, set, length-set}
-use lib.Seq.{getD-set-same, getD-set-other}
+use lib.ListN.{length, getD}
 use Rattle.sizes.specs.Sizes.{frameMost}
 use Rattle.sizes.proofs.Limits.{Between}
 use Rattle.payload.specs.declared.Header.{Header}
@@ -13,26 +12,15 @@ use Rattle.frames.specs.declared.Phase.{Phase}
 use Rattle.frames.specs.declared.Phase.the-variants.{Fresh, Under, Past}
 use Rattle.frames.specs.declared.Fate.{Fate}
 use Rattle.frames.specs.declared.Turn.{Turn}
-use Rattle.frames.specs.Track.{turnOf, underCount, underBytes, Roomy}
+use Rattle.frames.specs.Track.{turnOf, underBytes, Roomy}
 use Rattle.frames.proofs.Bounds.{FilledBy, LengthOf, Sits, turn-sits}
-use Rattle.ledger.specs.declared.Ledger.{Ledger}
-use Rattle.ledger.specs.Ledger.{countAt, bytesAt, lostAt, idleAt, ticksAt, backwardAt, untimedAt, shownOf, fateBytes, Spare, Room}
+use Rattle.ledger.specs.Ledger.{countAt, bytesAt, lostAt, idleAt, ticksAt, backwardAt, untimedAt, fateBytes, Spare, Room}
 use Rattle.session.specs.declared.Session.{Session}
 use Rattle.session.specs.Refusals.{ledgerOf, recordBroken, Ready}
+use Rattle.session.proofs.Parts.{shown-other, shown-bytes}
 use Rattle.session.proofs.Row50.{Keeps, row-50}
 
--- ---- the ledger with the frame under way in its account
-shown-other : (l : Ledger) (p : Phase) (i : ℕ) → (i ≡ 14 → ⊥) → (i ≡ 15 → ⊥) → getD (shownOf l p .numbers) i 0 ≡ getD (l .numbers) i 0
-unfolding shownOf
-shown-other l p i a b =
-    getD-set-other (set (l .numbers) 14 (underCount p)) 15 i (underBytes p) 0 b ∙ getD-set-other (l .numbers) 14 i (underCount p) 0 a
-
-shown-under : (l : Ledger) (p : Phase) → length (l .numbers) ≡ 27 → getD (shownOf l p .numbers) 15 0 ≡ underBytes p
-unfolding shownOf
-shown-under l p e =
-    getD-set-same (set (l .numbers) 14 (underCount p)) 15 (underBytes p) 0
-    (let q : length (set (l .numbers) 14 (underCount p)) ≡ length (l .numbers) = length-set (l .numbers) 14 (underCount p) in omega arith)
-
+-- ---- the counts that are no accounts
 among : (P : ℕ → Type 0) → P lostAt → P idleAt → P ticksAt → P backwardAt → P untimedAt → (i : ℕ) → lostAt ≤ i → i ≤ untimedAt → P i
 among P a b c d e i h q = go (ℕ-discrete i lostAt) (ℕ-discrete i idleAt) (ℕ-discrete i ticksAt) (ℕ-discrete i backwardAt)
   where
@@ -48,13 +36,13 @@ pub record Able (s : Session) : Type 0 where
   pub frame : Between 1 (s .opening .frame) frameMost
   pub filled : FilledBy (s .opening) (s .track .phase)
   pub under : underBytes (s .track .phase) < 2 ^ 48
-  pub room : Room (2 ^ 63) (s .ledger)
+  pub room : Room (2 ^ 63) (s .ledger .numbers)
 
 module _ (s : Session) (keeps : Keeps s) (places : length (s .ledger .numbers) ≡ 27) (few : s .taken < 2 ^ 32) where
   few-bytes : underBytes (s .track .phase) < 2 ^ 48
-  few-bytes = omega (arith, keeps .bytes 7 (omega arith), shown-under (s .ledger) (s .track .phase) places)
+  few-bytes = omega (arith, keeps .bytes 7 (omega arith), shown-bytes (s .ledger) (s .track .phase) places)
 
-  spare : (k : ℕ) → k < 11 → (k ≡ 7 → ⊥) → Spare (2 ^ 63) (s .ledger) k
+  spare : (k : ℕ) → k < 11 → (k ≡ 7 → ⊥) → Spare (2 ^ 63) (s .ledger .numbers) k
   spare k h p =
       record {
         count = omega (arith, keeps .counts k h, shown-other (s .ledger) (s .track .phase) (countAt k) (λ e. p (omega arith)) (λ e. omega arith));

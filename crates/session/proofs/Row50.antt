@@ -7,7 +7,7 @@ use native.Mathlib.Omega.{arith}
 use lib.Dec.{ltb, eqb}
 use lib.ListN.{getD}
 use borrow.Author.Tests.{ltb-false, eqb-true, le-ltb, eq-eqb, ne-eqb}
-use Rattle.rules.proofs.Rows.{or-first, or-second, none-any}
+use Rattle.rules.proofs.Rows.{any-none, or-first, or-second, none-any}
 use Rattle.sizes.specs.Sizes.{frameMost, payloadLeast, payloadMost, frameSizeBroken, payloadSizeBroken}
 use Rattle.sizes.proofs.Limits.{Between, frame-sound, payload-sound}
 use Rattle.payload.specs.declared.Opening.{Opening}
@@ -20,7 +20,7 @@ use Rattle.ledger.specs.declared.Ledger.{Ledger}
 use Rattle.ledger.specs.Ledger.{countOf, bytesOf, lostAt, idleAt, ticksAt, backwardAt, untimedAt}
 use Rattle.session.specs.declared.Session.{Session}
 use Rattle.session.specs.Refusals.{ledgerOf, sizesBroken, unequal, fillBroken, accountBroken, accountsBroken, countsBroken, recordBroken}
-use Rattle.session.proofs.Checks.{or-no, account-within, accounts-within}
+use Rattle.session.proofs.Checks.{or-no}
 
 -- none of the row's conditions holds
 pub record Keeps (s : Session) : Type 0 where
@@ -103,6 +103,13 @@ module _ (l : Ledger) (n : ℕ) where
       }
 
 -- ---- the other way round
+account-within : (l : Ledger) (n k : ℕ) → countOf l k ≤ n → bytesOf l k ≤ 65536 * n → accountBroken l n k ≡ false
+account-within l n k p q = none (ltb n (countOf l k)) (ltb (65536 * n) (bytesOf l k)) (le-ltb n (countOf l k) p) (le-ltb (65536 * n) (bytesOf l k) q)
+
+accounts-within : (l : Ledger) (n : ℕ) → ((k : ℕ) → k < 11 → accountBroken l n k ≡ false) → false ≡ accountsBroken l n
+unfolding accountsBroken
+accounts-within l n h = sym (any-none 11 (accountBroken l n) h)
+
 unequal-clear : (f : Fault) (fill bytes : ℕ) → (f ≡ Sound → fill ≡ bytes) → unequal f fill bytes ≡ false
 unequal-clear Sound fill bytes h = rw (eq-eqb fill bytes (h refl))
 unequal-clear (Bad w) fill bytes h = refl

@@ -1,16 +1,20 @@
 -- Two answers, and two contents of the lent buffer, that a promise allows are equal.
 use Prim.Native.Nat.{ℕ}
-use mathlib.Core.Path.{_≡_, sym, _∙_}
+use mathlib.Core.Path.{_≡_, sym, ap, _∙_}
 use mathlib.Core.List.{List}
 use lib.ListN.{length}
 use Rattle.ledger.specs.declared.Ledger.{Ledger}
 use Rattle.session.specs.declared.Session.{Session}
+use Rattle.session.specs.declared.Rest.{Rest}
+use Rattle.session.specs.declared.RestTaken.{RestTaken}
+use Rattle.session.specs.declared.RestReported.{RestReported}
+use Rattle.session.specs.declared.RestClosed.{RestClosed}
 use Rattle.session.specs.declared.Opened.{Opened}
 use Rattle.session.specs.declared.Taken.{Taken}
 use Rattle.session.specs.declared.Reported.{Reported}
 use Rattle.session.specs.declared.Closed.{Closed}
 use Rattle.session.specs.Refusals.{ledgerOf}
-use Rattle.session.specs.Session.{openOf, takeOf, bufferOf, lostOf, closeOf}
+use Rattle.session.specs.Session.{openOf, takeOf, bufferOf, lostOf, closeOf, restOf, wholeOf, takenWith, reportedWith, closedWith}
 
 pub open-unique : (frame payload room : ℕ) (x y : Opened) → x ≡ openOf frame payload room → y ≡ openOf frame payload room → x ≡ y
 open-unique frame payload room x y p q = p ∙ sym q
@@ -29,3 +33,28 @@ lost-unique s x y p q = p ∙ sym q
 
 pub close-unique : (s : Session) (x y : Closed) → x ≡ closeOf s → y ≡ closeOf s → x ≡ y
 close-unique s x y p q = p ∙ sym q
+
+-- the same of the calls on the record's two parts
+pub rest-unique : (s : Session) (x y : Rest) → x ≡ restOf s → y ≡ restOf s → x ≡ y
+rest-unique s x y p q = p ∙ sym q
+
+pub whole-unique : (r : Rest) (m : List ℕ) (x y : Session) → x ≡ wholeOf r m → y ≡ wholeOf r m → x ≡ y
+whole-unique r m x y p q = p ∙ sym q
+
+pub rest-take-unique : (t : Taken) (x y : RestTaken) (m k : List ℕ) → takenWith x m ≡ t → takenWith y k ≡ t → (x ≡ y) × (m ≡ k)
+rest-take-unique t x y m k p q = (
+  ap (λ (z : Taken). record { rest = restOf (z .session); outcome = z .outcome }) (p ∙ sym q),
+  ap (λ (z : Taken). z .session .ledger .numbers) (p ∙ sym q),
+)
+
+pub rest-lost-unique : (t : Reported) (x y : RestReported) (m k : List ℕ) → reportedWith x m ≡ t → reportedWith y k ≡ t → (x ≡ y) × (m ≡ k)
+rest-lost-unique t x y m k p q = (
+  ap (λ (z : Reported). record { rest = restOf (z .session); report = z .report }) (p ∙ sym q),
+  ap (λ (z : Reported). z .session .ledger .numbers) (p ∙ sym q),
+)
+
+pub rest-close-unique : (t : Closed) (x y : RestClosed) (m k : List ℕ) → closedWith x m ≡ t → closedWith y k ≡ t → (x ≡ y) × (m ≡ k)
+rest-close-unique t x y m k p q = (
+  ap (λ (z : Closed). record { rest = restOf (z .session); closing = z .closing }) (p ∙ sym q),
+  ap (λ (z : Closed). z .session .ledger .numbers) (p ∙ sym q),
+)

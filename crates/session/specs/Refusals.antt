@@ -2,19 +2,23 @@
 use Prim.Native.Nat.{ℕ, _+_, _*_, _<_, _≤_, _^_}
 use mathlib.Core.Path.{_≡_}
 use mathlib.Core.List.{List, [], _∷_, _++_}
-use mathlib.Core.Bool.{Bool, true, false, not, _||_}
+use mathlib.Core.Bool.{Bool, true, false, not, _||_, _&&_}
 use lib.ListN.{length, getD}
 use lib.Dec.{ltb, leb, eqb}
 use Rattle.rules.specs.Numbered.{Row, anyBelow}
 use Rattle.sizes.specs.Sizes.{frameSizeBroken, payloadSizeBroken}
 use Rattle.payload.specs.declared.Opening.{Opening}
+use Rattle.payload.specs.declared.Stamp.the-variants.{Absent}
 use Rattle.frames.specs.declared.Fault.{Fault}
 use Rattle.frames.specs.declared.Fault.the-variants.{Sound, Bad}
 use Rattle.frames.specs.declared.Phase.{Phase}
 use Rattle.frames.specs.declared.Phase.the-variants.{Fresh, Under, Past}
+use Rattle.frames.specs.Track.{underCount, underBytes}
+use Rattle.ledger.specs.declared.Account.{Account}
 use Rattle.ledger.specs.declared.Ledger.{Ledger}
-use Rattle.ledger.specs.Ledger.{countOf, bytesOf, lostAt, idleAt, ticksAt, backwardAt, untimedAt, shownOf}
+use Rattle.ledger.specs.Ledger.{placeOf, countOf, bytesOf, lostAt, idleAt, ticksAt, backwardAt, untimedAt, shownOf, ledgerWith}
 use Rattle.session.specs.declared.Session.{Session}
+use Rattle.session.specs.declared.Rest.{Rest}
 
 -- the most bytes of a transfer, and the most transfers taken
 abbrev pub transferMost : ℕ
@@ -70,18 +74,43 @@ recordBroken s =
     || (accountsBroken (ledgerOf s) (s .taken) || countsBroken (ledgerOf s) (s .taken)))
 
 -- what close, a lost report and a transfer meet, in this order
-abbrev pub closeRows : Session → List Row
-closeRows s = record { number = 50; broken = recordBroken s } ∷ record { number = 53; broken = s .closed } ∷ []
+abbrev pub closeRowsBy : Bool → Bool → List Row
+closeRowsBy broken closed = record { number = 50; broken = broken } ∷ record { number = 53; broken = closed } ∷ []
 
-abbrev pub lostRows : Session → List Row
-lostRows s = closeRows s ++ (record { number = 52; broken = eqb (s .taken) takenMost } ∷ [])
+abbrev pub lostRowsBy : Bool → Bool → ℕ → List Row
+lostRowsBy broken closed taken = closeRowsBy broken closed ++ (record { number = 52; broken = eqb taken takenMost } ∷ [])
 
-abbrev pub takeRows : Session → ℕ → ℕ → List Row
-takeRows s room n =
-    lostRows s
-    ++ (record { number = 51; broken = ltb room (s .opening .frame) }
+abbrev pub takeRowsBy : Bool → Bool → ℕ → ℕ → ℕ → ℕ → List Row
+takeRowsBy broken closed taken frame room n =
+    lostRowsBy broken closed taken
+    ++ (record { number = 51; broken = ltb room frame }
     ∷ record { number = 55; broken = ltb transferMost n }
     ∷ [])
+
+abbrev pub closeRows : Session → List Row
+closeRows s = closeRowsBy (recordBroken s) (s .closed)
+
+abbrev pub lostRows : Session → List Row
+lostRows s = lostRowsBy (recordBroken s) (s .closed) (s .taken)
+
+abbrev pub takeRows : Session → ℕ → ℕ → List Row
+takeRows s room n = takeRowsBy (recordBroken s) (s .closed) (s .taken) (s .opening .frame) room n
+
+-- RULE 50 PART BY PART, where the ledger's numbers are lent: the account of the frame under way is the track's,
+abbrev pub underBroken : Phase → ℕ → Bool
+underBroken p n = ltb n (underCount p) || ltb (transferMost * n) (underBytes p)
+
+-- every other account, and the counts, are what is posted,
+abbrev pub postedAccount : List ℕ → ℕ → ℕ → Bool
+postedAccount l n k = not (eqb k (placeOf Account.UnderWay)) && accountBroken (ledgerWith l Absent) n k
+
+unfoldable pub postedBroken : List ℕ → ℕ → Bool
+postedBroken l n = anyBelow 11 (postedAccount l n) || countsBroken (ledgerWith l Absent) n
+
+-- and all that is not posted is in the rest of the record
+unfoldable pub restBroken : Rest → Bool
+restBroken r =
+    sizesBroken (r .opening) || (fillBroken (r .track .phase) (r .opening .frame) || underBroken (r .track .phase) (r .taken))
 
 -- what a session that is not refused by 50, 53 or 52 gives: no sum can wrap, and the data goes within the frame
 pub record Ready (s : Session) : Type 0 where

@@ -6,6 +6,7 @@ use lib.ListN.{length, drop}
 use lib.Seq.{paste}
 use Rattle.rules.specs.Numbered.{firstFrom, firstRow}
 use Rattle.payload.specs.declared.Opening.{Opening}
+use Rattle.payload.specs.declared.Stamp.{Stamp}
 use Rattle.payload.specs.declared.Header.{Header}
 use Rattle.payload.specs.declared.Reading.{Reading}
 use Rattle.payload.specs.declared.Reading.the-variants.{Idle, Unreadable, Readable}
@@ -19,9 +20,13 @@ use Rattle.frames.specs.declared.Fate.{Fate}
 use Rattle.frames.specs.declared.Answer.{Answer}
 use Rattle.frames.specs.Track.{turnOf, spoiltOf, closedOf}
 use Rattle.ledger.specs.declared.Ledger.{Ledger}
-use Rattle.ledger.specs.declared.Entry.{Entry}
-use Rattle.ledger.specs.Ledger.{noLedger, postOf, endedOf, answeredOf}
+use Rattle.ledger.specs.Entry.{Entry}
+use Rattle.ledger.specs.Ledger.{noLedger, postOf, endedOf, answeredOf, ledgerWith}
 use Rattle.session.specs.declared.Session.{Session}
+use Rattle.session.specs.declared.Rest.{Rest}
+use Rattle.session.specs.declared.RestTaken.{RestTaken}
+use Rattle.session.specs.declared.RestReported.{RestReported}
+use Rattle.session.specs.declared.RestClosed.{RestClosed}
 use Rattle.session.specs.declared.Start.{Start}
 use Rattle.session.specs.declared.Opened.{Opened}
 use Rattle.session.specs.declared.Outcome.{Outcome}
@@ -143,3 +148,23 @@ closeBy (suc k) s = record { session = s; closing = Closing.Refused (suc k) }
 
 unfoldable pub closeOf : Session → Closed
 closeOf s = closeBy (firstRow (closeRows s)) s
+
+-- THE RECORD IN TWO PARTS: its ledger's numbers, which are lent, and the rest
+abbrev pub restOf : Session → Rest
+restOf s = record { opening = s .opening; closed = s .closed; taken = s .taken; track = s .track; last = s .ledger .last }
+
+abbrev pub wholeOf : Rest → List ℕ → Session
+wholeOf r numbers =
+    record { opening = r .opening; closed = r .closed; taken = r .taken; track = r .track; ledger = ledgerWith numbers (r .last) }
+
+abbrev pub countedRest : Rest → Track → Stamp → Rest
+countedRest r t last = record { opening = r .opening; closed = r .closed; taken = r .taken + 1; track = t; last = last }
+
+abbrev pub takenWith : RestTaken → List ℕ → Taken
+takenWith x numbers = record { session = wholeOf (x .rest) numbers; outcome = x .outcome }
+
+abbrev pub reportedWith : RestReported → List ℕ → Reported
+reportedWith x numbers = record { session = wholeOf (x .rest) numbers; report = x .report }
+
+abbrev pub closedWith : RestClosed → List ℕ → Closed
+closedWith x numbers = record { session = wholeOf (x .rest) numbers; closing = x .closing }

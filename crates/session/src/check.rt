@@ -1,12 +1,16 @@
 // What refuses a call: 45 to 47 of an opening, rule 50 of a session record, and 53, 52, 51, 55 in this order.
 ghost use mathlib.Core.Path.{_≡_};
+ghost use mathlib.Core.Bool.{_||_};
 ghost use Prim.Native.Nat.{_<_, _^_};
-ghost use Rattle.rules.specs.Numbered.{firstFrom, firstRow};
-ghost use Rattle.session.specs.Refusals.{openingFlags, sizesBroken, unequal, fillBroken, accountsBroken, countsBroken, recordBroken, closeRows, lostRows, takeRows};
-use crate::Session;
+ghost use Rattle.payload.specs.declared.Stamp.the-variants.{Absent};
+ghost use Rattle.rules.specs.Numbered.{firstFrom, firstRow, anyBelow};
+ghost use Rattle.ledger.specs.Ledger.{ledgerWith};
+ghost use Rattle.session.specs.Refusals.{openingFlags, sizesBroken, unequal, fillBroken, underBroken, postedAccount, countsBroken, postedBroken, restBroken, closeRowsBy, lostRowsBy, takeRowsBy};
+use crate::Rest;
 use frames::Fault;
 use frames::Phase;
 use ledger::Ledger;
+use ledger::Numbers;
 use payload::Opening;
 
 // The first of 45 to 47 that an opening breaks; 0 where none is broken.
@@ -62,19 +66,45 @@ fn fill_broken(p: Phase, frame: usize) -> bool
     }
 }
 
-// A byte account over 65,536 times the transfers taken, or an account's count above them.
-fn accounts_broken(l: Ledger, n: u64) -> bool
+// The account of the frame under way: over 65,536 times the transfers taken, or none is taken.
+fn under_broken(p: Phase, n: u64) -> bool
     requires { ⌜ n < 2 ^ 32 ⌝ }
-    ensures { λ r. ⌜ r ≡ accountsBroken l n ⌝ }
+    ensures { λ r. ⌜ r ≡ underBroken p n ⌝ }
 {
-    let most = Ledger::BYTES * n;
+    match p {
+        Phase::Fresh => false,
+        Phase::Past(_) => false,
+        Phase::Under(r) => {
+            if n < 1 {
+                return true;
+            }
+            Ledger::BYTES * n < r.bytes
+        }
+    }
+}
+
+// A posted account: its count above the transfers taken, or its bytes over 65,536 times them.
+fn account_broken(m: &Numbers, n: u64, k: usize) -> bool
+    requires { ⌜ (n < 2 ^ 32) × (k < 11) ⌝ }
+    ensures { λ r. ⌜ r ≡ postedAccount (now (m .entry)) n k ⌝ }
+{
+    let at = 2 * k;
+    if at == Ledger::UNDER_WAY {
+        return false;
+    }
+    if n < m[at] {
+        return true;
+    }
+    Ledger::BYTES * n < m[at + 1]
+}
+
+fn accounts_broken(m: &Numbers, n: u64) -> bool
+    requires { ⌜ n < 2 ^ 32 ⌝ }
+    ensures { λ r. ⌜ r ≡ anyBelow 11 (postedAccount (now (m .entry)) n) ⌝ }
+{
     let mut k: usize = 0;
     while k < Ledger::ACCOUNTS {
-        let at = 2 * k;
-        if n < l.numbers[at] {
-            return true;
-        }
-        if most < l.numbers[at + 1] {
+        if account_broken(m, n, k) {
             return true;
         }
         k += 1;
@@ -83,28 +113,39 @@ fn accounts_broken(l: Ledger, n: u64) -> bool
 }
 
 // Ticks over 2^31 times the transfers taken, or another count above them.
-fn counts_broken(l: Ledger, n: u64) -> bool
+fn counts_broken(m: &Numbers, n: u64) -> bool
     requires { ⌜ n < 2 ^ 32 ⌝ }
-    ensures { λ r. ⌜ r ≡ countsBroken l n ⌝ }
+    ensures { λ r. ⌜ r ≡ countsBroken (ledgerWith (now (m .entry)) Absent) n ⌝ }
 {
-    if Ledger::TICKS * n < l.numbers[Ledger::RUNNING] {
+    if Ledger::TICKS * n < m[Ledger::RUNNING] {
         return true;
     }
-    if n < l.numbers[Ledger::LOST] {
+    if n < m[Ledger::LOST] {
         return true;
     }
-    if n < l.numbers[Ledger::IDLE] {
+    if n < m[Ledger::IDLE] {
         return true;
     }
-    if n < l.numbers[Ledger::BACKWARD] {
+    if n < m[Ledger::BACKWARD] {
         return true;
     }
-    n < l.numbers[Ledger::UNTIMED]
+    n < m[Ledger::UNTIMED]
 }
 
-// Rule 50.
-fn record_broken(s: Session) -> bool
-    ensures { λ r. ⌜ r ≡ recordBroken s ⌝ }
+// Rule 50 of what is posted.
+pub fn posted_broken(m: &Numbers, taken: u32) -> bool
+    ensures { λ r. ⌜ r ≡ postedBroken (now (m .entry)) taken ⌝ }
+{
+    let n = taken as u64;
+    if accounts_broken(m, n) {
+        return true;
+    }
+    counts_broken(m, n)
+}
+
+// Rule 50 of the rest.
+fn rest_broken(s: Rest) -> bool
+    ensures { λ r. ⌜ r ≡ restBroken s ⌝ }
 {
     let o = s.opening;
     if sizes_broken(o) {
@@ -115,19 +156,17 @@ fn record_broken(s: Session) -> bool
     if fill_broken(p, o.frame) {
         return true;
     }
-    let l = s.ledger();
-    let n = s.taken as u64;
-    if accounts_broken(l, n) {
-        return true;
-    }
-    counts_broken(l, n)
+    under_broken(p, s.taken as u64)
 }
 
-// 50, 53.
-pub fn close_refusal(s: Session) -> u8
-    ensures { λ r. ⌜ r ≡ firstRow (closeRows s) ⌝ }
+// 50, 53. Posted: whether what is posted breaks rule 50.
+pub fn close_refusal(posted: bool, s: Rest) -> u8
+    ensures { λ r. ⌜ r ≡ firstRow (closeRowsBy (restBroken s || posted) (s .closed)) ⌝ }
 {
-    if record_broken(s) {
+    if rest_broken(s) {
+        return 50;
+    }
+    if posted {
         return 50;
     }
     if s.closed {
@@ -137,10 +176,10 @@ pub fn close_refusal(s: Session) -> u8
 }
 
 // 50, 53, 52.
-pub fn lost_refusal(s: Session) -> u8
-    ensures { λ r. ⌜ r ≡ firstRow (lostRows s) ⌝ }
+pub fn lost_refusal(posted: bool, s: Rest) -> u8
+    ensures { λ r. ⌜ r ≡ firstRow (lostRowsBy (restBroken s || posted) (s .closed) (s .taken)) ⌝ }
 {
-    let number = close_refusal(s);
+    let number = close_refusal(posted, s);
     if number != 0 {
         return number;
     }
@@ -151,10 +190,10 @@ pub fn lost_refusal(s: Session) -> u8
 }
 
 // 50, 53, 52, 51, 55.
-pub fn take_refusal(s: Session, room: usize, n: usize) -> u8
-    ensures { λ r. ⌜ r ≡ firstRow (takeRows s room n) ⌝ }
+pub fn take_refusal(posted: bool, s: Rest, room: usize, n: usize) -> u8
+    ensures { λ r. ⌜ r ≡ firstRow (takeRowsBy (restBroken s || posted) (s .closed) (s .taken) (s .opening .frame) room n) ⌝ }
 {
-    let number = lost_refusal(s);
+    let number = lost_refusal(posted, s);
     if number != 0 {
         return number;
     }

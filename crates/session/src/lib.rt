@@ -1,22 +1,25 @@
 // A session: takes transfers in turn, hands out whole frames and keeps the ledger. Every call takes the session by value and gives the new one back.
+// The same calls stand on the rest of the record, with the ledger's numbers lent: who makes many calls in a row copies no number.
 mod check;
 
 ghost use mathlib.Core.Path.{_≡_};
 ghost use Prim.Native.Nat.{_-_, _+_, _<_, _≤_};
 ghost use lib.ListN.{length};
 ghost use Rattle.payload.specs.Transfer.{readingOf};
-ghost use Rattle.session.specs.Session.{openOf, newSession, countedOf, readOf, readBuffer, tookOf, tookBuffer, takeOf, bufferOf, lostOf, closeOf};
+ghost use Rattle.session.specs.Session.{openOf, newSession, countedRest, readOf, readBuffer, tookOf, tookBuffer, takeOf, bufferOf, lostOf, closeOf, restOf, wholeOf, takenWith, reportedWith, closedWith};
 ghost use Rattle.session.specs.Refusals.{transferMost, takenMost, Ready, ledgerOf};
 use frames::Answer;
 use frames::Ended;
 use frames::Fate;
 use frames::Phase;
 use frames::Track;
-use ledger::Entry;
+use ledger::Account;
 use ledger::Ledger;
+use ledger::Numbers;
 use payload::Header;
 use payload::Opening;
 use payload::Reading;
+use payload::Stamp;
 
 pub struct Session {
     pub opening: Opening,
@@ -26,6 +29,15 @@ pub struct Session {
     pub track: Track,
     // What is posted so far; the frame under way is in the track.
     pub ledger: Ledger,
+}
+
+// A session record but for its ledger's numbers.
+pub struct Rest {
+    pub opening: Opening,
+    pub closed: bool,
+    pub taken: u32,
+    pub track: Track,
+    pub last: Stamp,
 }
 
 pub enum Start {
@@ -50,6 +62,11 @@ pub struct Taken {
     pub outcome: Outcome,
 }
 
+pub struct RestTaken {
+    pub rest: Rest,
+    pub outcome: Outcome,
+}
+
 pub enum Report {
     // 50, 53 or 52.
     Refused(u8),
@@ -61,6 +78,11 @@ pub struct Reported {
     pub report: Report,
 }
 
+pub struct RestReported {
+    pub rest: Rest,
+    pub report: Report,
+}
+
 pub enum Closing {
     // 50 or 53.
     Refused(u8),
@@ -69,6 +91,11 @@ pub enum Closing {
 
 pub struct Closed {
     pub session: Session,
+    pub closing: Closing,
+}
+
+pub struct RestClosed {
+    pub rest: Rest,
     pub closing: Closing,
 }
 
@@ -125,26 +152,118 @@ impl Session {
         l.shown(p)
     }
 
-    // One more taken, with this track and ledger.
-    fn counted(self, track: Track, ledger: Ledger) -> Session
-        requires { ⌜ self .taken < takenMost ⌝ }
-        ensures { λ r. ⌜ r ≡ countedOf self track ledger ⌝ }
+    // The numbers of its ledger, without the frame under way.
+    pub fn numbers(self) -> [u64; 27]
+        ensures { λ r. ⌜ (r ≡ self .ledger .numbers) × (length r ≡ 27) ⌝ }
+    {
+        let l = self.ledger;
+        l.numbers
+    }
+
+    // The record but for its ledger's numbers.
+    pub fn rest(self) -> Rest
+        ensures { λ r. ⌜ r ≡ restOf self ⌝ }
     {
         let opening = self.opening;
+        let track = self.track;
+        let l = self.ledger;
+        let last = l.last;
+        Rest {
+            opening,
+            closed: self.closed,
+            taken: self.taken,
+            track,
+            last,
+        }
+    }
+
+    // Takes one transfer. A refused call changes no byte of the buffer and gives the session back as it was.
+    pub fn take(self, buffer: &mut [u8], t: &[u8]) -> Taken
+        ensures { λ r. ⌜ r ≡ takeOf self (length (now (buffer .entry))) (now (t .entry)) ⌝ }
+        ensures { λ _. ⌜ now (buffer .exit) ≡ bufferOf self (now (buffer .entry)) (now (t .entry)) ⌝ }
+    {
+        let l = self.ledger;
+        let mut numbers = l.numbers;
+        let rest = self.rest();
+        let taken = rest.take(&mut numbers, buffer, t);
+        let next = taken.rest;
+        let outcome = taken.outcome;
+        Taken {
+            session: next.whole(numbers),
+            outcome,
+        }
+    }
+
+    // The host reports a lost transfer.
+    pub fn lost(self) -> Reported
+        ensures { λ r. ⌜ r ≡ lostOf self ⌝ }
+    {
+        let l = self.ledger;
+        let mut numbers = l.numbers;
+        let rest = self.rest();
+        let reported = rest.lost(&mut numbers);
+        let next = reported.rest;
+        let report = reported.report;
+        Reported {
+            session: next.whole(numbers),
+            report,
+        }
+    }
+
+    // Ends a frame under way, and the session.
+    pub fn close(self) -> Closed
+        ensures { λ r. ⌜ r ≡ closeOf self ⌝ }
+    {
+        let l = self.ledger;
+        let mut numbers = l.numbers;
+        let rest = self.rest();
+        let closed = rest.close(&mut numbers);
+        let next = closed.rest;
+        let closing = closed.closing;
+        Closed {
+            session: next.whole(numbers),
+            closing,
+        }
+    }
+}
+
+impl Rest {
+    // The record, with its ledger's numbers.
+    pub fn whole(self, numbers: [u64; 27]) -> Session
+        ensures { λ r. ⌜ r ≡ wholeOf self numbers ⌝ }
+    {
+        let opening = self.opening;
+        let track = self.track;
+        let last = self.last;
         Session {
+            opening,
+            closed: self.closed,
+            taken: self.taken,
+            track,
+            ledger: Ledger { numbers, last },
+        }
+    }
+
+    // One more taken, with this track and last stamp.
+    fn counted(self, track: Track, last: Stamp) -> Rest
+        requires { ⌜ self .taken < takenMost ⌝ }
+        ensures { λ r. ⌜ r ≡ countedRest self track last ⌝ }
+    {
+        let opening = self.opening;
+        Rest {
             opening,
             closed: self.closed,
             taken: self.taken + 1,
             track,
-            ledger,
+            last,
         }
     }
 
     // A readable transfer: its data goes straight after the frame's earlier data.
-    fn read(self, buffer: &mut [u8], t: &[u8], h: Header) -> Taken
-        requires { ⌜ (Ready self) × (self .opening .frame ≤ length (now buffer)) × (length (now t) ≤ transferMost) × (h .len ≤ length (now t)) ⌝ }
-        ensures { λ r. ⌜ r ≡ readOf self h (length (now (t .entry)) - h .len) ⌝ }
-        ensures { λ _. ⌜ now (buffer .exit) ≡ readBuffer self h (now (buffer .entry)) (now (t .entry)) ⌝ }
+    fn read(self, m: &mut Numbers, buffer: &mut [u8], t: &[u8], h: Header) -> RestTaken
+        requires { ⌜ (Ready (wholeOf self (now m))) × (self .opening .frame ≤ length (now buffer)) × (length (now t) ≤ transferMost) × (h .len ≤ length (now t)) ⌝ }
+        ensures { λ r. ⌜ takenWith r (now (m .exit)) ≡ readOf (wholeOf self (now (m .entry))) h (length (now (t .entry)) - h .len) ⌝ }
+        ensures { λ _. ⌜ now (buffer .exit) ≡ readBuffer (wholeOf self (now (m .entry))) h (now (buffer .entry)) (now (t .entry)) ⌝ }
     {
         let from = h.len;
         let n = t.len() - from;
@@ -155,31 +274,31 @@ impl Session {
         let k = turn.len;
         copier::put(buffer, at, &t[from..from + k]);
         let answer = turn.answer;
-        let l = self.ledger;
-        let m = l.post(Entry::Headers(from as u64));
-        let ledger = m.answered(answer, turn.gone, turn.bytes);
+        let was = self.last;
+        Ledger::entered(m, Account::Headers, from as u64);
+        let last = Ledger::answered(m, was, answer, turn.gone, turn.bytes);
         let next = turn.track;
-        Taken {
-            session: self.counted(next, ledger),
+        RestTaken {
+            rest: self.counted(next, last),
             outcome: Outcome::Taken(answer),
         }
     }
 
     // A transfer that nothing refuses.
-    fn took(self, buffer: &mut [u8], t: &[u8]) -> Taken
-        requires { ⌜ (Ready self) × (self .opening .frame ≤ length (now buffer)) × (length (now t) ≤ transferMost) ⌝ }
-        ensures { λ r. ⌜ r ≡ tookOf self (now (t .entry)) ⌝ }
-        ensures { λ _. ⌜ now (buffer .exit) ≡ tookBuffer self (now (buffer .entry)) (now (t .entry)) ⌝ }
+    fn took(self, m: &mut Numbers, buffer: &mut [u8], t: &[u8]) -> RestTaken
+        requires { ⌜ (Ready (wholeOf self (now m))) × (self .opening .frame ≤ length (now buffer)) × (length (now t) ≤ transferMost) ⌝ }
+        ensures { λ r. ⌜ takenWith r (now (m .exit)) ≡ tookOf (wholeOf self (now (m .entry))) (now (t .entry)) ⌝ }
+        ensures { λ _. ⌜ now (buffer .exit) ≡ tookBuffer (wholeOf self (now (m .entry))) (now (buffer .entry)) (now (t .entry)) ⌝ }
     {
         let o = self.opening;
         let track = self.track;
-        let l = self.ledger;
+        let last = self.last;
         let reading = payload::read(o, t);
         match reading {
             Reading::Idle => {
-                let ledger = l.post(Entry::Idle);
-                Taken {
-                    session: self.counted(track, ledger),
+                Ledger::plus(m, Ledger::IDLE, 1);
+                RestTaken {
+                    rest: self.counted(track, last),
                     outcome: Outcome::Taken(Answer {
                         ended: Ended::Nothing,
                         fate: Fate::Idle,
@@ -187,79 +306,86 @@ impl Session {
                 }
             }
             Reading::Unreadable(number) => {
-                let ledger = l.post(Entry::Unreadable(t.len() as u64));
-                Taken {
-                    session: self.counted(track.spoilt(), ledger),
+                Ledger::entered(m, Account::Unreadable, t.len() as u64);
+                RestTaken {
+                    rest: self.counted(track.spoilt(), last),
                     outcome: Outcome::Taken(Answer {
                         ended: Ended::Nothing,
                         fate: Fate::Unreadable(number),
                     }),
                 }
             }
-            Reading::Readable(h) => self.read(buffer, t, h),
+            Reading::Readable(h) => self.read(m, buffer, t, h),
         }
     }
 
-    // Takes one transfer. A refused call changes no byte of the buffer and gives the session back as it was.
-    pub fn take(self, buffer: &mut [u8], t: &[u8]) -> Taken
-        ensures { λ r. ⌜ r ≡ takeOf self (length (now (buffer .entry))) (now (t .entry)) ⌝ }
-        ensures { λ _. ⌜ now (buffer .exit) ≡ bufferOf self (now (buffer .entry)) (now (t .entry)) ⌝ }
+    // Inner: takes one transfer. A refused call changes no byte of the buffer and no number, and gives the rest back as it was.
+    // What is required, here and below, the type of the numbers says.
+    pub fn take(self, m: &mut Numbers, buffer: &mut [u8], t: &[u8]) -> RestTaken
+        requires { ⌜ length (now m) ≡ 27 ⌝ }
+        ensures { λ r. ⌜ takenWith r (now (m .exit)) ≡ takeOf (wholeOf self (now (m .entry))) (length (now (buffer .entry))) (now (t .entry)) ⌝ }
+        ensures { λ _. ⌜ now (buffer .exit) ≡ bufferOf (wholeOf self (now (m .entry))) (now (buffer .entry)) (now (t .entry)) ⌝ }
     {
-        let number = check::take_refusal(self, buffer.len(), t.len());
+        let posted = check::posted_broken(m, self.taken);
+        let number = check::take_refusal(posted, self, buffer.len(), t.len());
         if number != 0 {
-            return Taken {
-                session: self,
+            return RestTaken {
+                rest: self,
                 outcome: Outcome::Refused(number),
             };
         }
-        self.took(buffer, t)
+        self.took(m, buffer, t)
     }
 
-    // The host reports a lost transfer.
-    pub fn lost(self) -> Reported
-        ensures { λ r. ⌜ r ≡ lostOf self ⌝ }
+    // Inner: the host reports a lost transfer.
+    pub fn lost(self, m: &mut Numbers) -> RestReported
+        requires { ⌜ length (now m) ≡ 27 ⌝ }
+        ensures { λ r. ⌜ reportedWith r (now (m .exit)) ≡ lostOf (wholeOf self (now (m .entry))) ⌝ }
     {
-        let number = check::lost_refusal(self);
+        let posted = check::posted_broken(m, self.taken);
+        let number = check::lost_refusal(posted, self);
         if number != 0 {
-            return Reported {
-                session: self,
+            return RestReported {
+                rest: self,
                 report: Report::Refused(number),
             };
         }
         let track = self.track;
-        let l = self.ledger;
-        let ledger = l.post(Entry::Lost);
-        Reported {
-            session: self.counted(track.spoilt(), ledger),
+        let last = self.last;
+        Ledger::plus(m, Ledger::LOST, 1);
+        RestReported {
+            rest: self.counted(track.spoilt(), last),
             report: Report::Noted,
         }
     }
 
-    // Ends a frame under way, and the session.
-    pub fn close(self) -> Closed
-        ensures { λ r. ⌜ r ≡ closeOf self ⌝ }
+    // Inner: ends a frame under way, and the session.
+    pub fn close(self, m: &mut Numbers) -> RestClosed
+        requires { ⌜ length (now m) ≡ 27 ⌝ }
+        ensures { λ r. ⌜ closedWith r (now (m .exit)) ≡ closeOf (wholeOf self (now (m .entry))) ⌝ }
     {
-        let number = check::close_refusal(self);
+        let posted = check::posted_broken(m, self.taken);
+        let number = check::close_refusal(posted, self);
         if number != 0 {
-            return Closed {
-                session: self,
+            return RestClosed {
+                rest: self,
                 closing: Closing::Refused(number),
             };
         }
         let track = self.track;
         let shut = track.shut();
         let ended = shut.ended;
-        let l = self.ledger;
-        let ledger = l.ended(ended, shut.gone);
+        Ledger::ended(m, ended, shut.gone);
         let opening = self.opening;
         let next = shut.track;
-        Closed {
-            session: Session {
+        let last = self.last;
+        RestClosed {
+            rest: Rest {
                 opening,
                 closed: true,
                 taken: self.taken,
                 track: next,
-                ledger,
+                last,
             },
             closing: Closing::Closed(ended),
         }

@@ -19,7 +19,7 @@ use Rattle.books.proofs.Taken.{next-taken}
 use Rattle.books.proofs.Whole.{same-call}
 use Rattle.books.proofs.Sound.{took-taken}
 use Rattle.trace.specs.Record.{recordBad, recordCall}
-use Rattle.trace.specs.Trace.{newTrace, closes, numberOf, stepOf, stepBuffer, traced}
+use Rattle.trace.specs.Trace.{newTrace, closes, numberOf, stepOf, stepBuffer, traced, tracedBuffer}
 use Rattle.trace.specs.declared.State.{State}
 use Rattle.trace.specs.declared.State.the-variants.{Good, Bad, Refused}
 use Rattle.trace.specs.declared.Trace.{Trace}
@@ -87,12 +87,7 @@ to-bad (r ∷ rs) s b n e =
           number = i .number ∙ omega (arith, next-number s b r q z);
         }
 
--- the buffer after some records
-abbrev bufferOn : Trace → List ℕ → List (List ℕ) → List ℕ
-bufferOn t b [] = b
-bufferOn t b (r ∷ rs) = bufferOn (stepOf t b r) (stepBuffer t b r) rs
-
-traced-more : (xs ys : List (List ℕ)) (t : Trace) (b : List ℕ) → traced t b (xs ++ ys) ≡ traced (traced t b xs) (bufferOn t b xs) ys
+traced-more : (xs ys : List (List ℕ)) (t : Trace) (b : List ℕ) → traced t b (xs ++ ys) ≡ traced (traced t b xs) (tracedBuffer t b xs) ys
 traced-more [] ys t b = refl
 traced-more (x ∷ xs) ys t b = traced-more xs ys (stepOf t b x) (stepBuffer t b x)
 
@@ -123,7 +118,7 @@ eta t e = λ i. record { session = t .session; state = e i }
 from-bad : (rs : List (List ℕ)) (s : Session) (b : List ℕ) (n : ℕ) → BadFrom s b rs n → traced (good s) b rs .state ≡ Bad n
 from-bad rs s b n w =
     let t : Trace = traced (good s) b (w .before) in
-    let c : List ℕ = bufferOn (good s) b (w .before) in
+    let c : List ℕ = tracedBuffer (good s) b (w .before) in
     let stop = on-bad (t .session) c (w .worst) (w .broken) (w .rest) in
     ap (λ (x : List (List ℕ)). traced (good s) b x .state) (w .split)
     ∙ state-of (traced-more (w .before) (w .worst ∷ w .rest) (good s) b)

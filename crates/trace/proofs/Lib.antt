@@ -1,4 +1,5 @@
 pub mod Steps
+pub mod Runs
 pub mod Right
 pub mod Bad
 pub mod Full

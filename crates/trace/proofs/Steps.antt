@@ -16,6 +16,10 @@ use Rattle.ledger.specs.Ledger.{noLedger}
 use Rattle.frames.specs.declared.Answer.{Answer}
 use Rattle.frames.specs.declared.Ended.{Ended}
 use Rattle.session.specs.declared.Session.{Session}
+use Rattle.session.specs.declared.Rest.{Rest}
+use Rattle.session.specs.declared.RestTaken.{RestTaken}
+use Rattle.session.specs.declared.RestReported.{RestReported}
+use Rattle.session.specs.declared.RestClosed.{RestClosed}
 use Rattle.session.specs.declared.Taken.{Taken}
 use Rattle.session.specs.declared.Outcome.{Outcome}
 use Rattle.session.specs.declared.Reported.{Reported}
@@ -24,7 +28,7 @@ use Rattle.session.specs.declared.Closed.{Closed}
 use Rattle.session.specs.declared.Closing.{Closing}
 use Rattle.session.specs.declared.Opened.{Opened}
 use Rattle.session.specs.Refusals.{openingFlags, takeRows, lostRows, closeRows, ledgerOf}
-use Rattle.session.specs.Session.{fresh, openOf, readOf, tookBy, tookOf, takeBy, takeOf, lostBy, lostOf, closeBy, closeOf}
+use Rattle.session.specs.Session.{fresh, openOf, readOf, tookBy, tookOf, takeBy, takeOf, lostBy, lostOf, closeBy, closeOf, wholeOf, takenWith, reportedWith, closedWith}
 use Rattle.payload.specs.declared.Reading.{Reading}
 use Rattle.payload.specs.declared.Reading.the-variants.{Idle, Unreadable, Readable}
 use Rattle.payload.specs.Transfer.{readingOf}
@@ -32,26 +36,36 @@ use Rattle.rules.proofs.Rows.{or-first, or-second}
 use Rattle.books.specs.Rule.{Call}
 use Rattle.books.specs.Demands.{bufferNext}
 use Rattle.trace.specs.Record.{kindAt, lengthAt, bytesAt, anySet, recordBad, callBy, recordCall}
-use Rattle.trace.specs.Trace.{sizes, newTrace, numberOf, offered, readCall, readBy, keptBy, stepBy, stepBufferBy, stepOf, stepBuffer, printBy, reportOf}
+use Rattle.trace.specs.Trace.{sizes, newTrace, numberOf, offered, readCall, readBy, keptBy, stepBy, stepBufferBy, stepOf, stepBuffer, printBy, reportOf, goingWith, numberRest, answeredBy}
 use Rattle.trace.specs.declared.State.{State}
 use Rattle.trace.specs.declared.State.the-variants.{Good, Bad, Refused}
 use Rattle.trace.specs.declared.Trace.{Trace}
+use Rattle.trace.specs.declared.Going.{Going}
 use Rattle.trace.specs.declared.Printed.{Printed}
 
 -- ---- the next record's number
-pub number-closed : (s : Session) → s .closed ≡ true → s .taken + 2 ≡ numberOf s
-number-closed s e = rw e
+pub number-closed : (r : Rest) → r .closed ≡ true → r .taken + 2 ≡ numberRest r
+number-closed r e = rw e
 
-pub number-open : (s : Session) → s .closed ≡ false → s .taken + 1 ≡ numberOf s
-number-open s e = rw e
+pub number-open : (r : Rest) → r .closed ≡ false → r .taken + 1 ≡ numberRest r
+number-open r e = rw e
 
 -- ---- refused, or taken
-pub offered-taken : (k : ℕ) (s n : Session) → k ≡ 0 → _≡_ {A = Trace} (record { session = n; state = Good }) (offered k s n)
-offered-taken k s n e = rw e
+pub answered-taken : (k : ℕ) (r : Rest) → k ≡ 0 → _≡_ {A = Going} (record { rest = r; state = Good }) (answeredBy k r)
+answered-taken k r e = rw e
 
-pub offered-refused : (k m : ℕ) (s n : Session) → (k ≡ 0 → ⊥) → m ≡ numberOf s → _≡_ {A = Trace} (record { session = s; state = Refused k m }) (offered k s n)
-offered-refused zero m s n h e = absurd (h refl)
-offered-refused (suc k) m s n h e = rw e
+pub answered-refused : (k n : ℕ) (r : Rest) → (k ≡ 0 → ⊥) → n ≡ numberRest r → _≡_ {A = Going} (record { rest = r; state = Refused k n }) (answeredBy k r)
+answered-refused zero n r h e = absurd (h refl)
+answered-refused (suc k) n r h e = rw e
+
+-- a call that is answered with n, and leaves the session as it was where it is refused
+module _ (s : Session) (n k : ℕ) (e : k ≡ n) (r : Rest) (l : List ℕ) (g : Going) (f : g ≡ answeredBy k r) where
+  pub as-offered : ((j : ℕ) → n ≡ suc j → wholeOf r l ≡ s) → goingWith g l ≡ offered n s (wholeOf r l)
+  as-offered h = ap (λ (x : Going). goingWith x l) f ∙ ap (λ (i : ℕ). goingWith (answeredBy i r) l) e ∙ go n h
+    where
+      go : (i : ℕ) → ((j : ℕ) → i ≡ suc j → wholeOf r l ≡ s) → goingWith (answeredBy i r) l ≡ offered i s (wholeOf r l)
+      go zero h = refl
+      go (suc j) h = ap (λ (z : Session). record { session = z; state = Refused (suc j) (numberOf z) }) (h j refl)
 
 -- ---- a transfer
 took-taken : (s : Session) (t : List ℕ) (r : Reading) (k : ℕ) → tookBy r s t .outcome ≡ Outcome.Refused k → ⊥
@@ -72,18 +86,25 @@ take-taken : (s : Session) (t : List ℕ) (n : ℕ) (a : Answer) → takeBy n s 
 take-taken s t zero a e = refl
 take-taken s t (suc n) a e = absurd (let z : _≡_ {A = ℕ} 0 1 = cc in omega arith)
 
-module _ (s : Session) (b t : List ℕ) (x : Taken) (e : x ≡ takeOf s (length b) t) (r : Trace) where
-  pub transfer-refused : (k : ℕ) → x .outcome ≡ Outcome.Refused k → r ≡ offered k s (x .session) → r ≡ readCall s b (Call.transfer t)
-  unfolding takeOf
-  transfer-refused k q f =
-      let n : ℕ = firstRow (takeRows s (length b) (length t)) in
-      f ∙ ap (λ (j : ℕ). offered j s (x .session)) (take-refused s t n k (ap (λ (y : Taken). y .outcome) (sym e) ∙ q)) ∙ ap (λ (y : Taken). offered n s (y .session)) e
+module _ (s : Session) (b t : List ℕ) (x : RestTaken) (l : List ℕ) (e : takenWith x l ≡ takeOf s (length b) t) (g : Going) where
+  abbrev row : ℕ
+  row = firstRow (takeRows s (length b) (length t))
 
-  pub transfer-taken : (a : Answer) → x .outcome ≡ Outcome.Taken a → r ≡ offered 0 s (x .session) → r ≡ readCall s b (Call.transfer t)
+  taken-same : (j : ℕ) → row ≡ suc j → wholeOf (x .rest) l ≡ s
   unfolding takeOf
-  transfer-taken a q f =
-      let n : ℕ = firstRow (takeRows s (length b) (length t)) in
-      f ∙ ap (λ (j : ℕ). offered j s (x .session)) (take-taken s t n a (ap (λ (y : Taken). y .outcome) (sym e) ∙ q)) ∙ ap (λ (y : Taken). offered n s (y .session)) e
+  taken-same j q = ap (λ (y : Taken). y .session) e ∙ ap (λ (i : ℕ). takeBy i s t .session) q
+
+  by-row : (k : ℕ) → k ≡ row → g ≡ answeredBy k (x .rest) → goingWith g l ≡ readCall s b (Call.transfer t)
+  by-row k q f =
+      as-offered s row k q (x .rest) l g f taken-same ∙ ap (λ (y : Taken). offered row s (y .session)) e
+
+  pub transfer-refused : (k : ℕ) → x .outcome ≡ Outcome.Refused k → g ≡ answeredBy k (x .rest) → goingWith g l ≡ readCall s b (Call.transfer t)
+  unfolding takeOf
+  transfer-refused k q f = by-row k (take-refused s t row k (ap (λ (y : Taken). y .outcome) (sym e) ∙ q)) f
+
+  pub transfer-taken : (a : Answer) → x .outcome ≡ Outcome.Taken a → g ≡ answeredBy 0 (x .rest) → goingWith g l ≡ readCall s b (Call.transfer t)
+  unfolding takeOf
+  transfer-taken a q f = by-row 0 (take-taken s t row a (ap (λ (y : Taken). y .outcome) (sym e) ∙ q)) f
 
 -- ---- a lost report
 lost-refused₀ : (s : Session) (n k : ℕ) → lostBy n s .report ≡ Report.Refused k → k ≡ n
@@ -94,18 +115,25 @@ lost-noted₀ : (s : Session) (n : ℕ) → lostBy n s .report ≡ Report.Noted 
 lost-noted₀ s zero e = refl
 lost-noted₀ s (suc n) e = absurd (let z : _≡_ {A = ℕ} 0 1 = cc in omega arith)
 
-module _ (s : Session) (b : List ℕ) (x : Reported) (e : x ≡ lostOf s) (r : Trace) where
-  pub lost-refused : (k : ℕ) → x .report ≡ Report.Refused k → r ≡ offered k s (x .session) → r ≡ readCall s b Call.lost
-  unfolding lostOf
-  lost-refused k q f =
-      let n : ℕ = firstRow (lostRows s) in
-      f ∙ ap (λ (j : ℕ). offered j s (x .session)) (lost-refused₀ s n k (ap (λ (y : Reported). y .report) (sym e) ∙ q)) ∙ ap (λ (y : Reported). offered n s (y .session)) e
+module _ (s : Session) (b : List ℕ) (x : RestReported) (l : List ℕ) (e : reportedWith x l ≡ lostOf s) (g : Going) where
+  abbrev lost-row : ℕ
+  lost-row = firstRow (lostRows s)
 
-  pub lost-noted : x .report ≡ Report.Noted → r ≡ offered 0 s (x .session) → r ≡ readCall s b Call.lost
+  reported-same : (j : ℕ) → lost-row ≡ suc j → wholeOf (x .rest) l ≡ s
   unfolding lostOf
-  lost-noted q f =
-      let n : ℕ = firstRow (lostRows s) in
-      f ∙ ap (λ (j : ℕ). offered j s (x .session)) (lost-noted₀ s n (ap (λ (y : Reported). y .report) (sym e) ∙ q)) ∙ ap (λ (y : Reported). offered n s (y .session)) e
+  reported-same j q = ap (λ (y : Reported). y .session) e ∙ ap (λ (i : ℕ). lostBy i s .session) q
+
+  by-lost-row : (k : ℕ) → k ≡ lost-row → g ≡ answeredBy k (x .rest) → goingWith g l ≡ readCall s b Call.lost
+  by-lost-row k q f =
+      as-offered s lost-row k q (x .rest) l g f reported-same ∙ ap (λ (y : Reported). offered lost-row s (y .session)) e
+
+  pub lost-refused : (k : ℕ) → x .report ≡ Report.Refused k → g ≡ answeredBy k (x .rest) → goingWith g l ≡ readCall s b Call.lost
+  unfolding lostOf
+  lost-refused k q f = by-lost-row k (lost-refused₀ s lost-row k (ap (λ (y : Reported). y .report) (sym e) ∙ q)) f
+
+  pub lost-noted : x .report ≡ Report.Noted → g ≡ answeredBy 0 (x .rest) → goingWith g l ≡ readCall s b Call.lost
+  unfolding lostOf
+  lost-noted q f = by-lost-row 0 (lost-noted₀ s lost-row (ap (λ (y : Reported). y .report) (sym e) ∙ q)) f
 
 -- ---- close
 close-refused₀ : (s : Session) (n k : ℕ) → closeBy n s .closing ≡ Closing.Refused k → k ≡ n
@@ -116,18 +144,25 @@ close-closed₀ : (s : Session) (n : ℕ) (a : Ended) → closeBy n s .closing �
 close-closed₀ s zero a e = refl
 close-closed₀ s (suc n) a e = absurd (let z : _≡_ {A = ℕ} 0 1 = cc in omega arith)
 
-module _ (s : Session) (b : List ℕ) (x : Closed) (e : x ≡ closeOf s) (r : Trace) where
-  pub close-refused : (k : ℕ) → x .closing ≡ Closing.Refused k → r ≡ offered k s (x .session) → r ≡ readCall s b Call.close
-  unfolding closeOf
-  close-refused k q f =
-      let n : ℕ = firstRow (closeRows s) in
-      f ∙ ap (λ (j : ℕ). offered j s (x .session)) (close-refused₀ s n k (ap (λ (y : Closed). y .closing) (sym e) ∙ q)) ∙ ap (λ (y : Closed). offered n s (y .session)) e
+module _ (s : Session) (b : List ℕ) (x : RestClosed) (l : List ℕ) (e : closedWith x l ≡ closeOf s) (g : Going) where
+  abbrev close-row : ℕ
+  close-row = firstRow (closeRows s)
 
-  pub close-closed : (a : Ended) → x .closing ≡ Closing.Closed a → r ≡ offered 0 s (x .session) → r ≡ readCall s b Call.close
+  closed-same : (j : ℕ) → close-row ≡ suc j → wholeOf (x .rest) l ≡ s
   unfolding closeOf
-  close-closed a q f =
-      let n : ℕ = firstRow (closeRows s) in
-      f ∙ ap (λ (j : ℕ). offered j s (x .session)) (close-closed₀ s n a (ap (λ (y : Closed). y .closing) (sym e) ∙ q)) ∙ ap (λ (y : Closed). offered n s (y .session)) e
+  closed-same j q = ap (λ (y : Closed). y .session) e ∙ ap (λ (i : ℕ). closeBy i s .session) q
+
+  by-close-row : (k : ℕ) → k ≡ close-row → g ≡ answeredBy k (x .rest) → goingWith g l ≡ readCall s b Call.close
+  by-close-row k q f =
+      as-offered s close-row k q (x .rest) l g f closed-same ∙ ap (λ (y : Closed). offered close-row s (y .session)) e
+
+  pub close-refused : (k : ℕ) → x .closing ≡ Closing.Refused k → g ≡ answeredBy k (x .rest) → goingWith g l ≡ readCall s b Call.close
+  unfolding closeOf
+  close-refused k q f = by-close-row k (close-refused₀ s close-row k (ap (λ (y : Closed). y .closing) (sym e) ∙ q)) f
+
+  pub close-closed : (a : Ended) → x .closing ≡ Closing.Closed a → g ≡ answeredBy 0 (x .rest) → goingWith g l ≡ readCall s b Call.close
+  unfolding closeOf
+  close-closed a q f = by-close-row 0 (close-closed₀ s close-row a (ap (λ (y : Closed). y .closing) (sym e) ∙ q)) f
 
 -- ---- a record
 module _ (r : List ℕ) (at i : ℕ) (e : anySet (drop i r) ≡ anySet (drop at r)) where
@@ -218,14 +253,6 @@ abbrev Stepped : Trace → List ℕ → List ℕ → Trace → List ℕ → Type
 Stepped t b r x y = (x ≡ stepOf t b r) × (y ≡ stepBuffer t b r)
 
 module _ (t : Trace) (b r : List ℕ) where
-  pub step-bad : (n : ℕ) → t .state ≡ Bad n → Stepped t b r t b
-  unfolding stepOf stepBuffer
-  step-bad n e = ((λ i. record { session = t .session; state = e i }) ∙ sym (ap (λ (z : State). stepBy z (t .session) b r) e), sym (ap (λ (z : State). stepBufferBy z (t .session) b r) e))
-
-  pub step-refused : (k n : ℕ) → t .state ≡ Refused k n → Stepped t b r t b
-  unfolding stepOf stepBuffer
-  step-refused k n e = ((λ i. record { session = t .session; state = e i }) ∙ sym (ap (λ (z : State). stepBy z (t .session) b r) e), sym (ap (λ (z : State). stepBufferBy z (t .session) b r) e))
-
   module _ (e : t .state ≡ Good) where
     read-law : (x : Bool) → (t .session .closed || recordBad r) ≡ x → stepOf t b r ≡ readBy x (t .session) b (recordCall r)
     unfolding stepOf

@@ -1,9 +1,10 @@
 -- Document 01, "The ledger program": one record of a trace. `r` is the record's bytes.
-use Prim.Native.Nat.{ℕ, zero, suc, _+_}
+use Prim.Native.Nat.{ℕ, zero, suc, _+_, _-_}
 use mathlib.Core.List.{List, [], _∷_}
 use mathlib.Core.Bool.{Bool, true, false, _||_, not, _&&_}
 use lib.ListN.{length, getD, take, drop}
 use lib.Dec.{ltb, eqb}
+use Rattle.rules.specs.Pick.{pick}
 use Rattle.books.specs.Rule.{Call}
 
 -- kind (0 transfer, 1 lost, 2 close), length 0 to 62, the bytes, zero fill
@@ -38,3 +39,16 @@ callBy (suc (suc k)) r = Call.close
 
 abbrev pub recordCall : List ℕ → Call
 recordCall r = callBy (kindAt r) r
+
+-- THE RECORDS of a trace: 64 bytes each, and the last one what is left
+abbrev pub recordsBy : ℕ → List ℕ → List (List ℕ)
+recordsBy zero l = []
+recordsBy (suc k) [] = []
+recordsBy (suc k) (b ∷ bs) = take 64 (b ∷ bs) ∷ recordsBy k (drop 64 (b ∷ bs))
+
+unfoldable pub recordsOf : List ℕ → List (List ℕ)
+recordsOf l = recordsBy (length l) l
+
+-- where the record ends that begins at `at`, of so many bytes
+abbrev pub endOf : ℕ → ℕ → ℕ
+endOf at n = pick (ltb (n - at) 64) n (at + 64)

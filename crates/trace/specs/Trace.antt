@@ -7,8 +7,9 @@ use Rattle.payload.specs.declared.Opening.{Opening}
 use Rattle.ledger.specs.declared.Ledger.{Ledger}
 use Rattle.ledger.specs.Ledger.{noLedger}
 use Rattle.session.specs.declared.Session.{Session}
+use Rattle.session.specs.declared.Rest.{Rest}
 use Rattle.session.specs.Refusals.{ledgerOf}
-use Rattle.session.specs.Session.{fresh}
+use Rattle.session.specs.Session.{fresh, wholeOf}
 use Rattle.books.specs.Rule.{Call}
 use Rattle.books.specs.Calls.{refusal, next}
 use Rattle.books.specs.Demands.{offerWith, bufferNext}
@@ -16,6 +17,7 @@ use Rattle.trace.specs.Record.{recordBad, recordCall}
 use Rattle.trace.specs.declared.State.{State}
 use Rattle.trace.specs.declared.State.the-variants.{Good, Bad, Refused}
 use Rattle.trace.specs.declared.Trace.{Trace}
+use Rattle.trace.specs.declared.Going.{Going}
 use Rattle.trace.specs.declared.Printed.{Printed}
 
 -- frame size 256, payload size 62
@@ -72,6 +74,35 @@ stepBuffer t buffer r = stepBufferBy (t .state) (t .session) buffer r
 abbrev pub traced : Trace → List ℕ → List (List ℕ) → Trace
 traced t buffer [] = t
 traced t buffer (r ∷ rs) = traced (stepOf t buffer r) (stepBuffer t buffer r) rs
+
+-- the buffer after them
+abbrev pub tracedBuffer : Trace → List ℕ → List (List ℕ) → List ℕ
+tracedBuffer t buffer [] = buffer
+tracedBuffer t buffer (r ∷ rs) = tracedBuffer (stepOf t buffer r) (stepBuffer t buffer r) rs
+
+-- A TRACE IN TWO PARTS: its ledger's numbers, which are lent, and the rest
+abbrev pub goingWith : Going → List ℕ → Trace
+goingWith g numbers = record { session = wholeOf (g .rest) numbers; state = g .state }
+
+abbrev pub goodOf : Session → Trace
+goodOf s = record { session = s; state = Good }
+
+abbrev pub goodWith : Rest → List ℕ → Trace
+goodWith r numbers = goodOf (wholeOf r numbers)
+
+abbrev pub numberRest : Rest → ℕ
+numberRest r = r .taken + closes (r .closed)
+
+-- a refused call leaves the rest as it was
+abbrev pub answeredBy : ℕ → Rest → Going
+answeredBy zero r = record { rest = r; state = Good }
+answeredBy (suc k) r = record { rest = r; state = Refused (suc k) (numberRest r) }
+
+-- a bad or refused record decides a trace
+abbrev pub isDecided : State → Bool
+isDecided Good = false
+isDecided (Bad n) = true
+isDecided (Refused k n) = true
 
 -- what is printed: the ledger of a good trace; nothing of it otherwise
 abbrev pub printBy : State → Session → Printed

@@ -5,14 +5,17 @@ ghost use mathlib.Core.Path.{_≡_};
 ghost use Prim.Native.Nat.{_≤_};
 ghost use mathlib.Core.List.{[]};
 ghost use lib.ListN.{length};
-ghost use Rattle.trace.specs.Record.{lengthAt, recordCall};
-ghost use Rattle.trace.specs.Trace.{newTrace, numberOf, offered, readCall, stepOf, stepBuffer, reportOf};
+ghost use Rattle.session.specs.Session.{wholeOf};
+ghost use Rattle.trace.specs.Record.{lengthAt, recordCall, recordsOf, endOf};
+ghost use Rattle.trace.specs.Trace.{newTrace, readCall, stepOf, stepBuffer, traced, tracedBuffer, goingWith, goodOf, goodWith, numberRest, answeredBy, isDecided, reportOf};
 ghost use Rattle.books.specs.Rule.{Call};
 ghost use Rattle.books.specs.Demands.{bufferNext};
 use ledger::Ledger;
+use ledger::Numbers;
 use session::Closing;
 use session::Outcome;
 use session::Report;
+use session::Rest;
 use session::Session;
 
 // The sizes that every trace is read with.
@@ -40,85 +43,164 @@ pub struct Printed {
     pub ledger: Ledger,
 }
 
+// A trace but for its ledger's numbers.
+struct Going {
+    rest: Rest,
+    state: State,
+}
+
 // The number of the next record, from 1.
-fn number(s: Session) -> u64
-    ensures { λ r. ⌜ r ≡ numberOf s ⌝ }
+fn number(rest: Rest) -> u64
+    ensures { λ r. ⌜ r ≡ numberRest rest ⌝ }
 {
-    let taken = s.taken as u64;
-    if s.closed {
+    let taken = rest.taken as u64;
+    if rest.closed {
         return taken + 2;
     }
     taken + 1
 }
 
-// A call that was refused by k, or taken where k is 0.
-fn answered(s: Session, k: u8, next: Session) -> Trace
-    ensures { λ r. ⌜ r ≡ offered k s next ⌝ }
+// A call that was refused by k, or taken where k is 0. A refused call gives the rest back as it was.
+fn answered(k: u8, next: Rest) -> Going
+    ensures { λ r. ⌜ r ≡ answeredBy k next ⌝ }
 {
     if k == 0 {
-        return Trace {
-            session: next,
+        return Going {
+            rest: next,
             state: State::Good,
         };
     }
-    let n = number(s);
-    Trace {
-        session: s,
+    let n = number(next);
+    Going {
+        rest: next,
         state: State::Refused(k, n),
     }
 }
 
-fn transfer(s: Session, buffer: &mut [u8], t: &[u8]) -> Trace
-    ensures { λ r. ⌜ r ≡ readCall s (now (buffer .entry)) (Call.transfer (now (t .entry))) ⌝ }
-    ensures { λ _. ⌜ now (buffer .exit) ≡ bufferNext s (now (buffer .entry)) (Call.transfer (now (t .entry))) ⌝ }
+fn transfer(s: Rest, m: &mut Numbers, buffer: &mut [u8], t: &[u8]) -> Going
+    requires { ⌜ length (now m) ≡ 27 ⌝ }
+    ensures { λ r. ⌜ goingWith r (now (m .exit)) ≡ readCall (wholeOf s (now (m .entry))) (now (buffer .entry)) (Call.transfer (now (t .entry))) ⌝ }
+    ensures { λ _. ⌜ now (buffer .exit) ≡ bufferNext (wholeOf s (now (m .entry))) (now (buffer .entry)) (Call.transfer (now (t .entry))) ⌝ }
 {
-    let taken = s.take(buffer, t);
+    let taken = s.take(m, buffer, t);
     let outcome = taken.outcome;
-    let next = taken.session;
+    let next = taken.rest;
     match outcome {
-        Outcome::Refused(k) => answered(s, k, next),
-        Outcome::Taken(_) => answered(s, 0, next),
+        Outcome::Refused(k) => answered(k, next),
+        Outcome::Taken(_) => answered(0, next),
     }
 }
 
-fn lost(s: Session) -> Trace
-    ensures { λ r. ⌜ r ≡ readCall s [] Call.lost ⌝ }
+fn lost(s: Rest, m: &mut Numbers) -> Going
+    requires { ⌜ length (now m) ≡ 27 ⌝ }
+    ensures { λ r. ⌜ goingWith r (now (m .exit)) ≡ readCall (wholeOf s (now (m .entry))) [] Call.lost ⌝ }
 {
-    let reported = s.lost();
+    let reported = s.lost(m);
     let report = reported.report;
-    let next = reported.session;
+    let next = reported.rest;
     match report {
-        Report::Refused(k) => answered(s, k, next),
-        Report::Noted => answered(s, 0, next),
+        Report::Refused(k) => answered(k, next),
+        Report::Noted => answered(0, next),
     }
 }
 
-fn close(s: Session) -> Trace
-    ensures { λ r. ⌜ r ≡ readCall s [] Call.close ⌝ }
+fn close(s: Rest, m: &mut Numbers) -> Going
+    requires { ⌜ length (now m) ≡ 27 ⌝ }
+    ensures { λ r. ⌜ goingWith r (now (m .exit)) ≡ readCall (wholeOf s (now (m .entry))) [] Call.close ⌝ }
 {
-    let closed = s.close();
+    let closed = s.close(m);
     let closing = closed.closing;
-    let next = closed.session;
+    let next = closed.rest;
     match closing {
-        Closing::Refused(k) => answered(s, k, next),
-        Closing::Closed(_) => answered(s, 0, next),
+        Closing::Refused(k) => answered(k, next),
+        Closing::Closed(_) => answered(0, next),
     }
 }
 
 // The call of a good record.
-fn call(s: Session, buffer: &mut [u8], r: &[u8]) -> Trace
-    requires { ⌜ (length (now r) ≡ 64) × (lengthAt (now r) ≤ 62) ⌝ }
-    ensures { λ x. ⌜ x ≡ readCall s (now (buffer .entry)) (recordCall (now (r .entry))) ⌝ }
-    ensures { λ _. ⌜ now (buffer .exit) ≡ bufferNext s (now (buffer .entry)) (recordCall (now (r .entry))) ⌝ }
+fn call(s: Rest, m: &mut Numbers, buffer: &mut [u8], r: &[u8]) -> Going
+    requires { ⌜ (length (now r) ≡ 64) × (lengthAt (now r) ≤ 62) × (length (now m) ≡ 27) ⌝ }
+    ensures { λ x. ⌜ goingWith x (now (m .exit)) ≡ readCall (wholeOf s (now (m .entry))) (now (buffer .entry)) (recordCall (now (r .entry))) ⌝ }
+    ensures { λ _. ⌜ now (buffer .exit) ≡ bufferNext (wholeOf s (now (m .entry))) (now (buffer .entry)) (recordCall (now (r .entry))) ⌝ }
 {
     let kind = r[0];
     match kind {
         0 => {
             let end = 2 + le::wide(r[1]);
-            transfer(s, buffer, &r[2..end])
+            transfer(s, m, buffer, &r[2..end])
         }
-        1 => lost(s),
-        _ => close(s),
+        1 => lost(s, m),
+        _ => close(s, m),
+    }
+}
+
+// One record more of a good trace. A bad record decides.
+fn step(s: Rest, m: &mut Numbers, buffer: &mut [u8], r: &[u8]) -> Going
+    requires { ⌜ length (now m) ≡ 27 ⌝ }
+    ensures { λ x. ⌜ goingWith x (now (m .exit)) ≡ stepOf (goodWith s (now (m .entry))) (now (buffer .entry)) (now (r .entry)) ⌝ }
+    ensures { λ _. ⌜ now (buffer .exit) ≡ stepBuffer (goodWith s (now (m .entry))) (now (buffer .entry)) (now (r .entry)) ⌝ }
+{
+    if s.closed {
+        return Going {
+            rest: s,
+            state: State::Bad(number(s)),
+        };
+    }
+    if record::bad(r) {
+        return Going {
+            rest: s,
+            state: State::Bad(number(s)),
+        };
+    }
+    call(s, m, buffer, r)
+}
+
+// Where the record ends that begins at `at`.
+fn end_of(at: usize, len: usize) -> usize
+    requires { ⌜ at ≤ len ⌝ }
+    ensures { λ r. ⌜ r ≡ endOf at len ⌝ }
+{
+    if len - at < record::SIZE {
+        return len;
+    }
+    at + record::SIZE
+}
+
+// A bad or refused record decides a trace.
+fn decided(state: State) -> bool
+    ensures { λ r. ⌜ r ≡ isDecided state ⌝ }
+{
+    match state {
+        State::Good => false,
+        State::Bad(_) => true,
+        State::Refused(_, _) => true,
+    }
+}
+
+// A good trace goes on. Its ledger's numbers are taken out once, for all the records.
+fn follow(s: Session, buffer: &mut [u8], records: &[u8]) -> Trace
+    ensures { λ x. ⌜ x ≡ traced (goodOf s) (now (buffer .entry)) (recordsOf (now (records .entry))) ⌝ }
+    ensures { λ _. ⌜ now (buffer .exit) ≡ tracedBuffer (goodOf s) (now (buffer .entry)) (recordsOf (now (records .entry))) ⌝ }
+{
+    let mut numbers = s.numbers();
+    let mut rest = s.rest();
+    let mut at = 0;
+    while at < records.len() {
+        let end = end_of(at, records.len());
+        let going = step(rest, &mut numbers, buffer, &records[at..end]);
+        rest = going.rest;
+        let state = going.state;
+        if decided(state) {
+            return Trace {
+                session: rest.whole(numbers),
+                state,
+            };
+        }
+        at = end;
+    }
+    Trace {
+        session: rest.whole(numbers),
+        state: State::Good,
     }
 }
 
@@ -136,32 +218,17 @@ impl Trace {
         }
     }
 
-    // One record more. The first bad record decides, and nothing is read after it.
-    pub fn step(self, buffer: &mut [u8], r: &[u8]) -> Self
-        ensures { λ x. ⌜ x ≡ stepOf self (now (buffer .entry)) (now (r .entry)) ⌝ }
-        ensures { λ _. ⌜ now (buffer .exit) ≡ stepBuffer self (now (buffer .entry)) (now (r .entry)) ⌝ }
+    // So many records more, the last of which may be partial. The first bad record decides, and nothing is read after it.
+    pub fn run(self, buffer: &mut [u8], records: &[u8]) -> Self
+        ensures { λ x. ⌜ x ≡ traced self (now (buffer .entry)) (recordsOf (now (records .entry))) ⌝ }
+        ensures { λ _. ⌜ now (buffer .exit) ≡ tracedBuffer self (now (buffer .entry)) (recordsOf (now (records .entry))) ⌝ }
     {
         let state = self.state;
-        let s = self.session;
-        match state {
-            State::Bad(_) => self,
-            State::Refused(_, _) => self,
-            State::Good => {
-                if s.closed {
-                    return Trace {
-                        session: s,
-                        state: State::Bad(number(s)),
-                    };
-                }
-                if record::bad(r) {
-                    return Trace {
-                        session: s,
-                        state: State::Bad(number(s)),
-                    };
-                }
-                call(s, buffer, r)
-            }
+        if decided(state) {
+            return self;
         }
+        let s = self.session;
+        follow(s, buffer, records)
     }
 
     // What is printed at the end of the input.

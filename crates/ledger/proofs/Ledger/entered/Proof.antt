@@ -11,17 +11,17 @@ mul-at : tie.Need-mul-at
 mul-at c = search needs
 
 plus-requires : tie.Need-plus-requires
-plus-requires c κs = entering-count _ _ (c .before .args .a) _ (c .place .ensures) (c .before .pre .0) (omega arith)
+plus-requires c κs = entering-count _ _ (c .before .before .args .a) _ (c .before .place .ensures) (c .before .before .pre .0) (omega arith)
 
 add-plus : tie.Need-add-plus
 add-plus c = search needs
 
 plus-requires-2 : tie.Need-plus-requires-2
-plus-requires-2 c κs = entering-bytes _ _ _ (c .before .before .args .a) _ (c .before .before .args .n) (c .plus .ensures) (c .before .place .ensures)
-    (c .before .before .pre .0) (omega arith)
+plus-requires-2 c κs = entering-bytes _ _ _ (c .before .before .before .before .args .a) _ (c .before .before .before .before .args .n) (c .before .plus .ensures) (c .before .before .before .place .ensures)
+    (c .before .before .before .before .pre .0) (omega arith)
 
 returns : tie.Need-returns
-returns c = simp (c .plus2 .ensures, c .before .plus .ensures, c .before .before .place .ensures .0)
+returns c = simp (c .plus2 .ensures, c .before .before .plus .ensures, c .before .before .before .before .place .ensures .0)
 
 pub entered-spec : {M : Type 1} → statement M
 entered-spec =

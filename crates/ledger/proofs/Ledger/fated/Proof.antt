@@ -1,3 +1,8 @@
+use Rattle.ledger.specs.declared.Account.{Account}
+use Rattle.ledger.specs.Ledger.{accountFor}
+use Rattle.ledger.proofs.Lent.{fated-idle, fated-kept, fated-stray, fated-delivered, fated-dropped, fated-unreadable}
+use Rattle.ledger.proofs.Rooms.{adding, entering, not-under-way, room-entered}
+use native.Mathlib.Omega.{arith}
 use borrow.Author.Needs.{needs}
 use Rattle.ledger.proofs.Ledger.fated.Statement.{statement}
 use Rattle.ledger.proofs.Ledger.fated.Tie as tie
@@ -5,8 +10,8 @@ use Rattle.ledger.proofs.Ledger.fated.Tie as tie
 enum-told : tie.Need-enum-told
 enum-told c = search needs
 
-post-requires : tie.Need-post-requires
-post-requires c κs = search needs
+plus-requires : tie.Need-plus-requires
+plus-requires c κs = adding _ _ 23 1 (c .before .before .before .pre .0) (omega arith) (omega arith) (omega arith)
 
 enum-told-2 : tie.Need-enum-told-2
 enum-told-2 c = search needs
@@ -14,60 +19,76 @@ enum-told-2 c = search needs
 enum-told-3 : tie.Need-enum-told-3
 enum-told-3 c = search needs
 
-post-requires-2 : tie.Need-post-requires-2
-post-requires-2 c κs = (c .before .before .pre .0, tt, rw (c .enum-told3 .given .1) at (c .before .before .pre .1))
+entered-requires : tie.Need-entered-requires
+entered-requires c κs = entering _ _ _ Account.Stray _ (c .before .before .before .pre .0) (λ e. omega arith)
+    (rw (c .before .enum-told3 .given .1) at (c .before .before .before .pre .1))
 
 enum-known-f : tie.Need-enum-known-f
 enum-known-f c = search needs
 
-post-requires-3 : tie.Need-post-requires-3
-post-requires-3 c κs = (c .before .before .before .pre .0, tt, rw (c .before .f .given .1) at (c .before .before .before .pre .1))
+entered-requires-2 : tie.Need-entered-requires-2
+entered-requires-2 c κs = entering _ _ _ Account.Delivered _ (c .before .before .before .before .pre .0) (λ e. omega arith)
+    (rw (c .before .before .f .given .1) at (c .before .before .before .before .pre .1))
+
+timed-requires : tie.Need-timed-requires
+timed-requires c κs =
+    let s = c .before .before .before .before .before .before in
+    let n = rw (c .before .before .before .before .f .given .1) at (s .pre .1) in
+    rw (c .before .entered2 .ensures) (room-entered _ _ _ Account.Delivered _ (s .pre .0) (omega arith))
 
 enum-known-f-2 : tie.Need-enum-known-f-2
 enum-known-f-2 c = search needs
 
-post-requires-4 : tie.Need-post-requires-4
-post-requires-4 c κs = (c .before .before .before .pre .0, tt, rw (c .before .f2 .given .1) at (c .before .before .before .pre .1))
+account-for-requires : tie.Need-account-for-requires
+account-for-requires c κs = search needs
+
+entered-requires-3 : tie.Need-entered-requires-3
+entered-requires-3 c κs = rw (c .account-for .ensures)
+    (entering _ _ _ (accountFor (c .before .before .before .f2 .given .0 .0)) _ (c .before .before .before .before .before .pre .0)
+    (not-under-way (c .before .before .before .f2 .given .0 .0)) (rw (c .before .before .before .f2 .given .1) at (c .before .before .before .before .before .pre .1)))
 
 enum-told-4 : tie.Need-enum-told-4
 enum-told-4 c = search needs
 
-post-requires-5 : tie.Need-post-requires-5
-post-requires-5 c κs = (c .before .before .pre .0, tt, rw (c .enum-told4 .given .1) at (c .before .before .pre .1))
+entered-requires-4 : tie.Need-entered-requires-4
+entered-requires-4 c κs = entering _ _ _ Account.Unreadable _ (c .before .before .before .pre .0) (λ e. omega arith)
+    (rw (c .before .enum-told4 .given .1) at (c .before .before .before .pre .1))
 
 returns : tie.Need-returns
-returns c = simp (c .post .ensures, c .before .enum-told .given .1)
+returns c = search fated-idle
 
 returns-2 : tie.Need-returns-2
-returns-2 c = search needs
+returns-2 c = search fated-kept
 
 returns-3 : tie.Need-returns-3
-returns-3 c = simp (c .post2 .ensures, c .before .enum-told3 .given .1)
+returns-3 c = search fated-stray
 
 returns-4 : tie.Need-returns-4
-returns-4 c = simp (c .post3 .ensures, c .before .before .f .given .1)
+returns-4 c = search fated-delivered
 
 returns-5 : tie.Need-returns-5
-returns-5 c = simp (c .post4 .ensures, c .before .before .f2 .given .1)
+returns-5 c = search fated-dropped
 
 returns-6 : tie.Need-returns-6
-returns-6 c = simp (c .post5 .ensures, c .before .enum-told4 .given .1)
+returns-6 c = search fated-unreadable
 
 pub fated-spec : {M : Type 1} → statement M
 fated-spec =
     tie.close
     (tie.spec
     enum-told
-    post-requires
+    plus-requires
     enum-told-2
     enum-told-3
-    post-requires-2
+    entered-requires
     enum-known-f
-    post-requires-3
+    entered-requires-2
+    timed-requires
     enum-known-f-2
-    post-requires-4
+    account-for-requires
+    entered-requires-3
     enum-told-4
-    post-requires-5
+    entered-requires-4
     returns
     returns-2
     returns-3

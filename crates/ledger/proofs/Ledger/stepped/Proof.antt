@@ -11,20 +11,19 @@ cast-plus : tie.Need-cast-plus
 cast-plus c = search needs
 
 plus-requires : tie.Need-plus-requires
-plus-requires c κs = adding _ (c .before .before .before .args .self) 24 (c .before .s .given .0 .0) (c .before .before .before .pre) (omega arith)
-    (omega arith) (omega arith)
+plus-requires c κs = adding _ _ 24 _ (c .before .before .before .before .pre) (omega arith) (omega arith) (omega arith)
 
 enum-told : tie.Need-enum-told
 enum-told c = search needs
 
 plus-requires-2 : tie.Need-plus-requires-2
-plus-requires-2 c κs = adding _ (c .before .before .args .self) 25 1 (c .before .before .pre) (omega arith) (omega arith) (omega arith)
+plus-requires-2 c κs = adding _ _ 25 1 (c .before .before .before .pre) (omega arith) (omega arith) (omega arith)
 
 returns : tie.Need-returns
-returns c = simp (c .plus .ensures, c .before .before .s .given .1)
+returns c = simp (c .plus .ensures, c .before .before .before .s .given .1)
 
 returns-2 : tie.Need-returns-2
-returns-2 c = simp (c .plus2 .ensures, c .before .enum-told .given .1)
+returns-2 c = simp (c .plus2 .ensures, c .before .before .enum-told .given .1)
 
 pub stepped-spec : {M : Type 1} → statement M
 stepped-spec =

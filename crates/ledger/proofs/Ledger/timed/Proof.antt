@@ -1,4 +1,5 @@
 use Rattle.ledger.specs.Ledger.{timedOf}
+use Rattle.ledger.proofs.Lent.{with-stepped, timed-none}
 use Rattle.ledger.proofs.Rooms.{adding}
 use native.Mathlib.Omega.{arith}
 use borrow.Author.Needs.{needs}
@@ -9,7 +10,7 @@ enum-told : tie.Need-enum-told
 enum-told c = search needs
 
 plus-requires : tie.Need-plus-requires
-plus-requires c κs = adding _ (c .before .before .args .self) 26 1 (c .before .before .pre) (omega arith) (omega arith) (omega arith)
+plus-requires c κs = adding _ _ 26 1 (c .before .before .before .pre) (omega arith) (omega arith) (omega arith)
 
 enum-known-s : tie.Need-enum-known-s
 enum-known-s c = search needs
@@ -27,20 +28,20 @@ stepped-requires : tie.Need-stepped-requires
 stepped-requires c κs = search needs
 
 returns : tie.Need-returns
-unfolding timedOf
-returns c = simp (c .plus .ensures, c .before .enum-told .given .1)
+returns c = search timed-none
 
 returns-2 : tie.Need-returns-2
 unfolding timedOf
-returns-2 c = simp (c .before .before .before .before .s .given .1, c .before .enum-told2 .given .1)
+returns-2 c = simp (c .before .before .before .s .given .1, c .enum-told2 .given .1)
 
 returns-3 : tie.Need-returns-3
 unfolding timedOf
 returns-3 c = simp (
   c .before .before .before .before .before .before .before .s .given .1,
   c .before .before .before .before .last .given .1,
-  c .before .stepped .ensures,
-  c .before .before .step-between .ensures,
+  c .stepped .ensures,
+  c .before .step-between .ensures,
+  with-stepped,
 )
 
 pub timed-spec : {M : Type 1} → statement M

@@ -1,12 +1,14 @@
+use mathlib.Core.List.{[]}
+use denote.Ref.{now}
+use Rattle.ledger.specs.declared.Account.{Account}
+use Rattle.ledger.proofs.Rooms.{room-up, entering, adding}
+use Rattle.session.specs.Session.{wholeOf}
 use Rattle.session.proofs.Calls.{took-idle, took-unreadable, took-readable, header-within}
 use Rattle.session.proofs.Ready.{ready-able}
-use Rattle.ledger.proofs.Rooms.{room-up}
-use denote.Ref.{now}
-use mathlib.Core.List.{[]}
 use native.Mathlib.Omega.{arith}
 use borrow.Author.Needs.{needs}
-use Rattle.session.proofs.Session.took.Statement.{statement}
-use Rattle.session.proofs.Session.took.Tie as tie
+use Rattle.session.proofs.Rest.took.Statement.{statement}
+use Rattle.session.proofs.Rest.took.Tie as tie
 
 read-requires : tie.Need-read-requires
 read-requires c κs = search needs
@@ -14,10 +16,11 @@ read-requires c κs = search needs
 enum-told : tie.Need-enum-told
 enum-told c = search needs
 
-post-requires : tie.Need-post-requires
-post-requires c κs =
+plus-requires : tie.Need-plus-requires
+plus-requires c κs =
     let s = c .before .before .before .before .before .before .before .before in
-    (room-up _ _ (s .args .self .ledger) (ready-able (s .args .self) (s .pre .0) .room) (omega arith), tt, omega arith)
+    let r = wholeOf (s .args .self) (now (s .args .m)) in
+    adding _ _ 23 1 (ready-able r (s .pre .0) .room) (omega arith) (omega arith) (omega arith)
 
 counted-requires : tie.Need-counted-requires
 counted-requires c κs = search needs
@@ -25,10 +28,12 @@ counted-requires c κs = search needs
 enum-known-reading : tie.Need-enum-known-reading
 enum-known-reading c = search needs
 
-post-requires-2 : tie.Need-post-requires-2
-post-requires-2 c κs =
+entered-requires : tie.Need-entered-requires
+entered-requires c κs =
     let s = c .before .before .before .before .before .before .before .before .before in
-    (room-up _ _ (s .args .self .ledger) (ready-able (s .args .self) (s .pre .0) .room) (omega arith), tt, omega (arith, s .pre .2))
+    let r = wholeOf (s .args .self) (now (s .args .m)) in
+    entering _ _ _ Account.Unreadable _ (room-up _ _ _ (ready-able r (s .pre .0) .room) (omega arith)) (λ e. omega arith)
+    (omega (arith, s .pre .2))
 
 spoilt-requires : tie.Need-spoilt-requires
 spoilt-requires c κs = search needs
@@ -45,22 +50,20 @@ read-requires-2 c κs =
       s .pre .0,
       s .pre .1,
       s .pre .2,
-      header-within (s .args .self) [] (now (s .args .t)) _ _ (c .before .before .before .before .read .ensures)
-          (c .before .before .reading2 .given .1),
+      header-within (s .args .self) [] [] (now (s .args .t)) _ _ (c .before .before .before .before .before .read .ensures) (c .before .before .before .reading2 .given .1),
     )
 
 returns : tie.Need-returns
 returns c =
     let s = c .before .before .before .before .before .before .before .before .before .before in
-    took-idle (s .args .self) (now (s .args .buffer)) (now (s .args .t)) _ _ _ (c .before .before .before .before .read .ensures)
-    (c .before .before .enum-told .given .1) (c .before .post .ensures) (c .counted .ensures)
+    took-idle (s .args .self) (now (s .args .m)) (now (s .args .buffer)) (now (s .args .t)) _ _ _ (c .before .before .before .before .before .read .ensures)
+    (c .before .before .before .enum-told .given .1) (c .before .plus .ensures) (c .counted .ensures)
 
 returns-2 : tie.Need-returns-2
 returns-2 c =
     let s = c .before .before .before .before .before .before .before .before .before .before .before .before in
-    took-unreadable (s .args .self) (now (s .args .buffer)) (now (s .args .t)) _ _ _ _ _
-    (c .before .before .before .before .before .before .read .ensures) (c .before .before .before .before .reading .given .1)
-    (c .before .before .post2 .ensures) (c .before .spoilt .ensures) (c .counted2 .ensures)
+    took-unreadable (s .args .self) (now (s .args .m)) (now (s .args .buffer)) (now (s .args .t)) _ _ _ _ _ (c .before .before .before .before .before .before .before .read .ensures)
+    (c .before .before .before .before .before .reading .given .1) (c .before .before .entered .ensures) (c .before .spoilt .ensures) (c .counted2 .ensures)
 
 same-length : tie.Need-same-length
 same-length c = search needs
@@ -68,9 +71,8 @@ same-length c = search needs
 returns-3 : tie.Need-returns-3
 returns-3 c =
     let s = c .before .before .before .before .before .before .before .before .before .before .before .before .before in
-    took-readable (s .args .self) (now (s .args .buffer)) (now (s .args .t)) _ _ _ _
-    (c .before .before .before .before .before .before .before .read .ensures) (c .before .before .before .before .before .reading2 .given .1)
-    (c .before .before .read2 .ensures .0) (c .before .before .read2 .ensures .1)
+    took-readable (s .args .self) (now (s .args .m)) (now (s .args .buffer)) (now (s .args .t)) _ _ _ _ (c .before .before .before .before .before .before .before .before .read .ensures)
+    (c .before .before .before .before .before .before .reading2 .given .1) (c .before .before .read2 .ensures .0) (c .before .before .read2 .ensures .1)
 
 pub took-spec : {M : Type 1} → statement M
 took-spec =
@@ -78,10 +80,10 @@ took-spec =
     (tie.spec
     read-requires
     enum-told
-    post-requires
+    plus-requires
     counted-requires
     enum-known-reading
-    post-requires-2
+    entered-requires
     spoilt-requires
     counted-requires-2
     enum-known-reading-2

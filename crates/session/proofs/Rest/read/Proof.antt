@@ -1,0 +1,102 @@
+use mathlib.Core.Path.{_∙_}
+use denote.Ref.{now}
+use Rattle.ledger.specs.declared.Account.{Account}
+use Rattle.ledger.proofs.Rooms.{room-up, room-entered, entering}
+use Rattle.session.specs.Session.{wholeOf}
+use Rattle.session.proofs.Calls.{part-length, put-buffer, read-done}
+use Rattle.session.proofs.Ready.{ready-able, roomy, sits, gone-few, fate-few}
+use native.Mathlib.Omega.{arith}
+use borrow.Author.Needs.{needs}
+use Rattle.session.proofs.Rest.read.Statement.{statement}
+use Rattle.session.proofs.Rest.read.Tie as tie
+
+sub-n : tie.Need-sub-n
+sub-n c = search needs
+
+turn-requires : tie.Need-turn-requires
+turn-requires c κs =
+    let s = c .before .before .before .before in
+    let r = wholeOf (s .args .self) (now (s .args .m)) in
+    (roomy r (ready-able r (s .pre .0)), omega (arith, s .pre .2))
+
+add-put : tie.Need-add-put
+add-put c =
+    let s = c .before .before .before .before .before .before in
+    let r = wholeOf (s .args .self) (now (s .args .m)) in
+    let q = sits r (ready-able r (s .pre .0)) (s .args .h) _ (c .before .turn .result) (c .before .turn .ensures) in
+    omega (arith, q .short, s .pre .2, s .pre .3)
+
+sub-put : tie.Need-sub-put
+sub-put c = search needs
+
+part-put-start : tie.Need-part-put-start
+part-put-start c = search needs
+
+part-put-end : tie.Need-part-put-end
+part-put-end c =
+    let s = c .before .before .before .before .before .before in
+    let r = wholeOf (s .args .self) (now (s .args .m)) in
+    let q = sits r (ready-able r (s .pre .0)) (s .args .h) _ (c .before .turn .result) (c .before .turn .ensures) in
+    omega (arith, q .short, s .pre .2, s .pre .3)
+
+put-requires : tie.Need-put-requires
+put-requires c κs =
+    let s = c .before .before .before .before .before .before .before in
+    let r = wholeOf (s .args .self) (now (s .args .m)) in
+    let x = c .before .before .turn in
+    let q = sits r (ready-able r (s .pre .0)) (s .args .h) _ (x .result) (x .ensures) in
+    rw (part-length (now (s .args .t)) (s .args .h .len) (x .result .len) (omega (arith, q .short, s .pre .3))) (omega (arith, q .inside, s .pre .1))
+
+entered-requires : tie.Need-entered-requires
+entered-requires c κs =
+    let s = c .before .before .before .before .before .before .before .before .before .before .before .before in
+    let r = wholeOf (s .args .self) (now (s .args .m)) in
+    entering _ _ _ Account.Headers _ (room-up _ _ _ (ready-able r (s .pre .0) .room) (omega arith)) (λ e. omega arith)
+    (omega (arith, s .pre .2, s .pre .3))
+
+answered-requires : tie.Need-answered-requires
+answered-requires c κs =
+    let s = c .before .before .before .before .before .before .before .before .before .before .before .before .before .before in
+    let r = wholeOf (s .args .self) (now (s .args .m)) in
+    let x = c .before .before .before .before .before .before .before .before .before .turn in
+    let a = ready-able r (s .pre .0) in (
+      rw (c .before .entered .ensures) (room-entered _ _ (now (s .args .m)) Account.Headers (s .args .h .len) (a .room)
+          (omega (arith, s .pre .2, s .pre .3))),
+      gone-few r a (s .args .h) _ (x .result) (x .ensures),
+      fate-few r a (s .args .h) _ (x .result) (x .ensures) (omega (arith, s .pre .2)),
+    )
+
+counted-requires : tie.Need-counted-requires
+counted-requires c κs = search needs
+
+same-length : tie.Need-same-length
+same-length c = search needs
+
+returns : tie.Need-returns
+returns c =
+    let s = c .before .before .before .before .before .before .before .before .before .before .before .before .before .before .before .before .before in
+    let r = wholeOf (s .args .self) (now (s .args .m)) in
+    let x = c .before .before .before .before .before .before .before .before .before .before .before .before .turn in
+    let q = sits r (ready-able r (s .pre .0)) (s .args .h) _ (x .result) (x .ensures) in (
+      read-done (s .args .self) (now (s .args .m)) _ _ (s .args .h) _ (x .result) _ _ (x .ensures) (c .before .before .before .before .entered .ensures)
+          (c .before .before .answered .ensures) (c .counted .ensures),
+      c .before .before .before .before .before .before .before .before .before .put .ensures
+          ∙ put-buffer (x .result) _ (s .args .h .len) (now (s .args .buffer)) (now (s .args .t)) (x .ensures) (omega (arith, q .short, s .pre .3)),
+    )
+
+pub read-spec : {M : Type 1} → statement M
+read-spec =
+    tie.close
+    (tie.spec
+    sub-n
+    turn-requires
+    add-put
+    sub-put
+    part-put-start
+    part-put-end
+    put-requires
+    entered-requires
+    answered-requires
+    counted-requires
+    same-length
+    returns)

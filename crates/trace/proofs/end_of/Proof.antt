@@ -1,0 +1,19 @@
+use Rattle.trace.proofs.Runs.{end-short, end-whole}
+use borrow.Author.Needs.{needs}
+use Rattle.trace.proofs.end_of.Statement.{statement}
+use Rattle.trace.proofs.end_of.Tie as tie
+
+sub-if1 : tie.Need-sub-if1
+sub-if1 c = search needs
+
+returns : tie.Need-returns
+returns c = search end-short
+
+add-result : tie.Need-add-result
+add-result c = search needs
+
+returns-2 : tie.Need-returns-2
+returns-2 c = search end-whole
+
+pub end-of-spec : {M : Type 1} → statement M
+end-of-spec = tie.close (tie.spec sub-if1 returns add-result returns-2)
