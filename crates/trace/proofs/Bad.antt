@@ -23,6 +23,7 @@ use Rattle.trace.specs.Trace.{newTrace, closes, numberOf, stepOf, stepBu
 use Rattle.trace.specs.declared.State.{State}
 use Rattle.trace.specs.declared.State.the-variants.{Good, Bad, Refused}
 use Rattle.trace.specs.declared.Trace.{Trace}
+use Rattle.trace.proofs.Pieces.{traced-more}
 use Rattle.trace.proofs.Right.{good, state-of, on-good, on-bad, on-refused}
 
 -- ---- each good record that is taken counts one
@@ -86,10 +87,6 @@ to-bad (r ∷ rs) s b n e =
           broken = ap (λ (t : Trace). t .session .closed || recordBad (i .worst)) step ∙ i .broken;
           number = i .number ∙ omega (arith, next-number s b r q z);
         }
-
-traced-more : (xs ys : List (List ℕ)) (t : Trace) (b : List ℕ) → traced t b (xs ++ ys) ≡ traced (traced t b xs) (tracedBuffer t b xs) ys
-traced-more [] ys t b = refl
-traced-more (x ∷ xs) ys t b = traced-more xs ys (stepOf t b x) (stepBuffer t b x)
 
 -- the number of the record after a good trace
 good-not-bad : (n : ℕ) → Bad n ≡ Good → ⊥

@@ -36,7 +36,7 @@ enough (suc j) (suc k) (x ∷ l) a b =
     let n = length-drop 64 (x ∷ l) in
     ap (take 64 (x ∷ l) ∷_) (enough j k (drop 64 (x ∷ l)) (omega (arith, n)) (omega (arith, n)))
 
-records-more : (l : List ℕ) → 0 < length l → recordsOf l ≡ take 64 l ∷ recordsOf (drop 64 l)
+pub records-more : (l : List ℕ) → 0 < length l → recordsOf l ≡ take 64 l ∷ recordsOf (drop 64 l)
 unfolding recordsOf
 records-more [] h = absurd (omega arith)
 records-more (x ∷ l) h =
