@@ -54,23 +54,22 @@ static uint64_t ours(size_t size, uint64_t times, uint8_t *buffer) {
     return palkodhen_take(FRAME, PAYLOAD, size, times, buffer, FRAME, transfers, ROUND * size);
 }
 
-static uint64_t theirs(size_t size, uint64_t times, uint8_t *buffer) {
+typedef unsigned opening(struct session *s, size_t frame, size_t payload, size_t room);
+typedef struct answer taking(struct session *s, uint8_t *buffer, size_t room, const uint8_t *t, size_t n);
+
+/* inlined where it is used, so that the two functions are called by name */
+static inline __attribute__((always_inline)) uint64_t rounds(opening *open, taking *take, size_t size, uint64_t times, uint8_t *buffer) {
     struct session s;
-    session_open(&s, FRAME, PAYLOAD, FRAME);
+    open(&s, FRAME, PAYLOAD, FRAME);
     for (uint64_t i = 0; i < times; i++)
         for (size_t at = 0; at < ROUND * size; at += size)
-            session_take(&s, buffer, FRAME, transfers + at, size);
+            take(&s, buffer, FRAME, transfers + at, size);
     return s.total[DELIVERED];
 }
 
-static uint64_t theirs_by_memcpy(size_t size, uint64_t times, uint8_t *buffer) {
-    struct session s;
-    memcpy_open(&s, FRAME, PAYLOAD, FRAME);
-    for (uint64_t i = 0; i < times; i++)
-        for (size_t at = 0; at < ROUND * size; at += size)
-            memcpy_take(&s, buffer, FRAME, transfers + at, size);
-    return s.total[DELIVERED];
-}
+static uint64_t theirs(size_t size, uint64_t times, uint8_t *buffer) { return rounds(session_open, session_take, size, times, buffer); }
+
+static uint64_t theirs_by_memcpy(size_t size, uint64_t times, uint8_t *buffer) { return rounds(memcpy_open, memcpy_take, size, times, buffer); }
 
 /* Two frames of four transfers each, with a header of 12 bytes (PTS and SCR), a stamp for each frame, and any data. */
 static void make_transfers(size_t size) {
