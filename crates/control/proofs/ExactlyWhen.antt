@@ -6,22 +6,23 @@ use mathlib.Core.List.{List}
 use mathlib.Core.Logic.{_↔_}
 use lib.ListN.{length}
 use native.Mathlib.Omega.{arith}
-use Rattle.rules.specs.Numbered.{firstFrom}
+use Rattle.rules.specs.Numbered.{Given}
 use Rattle.rules.specs.First.{First}
 use Rattle.rules.specs.Walk.{Outcome.done, walk, Clean, FirstBreak}
 use Rattle.rules.specs.declared.Verdict.{Verdict}
 use Rattle.rules.specs.declared.Verdict.the-variants.{Accepted, Refused}
-use Rattle.rules.proofs.Numbered.{none-up, none-first, first-up, first-low, up-first, up-above, up-below}
+use Rattle.rules.proofs.Rows.{given-none, given-each}
 use Rattle.rules.proofs.Walks.{walk-done, walk-stop}
+use Rattle.blocks.specs.Blocks.{wholeRows}
 use Rattle.entities.specs.Table.{noTable, entityAt, findFrom}
 use Rattle.entities.specs.declared.Entity.{Entity}
 use Rattle.entities.specs.declared.Found.{Found}
 use Rattle.entities.specs.declared.Found.the-variants.{At, Nothing}
 use Rattle.entities.proofs.Finding.{found-within}
-use Rattle.control_rules.specs.Rules.{headFlags, flags, entityFlags}
+use Rattle.control_rules.specs.Rules.{headRows, rows, entityRows}
 use Rattle.sources.specs.Sources.{sourcesOf, sourceAt, Breaks13, Breaks14, Breaks15, None, Judged, Judged.thirteen, Judged.fourteen, Judged.fifteen, Judged.fine}
-use Rattle.control.specs.Reading.{course, refusedBy, tableOf, ControlIs, ControlIs.block, ControlIs.descriptor, ControlIs.source, ControlIs.sound}
-use Rattle.control.specs.Broken.{BlockBreaks, BlockRight, Entities, Kept, Sound, FirstEntity, FirstBroken, FirstBroken.by-block, FirstBroken.by-descriptor, FirstBroken.by-13, FirstBroken.by-14, FirstBroken.by-15}
+use Rattle.control.specs.Answer.{course, refusedBy, tableOf, ControlIs, ControlIs.block, ControlIs.descriptor, ControlIs.source, ControlIs.sound}
+use Rattle.control.specs.Broken.{BlockRight, Entities, Kept, Sound, FirstEntity, FirstBroken, FirstBroken.by-block, FirstBroken.by-descriptor, FirstBroken.by-13, FirstBroken.by-14, FirstBroken.by-15}
 use Rattle.control.specs.declared.Control.{Control}
 use Rattle.control.proofs.Walking.{steady}
 use Rattle.control.proofs.Unique.{verdict-apart, same-seen, read-unique}
@@ -39,12 +40,6 @@ module _ (l : List Entity) (P : ℕ → Type 0) where
 
 module _ (s : List ℕ) where
   -- ---- the block and its descriptors
-  right : firstFrom 1 (headFlags s) ≡ 0 → BlockRight s
-  right z = none-up 1 (headFlags s) (omega arith) z
-
-  unbroken : BlockRight s → firstFrom 1 (headFlags s) ≡ 0
-  unbroken h = none-first 1 (headFlags s) h
-
   walked : (l : List Entity) → walk (course s) ≡ done l → Entities s l × Clean (course s)
   walked l e = walk-done (course s) (steady s) l .0 e
 
@@ -68,7 +63,7 @@ module _ (s : List ℕ) where
   to-sound (source l k o z y v) q = absurd (verdict-apart _ _ q)
   to-sound (sound l z y v) q =
       let w = walked l y in
-      record { block = right z; descriptors = w .1; sources = λ m r. let e : m ≡ l = one-list (w .1) m l r (w .0) in rw e (judged-kept l Accepted v refl) }
+      record { block = z; descriptors = w .1; sources = λ m r. let e : m ≡ l = one-list (w .1) m l r (w .0) in rw e (judged-kept l Accepted v refl) }
 
   not-judged : (l : List Entity) (v : Verdict) → Judged s l v → Kept l (Breaks13 s l) × Kept l (Breaks14 s l) × Kept l (Breaks15 s l) → v ≡ Accepted
   not-judged l v (thirteen i h f) k = absurd (k .0 i h (f .here h))
@@ -77,8 +72,8 @@ module _ (s : List ℕ) where
   not-judged l v (fine f g j) k = refl
 
   from-sound : {c : Control} → ControlIs s c → Sound s → c .verdict ≡ Accepted
-  from-sound (block k e) d = absurd (d .block (suc k) (first-up 1 (headFlags s) k e))
-  from-sound (descriptor k o z y) d = let f = walk-stop (course s) (steady s) k o .0 y in absurd (d .descriptors (f .seen) o (f .there) (f .inside) k (f .broken))
+  from-sound (block k e) d = absurd (given-none e (d .block))
+  from-sound (descriptor k o z y) d = let f = walk-stop (course s) (steady s) k o .0 y in absurd (given-none (f .given) (d .descriptors (f .seen) o (f .there) (f .inside)))
   from-sound (source l k o z y v) d = absurd (verdict-apart k o (not-judged l (Refused k o) v (d .sources l (walked l y .0))))
   from-sound (sound l z y v) d = refl
 
@@ -97,25 +92,24 @@ module _ (s : List ℕ) where
   judged-broken l v z h r (fine f g j) k o e = absurd (verdict-apart k o (sym e))
 
   to-first : {c : Control} → ControlIs s c → (k o : ℕ) → c .verdict ≡ Refused k o → FirstBroken s k o
-  to-first (block j e) k o q = same-broken _ _ k o q (by-block (suc j) (first-up 1 (headFlags s) j e) (λ i. first-low 1 (headFlags s) j i e))
-  to-first (descriptor j p z y) k o q = same-broken _ _ k o q (by-descriptor j p (right z) (walk-stop (course s) (steady s) j p .0 y))
-  to-first (source l j p z y v) k o q = same-broken _ _ k o q (judged-broken l _ (right z) (walked l y .1) (walked l y .0) v j p refl)
+  to-first (block j e) k o q = same-broken _ _ k o q (by-block j e)
+  to-first (descriptor j p z y) k o q = same-broken _ _ k o q (by-descriptor j p z (walk-stop (course s) (steady s) j p .0 y))
+  to-first (source l j p z y v) k o q = same-broken _ _ k o q (judged-broken l _ z (walked l y .1) (walked l y .0) v j p refl)
   to-first (sound l z y v) k o q = absurd (verdict-apart k o (sym q))
 
   at-place : (k : ℕ) (l : List Entity) (P : ℕ → Type 0) (o : ℕ) (e : FirstEntity l P o) → Judged s l (Refused k (entityAt l (e .place) .offset)) → Judged s l (Refused k o)
   at-place k l P o e j = rw (e .at) at j
 
   pub from-first : {k o : ℕ} → FirstBroken s k o → ControlIs s (refusedBy k o)
-  from-first (by-block zero b l) = absurd (omega (arith, up-above 1 (headFlags s) zero b))
-  from-first (by-block (suc k) b l) = block k (up-first 1 (headFlags s) (suc k) b l)
-  from-first (by-descriptor k o z f) = descriptor k o (unbroken z) (walk-stop (course s) (steady s) k o .1 f)
+  from-first (by-block k g) = block k g
+  from-first (by-descriptor k o z f) = descriptor k o z (walk-stop (course s) (steady s) k o .1 f)
   from-first (by-13 l o z h r e) =
-      source l 13 o (unbroken z) (walks l r h) (at-place 13 l (Breaks13 s l) o e (thirteen (e .place) (e .inside) (from-entity l (Breaks13 s l) o e)))
+      source l 13 o z (walks l r h) (at-place 13 l (Breaks13 s l) o e (thirteen (e .place) (e .inside) (from-entity l (Breaks13 s l) o e)))
   from-first (by-14 l o z h r a e) =
-      source l 14 o (unbroken z) (walks l r h)
+      source l 14 o z (walks l r h)
       (at-place 14 l (Breaks14 s l) o e (fourteen (e .place) (e .inside) (kept-none l (Breaks13 s l) a) (from-entity l (Breaks14 s l) o e)))
   from-first (by-15 l o z h r a b e) =
-      source l 15 o (unbroken z) (walks l r h)
+      source l 15 o z (walks l r h)
       (at-place 15 l (Breaks15 s l) o e (fifteen (e .place) (e .inside) (kept-none l (Breaks13 s l) a) (kept-none l (Breaks14 s l) b) (from-entity l (Breaks15 s l) o e)))
 
   -- REFUSED by k at o exactly when k is the first broken rule, at the first place that breaks it
@@ -133,17 +127,17 @@ module _ (s : List ℕ) where
     pub plain : Kept seen (Breaks14 s seen)
     pub loop : FirstEntity seen (Breaks15 s seen) o
 
-  pub few-head : (k : ℕ) → BlockBreaks s k → k < 5
-  unfolding headFlags
-  few-head k u = up-below 1 (headFlags s) k u
+  pub head-few : {k : ℕ} → Given (headRows s) k → k < 5
+  unfolding wholeRows
+  head-few g = given-each (λ k. k < 5) g (omega arith)
 
-  pub few-flags : {k o : ℕ} → FirstBreak (course s) k o → k < 13
-  unfolding flags entityFlags
-  few-flags {k} {o} f = up-below 5 (course s .flags (f .seen) o) k (f .broken)
+  pub rows-few : {k o : ℕ} → FirstBreak (course s) k o → k < 13
+  unfolding rows entityRows
+  rows-few f = given-each (λ k. k < 13) (f .given) (omega arith)
 
   to-loop : {k o : ℕ} → FirstBroken s k o → k ≡ 15 → Looped o
-  to-loop (by-block k b l) e = absurd (omega (arith, few-head k b))
-  to-loop (by-descriptor k o z f) e = absurd (omega (arith, few-flags f))
+  to-loop (by-block k g) e = absurd (omega (arith, head-few g))
+  to-loop (by-descriptor k o z f) e = absurd (omega (arith, rows-few f))
   to-loop (by-13 l o z h r f) e = absurd (omega arith)
   to-loop (by-14 l o z h r a f) e = absurd (omega arith)
   to-loop (by-15 l o z h r a b f) e = record { block = z; descriptors = h; seen = l; entities = r; found = a; plain = b; loop = f }

@@ -13,22 +13,22 @@ use Rattle.le.specs.Le.{byte}
 use Rattle.rules.specs.Pick.{pick}
 use Rattle.rules.specs.Walk.{Reached, first, next, Clean}
 use Rattle.rules.proofs.Firsts.{lt-or-ge}
-use Rattle.rules.proofs.Numbered.{none-first}
+use Rattle.rules.proofs.Rows.{or-first, or-second}
 use Rattle.entities.specs.Table.{noEntity, entityAt}
 use Rattle.entities.specs.declared.Entity.{Entity}
 use Rattle.control_rules.specs.Descriptors.{kindOf, kindAt, lenAt, isEntity, sourcePlace, Shaped}
 use Rattle.control_rules.proofs.Within.{sources-within}
 use Rattle.sources.specs.Sources.{sourcesOf}
-use Rattle.control_rules.specs.Rules.{flags, entityOf, entitiesAt}
-use Rattle.control.specs.Reading.{usedBefore, course}
-use Rattle.control.proofs.Walking.{Fine, fine, or-left, or-right}
+use Rattle.control_rules.specs.Rules.{entityOf, entitiesAt}
+use Rattle.control.specs.Answer.{usedBefore, course}
+use Rattle.control.proofs.Walking.{Fine, fine}
 
 -- an ID that was not used before is that of no entity of the list
 unused : (l : List Entity) (x : ℕ) → usedBefore l x ≡ false → (i : ℕ) → i < length l → entityAt l i .id ≡ x → ⊥
 unfolding usedBefore
 unused [] x h i hi q = omega arith
-unused (e ∷ l) x h zero hi q = eqb-false (e .id) x (or-left (eqb (e .id) x) (usedBefore l x) h) q
-unused (e ∷ l) x h (suc i) hi q = unused l x (or-right (eqb (e .id) x) (usedBefore l x) h) i (omega arith) q
+unused (e ∷ l) x h zero hi q = eqb-false (e .id) x (or-first (eqb (e .id) x) (usedBefore l x) h) q
+unused (e ∷ l) x h (suc i) hi q = unused l x (or-second (eqb (e .id) x) (usedBefore l x) h) i (omega arith) q
 
 -- what holds of each entity of a list, and of one more
 module _ (l : List Entity) (e : Entity) where
@@ -63,7 +63,7 @@ distinct-more l e d n i j hi hj q = ⊎-elim (λ a. ⊎-elim (both a) (λ b. abs
 
 module _ (s : List ℕ) (clean : Clean (course s)) where
   fine-at : {l : List Entity} {o : ℕ} → Reached (course s) l o → o < length s → Fine s o (usedBefore l (byte s o 3)) (length l)
-  fine-at {l} {o} r h = fine s o (usedBefore l (byte s o 3)) (length l) (none-first 5 (flags s o (usedBefore l (byte s o 3)) (length l)) (clean l o r h))
+  fine-at {l} {o} r h = fine s o (usedBefore l (byte s o 3)) (length l) (clean l o r h)
 
   -- a step of the descriptors: the same list, or one entity more
   by-step : (P : List Entity → Type 0) (l : List Entity) (o : ℕ) → P l → (isEntity (kindAt s o) ≡ true → P (l ++ (entityOf s o ∷ []))) → P (l ++ entitiesAt s o)

@@ -6,7 +6,6 @@ use mathlib.Core.List.{List, [], _∷_, _++_}
 use lib.ListN.{length}
 use native.Mathlib.Omega.{arith}
 use Rattle.rules.specs.Pick.{pick}
-use Rattle.rules.specs.Numbered.{firstFrom}
 use Rattle.rules.specs.First.{First}
 use Rattle.rules.specs.Chain.{Chain.one}
 use Rattle.rules.specs.Walk.{walkFrom, walk}
@@ -14,10 +13,11 @@ use Rattle.rules.specs.declared.Verdict.the-variants.{Accepted}
 use Rattle.entities.specs.Table.{noTable, findFrom}
 use Rattle.entities.specs.declared.Entity.{Entity}
 use Rattle.control_rules.specs.Descriptors.{kindOf, fixedAt, countedAt, inputAt, shape, isEntity, terminalOf, sourceCount, sourcePlace}
-use Rattle.control_rules.specs.Rules.{headFlags, lengthBroken, typeBroken, revisionRight, pinCount, pinsRight, entityFlags, flags, entitiesAt}
+use Rattle.blocks.specs.Blocks.{wholeRows, lengthBroken, typeBroken}
+use Rattle.control_rules.specs.Rules.{revisionRight, pinCount, pinsRight, entityRows, rows, entitiesAt}
 use Rattle.sources.specs.Sources.{Breaks13, Breaks15, Judged.thirteen, Judged.fifteen}
 use Rattle.sources.proofs.Loops.{allBelow, earlier, orderly, orderly-is, orderly-fine, plain, allPlain, plain-found, plain-kept, feed-each-other, feeds-itself}
-use Rattle.control.specs.Reading.{usedBefore, refusedBy, acceptedWith, ControlIs, ControlIs.source, ControlIs.sound}
+use Rattle.control.specs.Answer.{usedBefore, refusedBy, acceptedWith, ControlIs, ControlIs.source, ControlIs.sound}
 
 -- a header of 12 bytes in a block of n, at 48,000,000 Hz
 abbrev pub header : ℕ → List ℕ
@@ -82,17 +82,17 @@ pub record Samples : Type 0 where
   pub unreached-loop : ControlIs apart (refusedBy 15 12)
 
 pub samples : Samples
-unfolding firstFrom headFlags flags lengthBroken typeBroken shape countedAt fixedAt inputAt kindOf revisionRight entityFlags isEntity pinsRight pinCount terminalOf usedBefore entitiesAt pick walkFrom walk sourceCount sourcePlace findFrom allBelow earlier orderly plain allPlain
+unfolding wholeRows rows lengthBroken typeBroken shape countedAt fixedAt inputAt kindOf revisionRight entityRows isEntity pinsRight pinCount terminalOf usedBefore entitiesAt pick walkFrom walk sourceCount sourcePlace findFrom allBelow earlier orderly plain allPlain
 samples = record {
-  header-alone = sound [] refl refl (orderly-fine (header 0x0C) [] (orderly-is (header 0x0C) [] refl));
-  names-itself = source (at-twelve ∷ []) 15 12 refl refl
+  header-alone = sound [] (refl, (refl, (refl, (refl, tt)))) refl (orderly-fine (header 0x0C) [] (orderly-is (header 0x0C) [] refl));
+  names-itself = source (at-twelve ∷ []) 15 12 (refl, (refl, (refl, (refl, tt)))) refl
       (fifteen 0 (omega arith) (plain-found (header 0x13 ++ selector 5 5) (at-twelve ∷ []) refl) (plain-kept (header 0x13 ++ selector 5 5) (at-twelve ∷ []) refl)
       (first-here (at-twelve ∷ []) (Breaks15 (header 0x13 ++ selector 5 5) (at-twelve ∷ []))
       (feeds-itself (header 0x13 ++ selector 5 5) (at-twelve ∷ []) 0 (omega arith, (0, omega arith, refl)))));
-  names-nothing = source (at-twelve ∷ []) 13 12 refl refl
+  names-nothing = source (at-twelve ∷ []) 13 12 (refl, (refl, (refl, (refl, tt)))) refl
       (thirteen 0 (omega arith) (first-here (at-twelve ∷ []) (Breaks13 (header 0x13 ++ selector 5 6) (at-twelve ∷ [])) (0, omega arith, refl)));
-  two-paths-accepted = sound two-path-entities refl refl (orderly-fine two-paths two-path-entities (orderly-is two-paths two-path-entities refl));
-  unreached-loop = source apart-entities 15 12 refl refl
+  two-paths-accepted = sound two-path-entities (refl, (refl, (refl, (refl, tt)))) refl (orderly-fine two-paths two-path-entities (orderly-is two-paths two-path-entities refl));
+  unreached-loop = source apart-entities 15 12 (refl, (refl, (refl, (refl, tt)))) refl
       (fifteen 0 (omega arith) (plain-found apart apart-entities refl) (plain-kept apart apart-entities refl)
       (first-here apart-entities (Breaks15 apart apart-entities)
       (feed-each-other apart apart-entities 0 1 (omega arith, (0, omega arith, refl)) (omega arith, (0, omega arith, refl)))));

@@ -11,60 +11,56 @@ use native.Mathlib.Omega.{arith}
 use Rattle.le.specs.Le.{byte, le32At}
 use Rattle.rules.specs.Pick.{pick}
 use Rattle.rules.specs.Pad.{pad}
-use Rattle.rules.specs.Numbered.{firstFrom, Down}
+use Rattle.rules.specs.Numbered.{firstRow, NoneOf}
 use Rattle.rules.specs.Walk.{Outcome.done, walk, brokenAt}
-use Rattle.rules.proofs.Numbered.{first-zero}
+use Rattle.rules.proofs.Rows.{Numbered, row-none, row-gives}
 use Rattle.rules.proofs.Padded.{pad-set}
 use Rattle.rules.proofs.Walks.{Steady, Walking, starts, stops, ends, goes}
 use Rattle.rules.specs.declared.Verdict.{Verdict}
 use Rattle.rules.specs.declared.Verdict.the-variants.{Accepted, Refused}
-use Rattle.entities.specs.Table.{noEntity, noTable, used}
+use Rattle.blocks.specs.Blocks.{wholeRows}
+use Rattle.blocks.proofs.Right.{placed, sizes}
+use Rattle.entities.specs.Table.{entitiesMost, noEntity, noTable, used}
 use Rattle.entities.specs.declared.Entity.{Entity}
 use Rattle.entities.specs.declared.Table.{Table}
 use Rattle.marks.specs.Marks.{noMarks, marked, withMark}
 use Rattle.marks.proofs.Sets.{Good, good-none, good-with, none-marked, with-marked}
 use Rattle.control_rules.specs.Descriptors.{lenAt, kindAt, isEntity, Shaped}
-use Rattle.control_rules.specs.Rules.{headFlags, lengthBroken, entityFlags, flags, entityOf, entitiesAt}
+use Rattle.control_rules.specs.Rules.{limits, headRows, entityRows, rows, entityOf, entitiesAt}
 use Rattle.control_rules.proofs.Shortest.{sub-room, id-room}
 use Rattle.sources.specs.Sources.{Judged}
-use Rattle.control.specs.Reading.{usedBefore, course, refusedBy, ControlIs, ControlIs.block, ControlIs.descriptor, ControlIs.source, ControlIs.sound}
+use Rattle.control.specs.Answer.{usedBefore, course, refusedBy, ControlIs, ControlIs.block, ControlIs.descriptor, ControlIs.source, ControlIs.sound}
 use Rattle.control.specs.declared.Control.{Control}
-
-pub or-left : (a b : Bool) → (a || b) ≡ false → a ≡ false
-or-left true b h = h
-or-left false b h = refl
-
-pub or-right : (a b : Bool) → (a || b) ≡ false → b ≡ false
-or-right true b h = absurd (true≢false h)
-or-right false b h = h
 
 -- ---- what holds of a descriptor that breaks no rule
 pub record Fine (s : List ℕ) (o : ℕ) (u : Bool) (n : ℕ) : Type 0 where
   pub shaped : Shaped (kindAt s o) s o
-  pub few : isEntity (kindAt s o) ≡ true → n < 32
+  pub few : isEntity (kindAt s o) ≡ true → n < entitiesMost
   pub fresh : isEntity (kindAt s o) ≡ true → u ≡ false
   pub nonzero : isEntity (kindAt s o) ≡ true → eqb (byte s o 3) 0 ≡ false
 
-pub fine : (s : List ℕ) (o : ℕ) (u : Bool) (n : ℕ) → firstFrom 5 (flags s o u n) ≡ 0 → Fine s o u n
-unfolding flags lengthBroken entityFlags
-fine s o u n h = record {
-  shaped = record {
-    long = ltb-false (lenAt s o) 3 (or-left (ltb (lenAt s o) 3) (ltb (length s) (o + lenAt s o)) (d .0));
-    inside = ltb-false (length s) (o + lenAt s o) (or-right (ltb (lenAt s o) 3) (ltb (length s) (o + lenAt s o)) (d .0));
-    right = not-false _ (d .1 .1 .0);
-  };
-  few = λ e. leb-false 32 n (rw e at (d .1 .1 .1 .1 .1 .1 .0));
+pub fine : (s : List ℕ) (o : ℕ) (u : Bool) (n : ℕ) → NoneOf (rows s o u n) → Fine s o u n
+unfolding rows entityRows
+fine s o u n d = let p = placed s o (d .0) in record {
+  shaped = record { long = p .long; inside = p .inside; right = not-false _ (d .1 .1 .0) };
+  few = λ e. leb-false entitiesMost n (rw e at (d .1 .1 .1 .1 .1 .1 .0));
   fresh = λ e. rw e at (d .1 .1 .1 .1 .1 .0);
   nonzero = λ e. rw e at (d .1 .1 .1 .1 .0);
 }
-  where
-    d : Down (flags s o u n)
-    d = first-zero 5 (flags s o u n) (omega arith) h
+
+-- no rule has number 0
+pub head-numbered : (s : List ℕ) → Numbered (headRows s)
+unfolding wholeRows
+head-numbered s = omega arith
+
+pub numbered : (s : List ℕ) (o : ℕ) (u : Bool) (n : ℕ) → Numbered (rows s o u n)
+unfolding rows entityRows
+numbered s o u n = omega arith
 
 -- ---- the course is steady: a descriptor that breaks no rule has a length and lies within the block
 pub steady : (s : List ℕ) → Steady (course s)
 steady s = record {
-  numbered = omega arith;
+  numbered = λ seen o. numbered s o (usedBefore seen (byte s o 3)) (length seen);
   onward = λ seen o h e. let f = fine s o (usedBefore seen (byte s o 3)) (length seen) e .shaped .long in omega arith;
   inside = λ seen o h e. fine s o (usedBefore seen (byte s o 3)) (length seen) e .shaped .inside;
 }
@@ -74,8 +70,8 @@ pub record Reading (s : List ℕ) (t : Table) (m : List ℕ) (at : ℕ) : Type 0
   pub seen : List Entity
   pub walking : Walking (course s) seen at
   pub counted : t .count ≡ length seen
-  pub room : length seen ≤ 32
-  pub kept : t .entities ≡ pad 32 noEntity seen
+  pub room : length seen ≤ entitiesMost
+  pub kept : t .entities ≡ pad entitiesMost noEntity seen
   pub good : Good m
   pub ids : (i : ℕ) → i < 256 → marked m i ≡ usedBefore seen i
 
@@ -91,7 +87,7 @@ pub record Turn (s : List ℕ) (t : Table) (m : List ℕ) (o : ℕ) : Type 0 whe
 
 -- the first rule that it breaks, as the code counts
 abbrev pub ruleHere : List ℕ → Table → List ℕ → ℕ → ℕ
-ruleHere s t m o = firstFrom 5 (flags s o (marked m (byte s o 3)) (t .count))
+ruleHere s t m o = firstRow (rows s o (marked m (byte s o 3)) (t .count))
 
 usedBefore-more : (l : List Entity) (e : Entity) (i : ℕ) → usedBefore (l ++ (e ∷ [])) i ≡ (usedBefore l i || eqb (e .id) i)
 unfolding usedBefore
@@ -103,20 +99,20 @@ module _ (s : List ℕ) (t : Table) (m : List ℕ) (o : ℕ) (w : Turn s t m o) 
   same-rule = rw (w .reading .ids (byte s o 3) (w .small), w .reading .counted)
 
   -- it breaks a rule
-  pub refuses : (r : ℕ) (x : Control) → firstFrom 1 (headFlags s) ≡ 0 → r ≡ ruleHere s t m o → (r ≡ 0 → ⊥) → x ≡ refusedBy r o → ControlIs s x
+  pub refuses : (r : ℕ) (x : Control) → NoneOf (headRows s) → r ≡ ruleHere s t m o → (r ≡ 0 → ⊥) → x ≡ refusedBy r o → ControlIs s x
   refuses r x z e n q =
       rw q (descriptor r o z (stops (course s) (w .reading .seen) o (w .reading .walking) r (w .inside) (sym (e ∙ same-rule)) n))
 
   -- it breaks none
   module _ (none : ruleHere s t m o ≡ 0) where
     pub fine-here : Fine s o (marked m (byte s o 3)) (t .count)
-    fine-here = fine s o (marked m (byte s o 3)) (t .count) none
+    fine-here = fine s o (marked m (byte s o 3)) (t .count) (row-none (rows s o (marked m (byte s o 3)) (t .count)) (numbered s o (marked m (byte s o 3)) (t .count)) none)
 
     pub has-sub : o + 2 < length s
     has-sub = sub-room (kindAt s o) s o (fine-here .shaped)
 
     onward : Walking (course s) (w .reading .seen ++ entitiesAt s o) (o + lenAt s o)
-    onward = goes (course s) (w .reading .seen) o (w .reading .walking) (steady s) (w .inside) (sym same-rule ∙ none)
+    onward = goes (course s) (w .reading .seen) o (w .reading .walking) (steady s) (w .inside) (row-none (course s .rows (w .reading .seen) o) (steady s .numbered (w .reading .seen) o) (sym same-rule ∙ none))
 
     pub stays : isEntity (kindAt s o) ≡ false → Reading s t m (o + lenAt s o)
     unfolding entitiesAt pick
@@ -134,37 +130,36 @@ module _ (s : List ℕ) (t : Table) (m : List ℕ) (o : ℕ) (w : Turn s t m o) 
       pub has-id : o + 3 < length s
       has-id = id-room (kindAt s o) s o (fine-here .shaped) e
 
-      pub has-place : t .count < 32
+      pub has-place : t .count < entitiesMost
       has-place = fine-here .few e
 
       pub gains : (t′ : Table) (m′ : List ℕ) → t′ .count ≡ t .count + 1 → t′ .entities ≡ set (t .entities) (t .count) (entityOf s o) → m′ ≡ withMark m (byte s o 3)
           → Reading s t′ m′ (o + lenAt s o)
       unfolding entitiesAt pick
       gains t′ m′ n l k =
-          let few : length (w .reading .seen) < 32 = omega (arith, has-place, w .reading .counted) in
+          let few : length (w .reading .seen) < entitiesMost = omega (arith, has-place, w .reading .counted) in
           record {
             seen = w .reading .seen ++ (entityOf s o ∷ []);
             walking = rw e at onward;
             counted = n ∙ (rw (w .reading .counted) (simp length-append));
             room = simp length-append (omega arith);
-            kept = l ∙ (rw (w .reading .kept, w .reading .counted) (pad-set 32 noEntity (w .reading .seen) (entityOf s o) few));
+            kept = l ∙ (rw (w .reading .kept, w .reading .counted) (pad-set entitiesMost noEntity (w .reading .seen) (entityOf s o) few));
             good = rw k (good-with m (byte s o 3) (w .reading .good));
             ids = λ i b. rw k (with-marked m (byte s o 3) i (w .reading .good) (w .small) b ∙ (rw (w .reading .ids i b) (sym (usedBefore-more (w .reading .seen) (entityOf s o) i))));
           }
 
 -- ---- the end of the walk
-pub head-sizes : (s : List ℕ) → firstFrom 1 (headFlags s) ≡ 0 → (12 ≤ length s) × (length s ≤ 4096)
-unfolding headFlags
-head-sizes s n = let d : Down (headFlags s) = first-zero 1 (headFlags s) (omega arith) n in (ltb-false (length s) 12 (d .0), ltb-false 4096 (length s) (d .1 .0))
+pub head-sizes : (s : List ℕ) → NoneOf (headRows s) → (12 ≤ length s) × (length s ≤ 4096)
+head-sizes s n = sizes limits s n
 
 module _ (s : List ℕ) (t : Table) (m : List ℕ) (o : ℕ) (w : Reading s t m o) where
-  pub few-entities : t .count ≤ 32
+  pub few-entities : t .count ≤ entitiesMost
   few-entities = rw (w .counted) (w .room)
 
   all-used : used t ≡ w .seen
-  all-used = rw (w .kept, w .counted) (take-at (w .seen) (replicate (32 - length (w .seen)) noEntity) (length (w .seen)) refl)
+  all-used = rw (w .kept, w .counted) (take-at (w .seen) (replicate (entitiesMost - length (w .seen)) noEntity) (length (w .seen)) refl)
 
-  module _ (z : firstFrom 1 (headFlags s) ≡ 0) (h : length s ≤ o) (v : Verdict) (j : Judged s (used t) v) where
+  module _ (z : NoneOf (headRows s)) (h : length s ≤ o) (v : Verdict) (j : Judged s (used t) v) where
     walked : walk (course s) ≡ done (w .seen)
     walked = ends (course s) (w .seen) o (w .walking) h
 
@@ -175,6 +170,8 @@ module _ (s : List ℕ) (t : Table) (m : List ℕ) (o : ℕ) (w : Reading s t m 
     rejects k p x e q = rw q (source (w .seen) k p z walked (rw (e, all-used) at j))
 
 -- ---- before the walk
-pub head-bad : (s : List ℕ) (r : ℕ) (x : Control) → r ≡ firstFrom 1 (headFlags s) → (r ≡ 0 → ⊥) → x ≡ refusedBy r 0 → ControlIs s x
-head-bad s zero x e n q = absurd (n refl)
-head-bad s (suc k) x e n q = rw q (block k (sym e))
+pub head-bad : (s : List ℕ) (r : ℕ) (x : Control) → r ≡ firstRow (headRows s) → (r ≡ 0 → ⊥) → x ≡ refusedBy r 0 → ControlIs s x
+head-bad s r x e n q = rw q (block r (row-gives (headRows s) r e n))
+
+pub head-right : (s : List ℕ) (r : ℕ) → r ≡ firstRow (headRows s) → r ≡ 0 → NoneOf (headRows s)
+head-right s r e z = row-none (headRows s) (head-numbered s) (sym e ∙ z)

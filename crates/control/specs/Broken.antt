@@ -3,17 +3,17 @@ use Prim.Native.Nat.{ℕ, _<_}
 use mathlib.Core.Path.{_≡_}
 use mathlib.Core.List.{List}
 use lib.ListN.{length}
-use Rattle.rules.specs.Numbered.{Up}
+use Rattle.rules.specs.Numbered.{Given, NoneOf}
 use Rattle.rules.specs.Walk.{Reached, Clean, FirstBreak}
 use Rattle.entities.specs.Table.{entityAt}
 use Rattle.entities.specs.declared.Entity.{Entity}
-use Rattle.control_rules.specs.Rules.{headFlags}
+use Rattle.control_rules.specs.Rules.{headRows}
 use Rattle.sources.specs.Sources.{Breaks13, Breaks14, Breaks15}
-use Rattle.control.specs.Reading.{course}
+use Rattle.control.specs.Answer.{course}
 
--- the block breaks rule k, of 1 to 4
-abbrev pub BlockBreaks : List ℕ → ℕ → Type 0
-BlockBreaks s k = Up 1 (headFlags s) k
+-- the block breaks none of 1 to 4
+abbrev pub BlockRight : List ℕ → Type 0
+BlockRight s = NoneOf (headRows s)
 
 -- the block's descriptors fill it, one after the other from 0, and give these entities
 abbrev pub Entities : List ℕ → List Entity → Type 0
@@ -25,13 +25,9 @@ Kept seen P = (i : ℕ) → i < length seen → P i → ⊥
 
 -- no rule is broken: by the block, by any of its descriptors, or by any entity's sources
 pub record Sound (s : List ℕ) : Type 0 where
-  pub block : (k : ℕ) → BlockBreaks s k → ⊥
+  pub block : BlockRight s
   pub descriptors : Clean (course s)
   pub sources : (seen : List Entity) → Entities s seen → Kept seen (Breaks13 s seen) × Kept seen (Breaks14 s seen) × Kept seen (Breaks15 s seen)
-
--- the block breaks none of 1 to 4
-abbrev pub BlockRight : List ℕ → Type 0
-BlockRight s = (j : ℕ) → BlockBreaks s j → ⊥
 
 -- the first entity in block order that breaks the rule stands at o
 pub record FirstEntity (seen : List Entity) (P : ℕ → Type 0) (o : ℕ) : Type 0 where
@@ -43,7 +39,7 @@ pub record FirstEntity (seen : List Entity) (P : ℕ → Type 0) (o : ℕ) : Typ
 
 -- rule k is the first that is broken, in the table's order, at the first place o that breaks it
 pub data FirstBroken (s : List ℕ) : ℕ → ℕ → Type 0 where
-  by-block : (k : ℕ) → BlockBreaks s k → ((j : ℕ) → j < k → BlockBreaks s j → ⊥) → FirstBroken s k 0
+  by-block : (k : ℕ) → Given (headRows s) k → FirstBroken s k 0
   by-descriptor : (k o : ℕ) → BlockRight s → FirstBreak (course s) k o → FirstBroken s k o
   by-13 : (seen : List Entity) (o : ℕ) → BlockRight s → Clean (course s) → Entities s seen → FirstEntity seen (Breaks13 s seen) o → FirstBroken s 13 o
   by-14 : (seen : List Entity) (o : ℕ) → BlockRight s → Clean (course s) → Entities s seen → Kept seen (Breaks13 s seen) → FirstEntity seen (Breaks14 s seen) o → FirstBroken s 14 o

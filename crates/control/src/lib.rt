@@ -2,9 +2,9 @@
 ghost use mathlib.Core.Path.{_≡_};
 ghost use Prim.Native.Nat.{_≤_, _<_};
 ghost use lib.ListN.{length};
-ghost use Rattle.rules.specs.Numbered.{firstFrom};
-ghost use Rattle.control_rules.specs.Rules.{headFlags};
-ghost use Rattle.control.specs.Reading.{ControlIs, refusedBy};
+ghost use Rattle.rules.specs.Numbered.{NoneOf};
+ghost use Rattle.control_rules.specs.Rules.{headRows};
+ghost use Rattle.control.specs.Answer.{ControlIs, refusedBy};
 use entities::Table;
 use rules::Verdict;
 
@@ -27,7 +27,7 @@ pub fn read(block: &[u8]) -> Control
 
 // The walk over the descriptors, header first; then their sources.
 fn walk(s: &[u8]) -> Control
-    requires { ⌜ firstFrom 1 (headFlags (now s)) ≡ 0 ⌝ }
+    requires { ⌜ NoneOf (headRows (now s)) ⌝ }
     ensures { λ r. ⌜ ControlIs (now (s .entry)) r ⌝ }
 {
     let mut table = entities::no_table();

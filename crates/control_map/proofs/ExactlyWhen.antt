@@ -13,10 +13,10 @@ use Rattle.entities.specs.Table.{entityAt}
 use Rattle.entities.specs.declared.Entity.{Entity}
 use Rattle.control_rules.specs.Descriptors.{kindOf, kindAt, lenAt, terminalOf, controlsPlace, camera}
 use Rattle.control_rules.proofs.Within.{controls-within}
-use Rattle.control.specs.Reading.{refusedBy, ControlIs}
+use Rattle.control.specs.Answer.{refusedBy, ControlIs}
 use Rattle.control.specs.Broken.{FirstBroken, FirstBroken.by-block, FirstBroken.by-descriptor, FirstBroken.by-13, FirstBroken.by-14, FirstBroken.by-15}
 use Rattle.control.proofs.Listed.{ids-nonzero, each-stands}
-use Rattle.control.proofs.ExactlyWhen.{accepted, refused, from-first, few-head, few-flags}
+use Rattle.control.proofs.ExactlyWhen.{accepted, refused, from-first, head-few, rows-few}
 use Rattle.control_map.specs.Map.{placeOf, AcceptedWith, Mapped, controlsOf, MapIs, MapIs.own, MapIs.given, MapIs.sixteen}
 use Rattle.control_map.specs.declared.Map.{Map}
 use Rattle.control_map.specs.declared.Map.the-variants.{Controls, Refused}
@@ -29,8 +29,8 @@ apart a b c k o e = let z : _≡_ {A = ℕ} 0 1 = cc in omega arith
 module _ (s : List ℕ) (id : ℕ) where
   -- a control block's own numbers end at 15
   own-number : {k o : ℕ} → FirstBroken s k o → k < 16
-  own-number (by-block k b l) = omega (arith, few-head s k b)
-  own-number (by-descriptor k o z f) = omega (arith, few-flags s f)
+  own-number (by-block k g) = omega (arith, head-few s g)
+  own-number (by-descriptor k o z f) = omega (arith, rows-few s f)
   own-number (by-13 l o z h r f) = omega arith
   own-number (by-14 l o z h r a f) = omega arith
   own-number (by-15 l o z h r a b f) = omega arith

@@ -23,7 +23,7 @@ use Rattle.entities.proofs.Finding.{Carries, found-first, found-within}
 use Rattle.entities.proofs.Finding as finding
 use Rattle.control_rules.specs.Descriptors.{kindOf, controlsPlace}
 use Rattle.control_rules.proofs.Shortest.{by-kind}
-use Rattle.control.specs.Reading.{course, tableOf, acceptedWith, ControlIs}
+use Rattle.control.specs.Answer.{course, tableOf, acceptedWith, ControlIs}
 use Rattle.control.specs.declared.Control.{Control}
 use Rattle.control.proofs.Listed.{Distinct, ids-differ}
 use Rattle.control.proofs.ExactlyWhen.{accepted, lists, zero-table}

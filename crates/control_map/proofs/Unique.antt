@@ -5,7 +5,7 @@ use mathlib.Core.List.{List}
 use Rattle.rules.specs.declared.Verdict.the-variants as verdicts
 use Rattle.entities.specs.Table.{entityAt}
 use Rattle.entities.specs.declared.Entity.{Entity}
-use Rattle.control.specs.Reading.{refusedBy, acceptedWith, ControlIs}
+use Rattle.control.specs.Answer.{refusedBy, acceptedWith, ControlIs}
 use Rattle.control.specs.declared.Control.{Control}
 use Rattle.control.proofs.Unique.{verdict-apart, read-unique}
 use Rattle.control.proofs.ExactlyWhen.{one-list}

@@ -7,7 +7,7 @@ use Rattle.le.specs.Le.{byte}
 use Rattle.entities.specs.Table.{entityAt}
 use Rattle.entities.specs.declared.Entity.{Entity}
 use Rattle.control_rules.specs.Descriptors.{kindOf, controlsPlace}
-use Rattle.control.specs.Reading.{refusedBy, acceptedWith, ControlIs}
+use Rattle.control.specs.Answer.{refusedBy, acceptedWith, ControlIs}
 use Rattle.control.specs.Broken.{Entities}
 use Rattle.control_map.specs.declared.Map.{Map}
 use Rattle.control_map.specs.declared.Map.the-variants.{Controls, Refused}

@@ -3,7 +3,7 @@ ghost use mathlib.Core.Path.{_≡_};
 ghost use Prim.Native.Nat.{_<_};
 ghost use Rattle.rules.specs.declared.Verdict.the-variants.{Accepted};
 ghost use Rattle.control_rules.specs.Descriptors.{kindOf, controlsPlace, camera};
-ghost use Rattle.control.specs.Reading.{ControlIs};
+ghost use Rattle.control.specs.Answer.{ControlIs};
 ghost use Rattle.control_map.specs.Map.{MapIs, placeOf, controlsOf};
 ghost use Rattle.rules.specs.Pick.{pick};
 ghost use lib.Dec.{eqb};

@@ -1,12 +1,13 @@
 -- A subtype number by cases; and no descriptor that has its kind's shape is shorter than this.
 use Prim.Native.Nat.{ℕ, zero, suc, _+_, _≤_, _<_}
-use mathlib.Core.Path.{_≡_, refl, sym}
+use mathlib.Core.Path.{_≡_, sym}
 use mathlib.Core.List.{List}
-use mathlib.Core.Bool.{Bool, true, false, _&&_, true≢false}
+use mathlib.Core.Bool.{true, true≢false}
 use lib.ListN.{length, getD}
 use borrow.Author.Tests.{leb-true, eqb-true}
 use native.Mathlib.Omega.{arith}
 use Rattle.le.specs.Le.{byte}
+use Rattle.rules.proofs.Rows.{and-first}
 use Rattle.control_rules.specs.Descriptors.{Kind, header, input, output, selector, processing, extension, encoding, unknown, kindOf, lenAt, shape, isEntity, fixedAt, countedAt, inputAt, extensionAt, Shaped}
 
 pub by-kind : (P : ℕ → Kind → Type 0) → P 1 header → P 2 input → P 3 output → P 4 selector → P 5 processing → P 6 extension → P 7 encoding → P 0 unknown → ((n : ℕ) → 7 < n → P n unknown) → (x : ℕ) → P x (kindOf x)
@@ -31,19 +32,15 @@ shortest extension = 24
 shortest encoding = 13
 shortest unknown = 3
 
-pub and-left : (a b : Bool) → (a && b) ≡ true → a ≡ true
-and-left true b h = refl
-and-left false b h = h
-
 shape-min : (k : Kind) (s : List ℕ) (o : ℕ) → 3 ≤ lenAt s o → shape k s o ≡ true → shortest k ≤ lenAt s o
 unfolding shape shortest fixedAt countedAt inputAt extensionAt
 shape-min header s o l h = omega (arith, eqb-true (lenAt s o) (12 + byte s o 11) h)
-shape-min input s o l h = leb-true 8 (lenAt s o) (and-left _ _ h)
+shape-min input s o l h = leb-true 8 (lenAt s o) (and-first _ _ h)
 shape-min output s o l h = leb-true 9 (lenAt s o) h
 shape-min selector s o l h = omega (arith, eqb-true (lenAt s o) (6 + byte s o 4) h)
-shape-min processing s o l h = omega (arith, eqb-true (lenAt s o) 13 (and-left _ _ h))
+shape-min processing s o l h = omega (arith, eqb-true (lenAt s o) 13 (and-first _ _ h))
 shape-min extension s o l h = omega (arith, eqb-true (lenAt s o) (24 + byte s o 21 + getD s (o + 22 + byte s o 21) 0) h)
-shape-min encoding s o l h = omega (arith, eqb-true (lenAt s o) 13 (and-left _ _ h))
+shape-min encoding s o l h = omega (arith, eqb-true (lenAt s o) 13 (and-first _ _ h))
 shape-min unknown s o l h = l
 
 pub room : (k : Kind) (s : List ℕ) (o : ℕ) → Shaped k s o → o + shortest k ≤ length s

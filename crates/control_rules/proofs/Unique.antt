@@ -3,15 +3,15 @@ use Prim.Native.Nat.{ℕ}
 use mathlib.Core.Path.{_≡_, sym, _∙_}
 use mathlib.Core.List.{List}
 use mathlib.Core.Bool.{Bool}
-use Rattle.rules.specs.Numbered.{firstFrom}
+use Rattle.rules.specs.Numbered.{firstRow}
 use Rattle.entities.specs.declared.Entity.{Entity}
 use Rattle.control_rules.specs.Descriptors.{kindOf, isEntity}
-use Rattle.control_rules.specs.Rules.{headFlags, flags, entityOf}
+use Rattle.control_rules.specs.Rules.{headRows, rows, entityOf}
 
-pub head-rule-unique : (s : List ℕ) (a b : ℕ) → a ≡ firstFrom 1 (headFlags s) → b ≡ firstFrom 1 (headFlags s) → a ≡ b
+pub head-rule-unique : (s : List ℕ) (a b : ℕ) → a ≡ firstRow (headRows s) → b ≡ firstRow (headRows s) → a ≡ b
 head-rule-unique s a b p q = p ∙ sym q
 
-pub rule-at-unique : (s : List ℕ) (o n : ℕ) (u : Bool) (a b : ℕ) → a ≡ firstFrom 5 (flags s o u n) → b ≡ firstFrom 5 (flags s o u n) → a ≡ b
+pub rule-at-unique : (s : List ℕ) (o n : ℕ) (u : Bool) (a b : ℕ) → a ≡ firstRow (rows s o u n) → b ≡ firstRow (rows s o u n) → a ≡ b
 rule-at-unique s o n u a b p q = p ∙ sym q
 
 pub entity-at-unique : (s : List ℕ) (o : ℕ) (a b : Entity) → a ≡ entityOf s o → b ≡ entityOf s o → a ≡ b

@@ -1,24 +1,20 @@
 -- The fields that are read of a descriptor that has its kind's shape lie within it.
 use Prim.Native.Nat.{ℕ, _+_, _≤_, _<_}
-use mathlib.Core.Path.{_≡_, refl, sym, _∙_}
+use mathlib.Core.Path.{_≡_, refl}
 use mathlib.Core.List.{List}
-use mathlib.Core.Bool.{Bool, true, false, _&&_, true≢false}
+use mathlib.Core.Bool.{Bool, true, false}
 use lib.ListN.{getD}
 use lib.Dec.{leb, eqb}
 use borrow.Author.Tests.{leb-true, eqb-true}
 use native.Mathlib.Omega.{arith}
 use Rattle.le.specs.Le.{byte, le16At}
 use Rattle.rules.specs.Pick.{pick}
+use Rattle.rules.proofs.Rows.{and-first, and-second}
 use Rattle.control_rules.specs.Descriptors.{Kind, header, input, output, selector, processing, extension, encoding, unknown, lenAt, camera, shape, fixedAt, countedAt, inputAt, extensionAt, terminalOf, sourceCount, sourcePlace, controlsPlace, Shaped}
-use Rattle.control_rules.proofs.Shortest.{and-left}
-
-and-right : (a b : Bool) → (a && b) ≡ true → b ≡ true
-and-right true b h = h
-and-right false b h = absurd (true≢false (sym h))
 
 fixed-long : (s : List ℕ) (o size k : ℕ) → fixedAt s o size k ≡ true → lenAt s o ≡ size
 unfolding fixedAt
-fixed-long s o size k h = eqb-true (lenAt s o) size (and-left (eqb (lenAt s o) size) (eqb (byte s o k) 3) h)
+fixed-long s o size k h = eqb-true (lenAt s o) size (and-first (eqb (lenAt s o) size) (eqb (byte s o k) 3) h)
 
 -- every source of a descriptor
 pub sources-within : (k : Kind) (s : List ℕ) (o : ℕ) → Shaped k s o → sourcePlace k + sourceCount k s o ≤ lenAt s o
@@ -35,8 +31,8 @@ sources-within unknown s o w = omega arith
 -- a camera's descriptor has 18 bytes
 camera-long : (s : List ℕ) (o : ℕ) → inputAt s o ≡ true → (b : Bool) → eqb (le16At s (o + 4)) camera ≡ b → pick b 15 0 + 3 ≤ lenAt s o
 unfolding inputAt pick
-camera-long s o h true e = omega (arith, fixed-long s o 18 14 (rw e at (and-right (leb 8 (lenAt s o)) _ h)))
-camera-long s o h false e = omega (arith, leb-true 8 (lenAt s o) (and-left (leb 8 (lenAt s o)) _ h))
+camera-long s o h true e = omega (arith, fixed-long s o 18 14 (rw e at (and-second (leb 8 (lenAt s o)) _ h)))
+camera-long s o h false e = omega (arith, leb-true 8 (lenAt s o) (and-first (leb 8 (lenAt s o)) _ h))
 
 -- the three controls of a camera or a processing unit
 pub controls-within : (k : Kind) (s : List ℕ) (o : ℕ) → Shaped k s o → controlsPlace k (terminalOf k s o) + 3 ≤ lenAt s o

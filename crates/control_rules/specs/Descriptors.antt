@@ -7,6 +7,7 @@ use lib.ListN.{length, getD}
 use lib.Dec.{leb, eqb}
 use Rattle.le.specs.Le.{byte, le16At}
 use Rattle.rules.specs.Pick.{pick}
+pub use Rattle.blocks.specs.Blocks.{lenAt}
 
 -- what a subtype number says, with one case for everything unknown
 pub data Kind : Type 0 where
@@ -23,10 +24,7 @@ kindOf (suc (suc (suc (suc (suc (suc zero)))))) = extension
 kindOf (suc (suc (suc (suc (suc (suc (suc zero))))))) = encoding
 kindOf (suc (suc (suc (suc (suc (suc (suc (suc n)))))))) = unknown
 
--- bLength, and the kind by the subtype
-abbrev pub lenAt : List ℕ → ℕ → ℕ
-lenAt s o = getD s o 0
-
+-- the kind by the subtype
 abbrev pub kindAt : List ℕ → ℕ → Kind
 kindAt s o = kindOf (byte s o 2)
 

@@ -1,34 +1,23 @@
--- Document 01, "Numbers": rules 1 to 4 of a control block, and rules 5 to 12 of the descriptor at o. A flag is up where its rule is broken.
+-- Document 01, "Numbers": rules 1 to 4 of a control block, and rules 5 to 12 of the descriptor at o, each with its number.
 use Prim.Native.Nat.{ℕ, _+_}
 use mathlib.Core.List.{List, [], _∷_}
-use mathlib.Core.Bool.{Bool, true, not, _&&_, _||_}
-use lib.ListN.{length, getD}
-use lib.Dec.{ltb, leb, eqb}
+use mathlib.Core.Bool.{Bool, true, not, _&&_}
+use lib.Dec.{leb, eqb}
 use Rattle.le.specs.Le.{byte, le16At}
 use Rattle.rules.specs.Pick.{pick}
+use Rattle.rules.specs.Numbered.{Row, row}
+use Rattle.blocks.specs.Blocks.{wholeRows, lengthBroken, typeBroken}
+use Rattle.blocks.specs.declared.Limits.{Limits}
+use Rattle.entities.specs.Table.{entitiesMost}
 use Rattle.entities.specs.declared.Entity.{Entity}
-use Rattle.control_rules.specs.Descriptors.{Kind, header, input, output, selector, processing, extension, encoding, unknown, lenAt, kindAt, shape, isEntity, terminalOf}
+use Rattle.control_rules.specs.Descriptors.{Kind, header, input, output, selector, processing, extension, encoding, unknown, kindAt, shape, isEntity, terminalOf}
 
--- CS_INTERFACE, the type of every descriptor of the block
-abbrev pub descriptorType : ℕ
-descriptorType = 0x24
+-- 1 to 4: as every block, with at least 12 and at most 4,096 bytes, and wTotalLength at 5
+abbrev pub limits : Limits
+limits = record { least = 12; most = 4096; total = 5; first = 1 }
 
--- 1, 2: under 12 bytes; over 4,096. 3: bytes 1, 2 are not 0x24, 1. 4: wTotalLength is not the block's length
-unfoldable pub headFlags : List ℕ → List Bool
-headFlags s =
-    ltb (length s) 12
-    ∷ ltb 4096 (length s)
-    ∷ not (eqb (getD s 1 0) descriptorType && eqb (getD s 2 0) 1)
-    ∷ not (eqb (le16At s 5) (length s))
-    ∷ []
-
--- 5: bLength under 3 or past the end
-unfoldable pub lengthBroken : List ℕ → ℕ → Bool
-lengthBroken s o = ltb (lenAt s o) 3 || ltb (length s) (o + lenAt s o)
-
--- 6: type not 0x24, or a second header
-unfoldable pub typeBroken : List ℕ → ℕ → Bool
-typeBroken s o = not (eqb (byte s o 1) descriptorType) || (eqb (byte s o 2) 1 && not (eqb o 0))
+abbrev pub headRows : List ℕ → List Row
+headRows s = wholeRows limits s
 
 -- 8: bcdUVC not 0x0150
 unfoldable pub revisionRight : Kind → List ℕ → ℕ → Bool
@@ -56,22 +45,22 @@ pinsRight encoding s o = true
 pinsRight unknown s o = true
 
 -- 9 to 12, of a descriptor whose ID was used before, or not, after n entities. 9: ID 0. 10: ID used before. 11: 33rd entity. 12: p
-unfoldable pub entityFlags : Kind → List ℕ → ℕ → Bool → ℕ → List Bool
-entityFlags k s o used n =
-    (isEntity k && eqb (byte s o 3) 0)
-    ∷ (isEntity k && used)
-    ∷ (isEntity k && leb 32 n)
-    ∷ not (pinsRight k s o)
+unfoldable pub entityRows : Kind → List ℕ → ℕ → Bool → ℕ → List Row
+entityRows k s o used n =
+    row 9 (isEntity k && eqb (byte s o 3) 0)
+    ∷ row 10 (isEntity k && used)
+    ∷ row 11 (isEntity k && leb entitiesMost n)
+    ∷ row 12 (not (pinsRight k s o))
     ∷ []
 
--- 5 to 12
-unfoldable pub flags : List ℕ → ℕ → Bool → ℕ → List Bool
-flags s o used n =
-    lengthBroken s o
-    ∷ typeBroken s o
-    ∷ not (shape (kindAt s o) s o)
-    ∷ not (revisionRight (kindAt s o) s o)
-    ∷ entityFlags (kindAt s o) s o used n
+-- 5, 6: as in every block. 7: length or control size. 8: revision
+unfoldable pub rows : List ℕ → ℕ → Bool → ℕ → List Row
+rows s o used n =
+    row 5 (lengthBroken s o)
+    ∷ row 6 (typeBroken s o)
+    ∷ row 7 (not (shape (kindAt s o) s o))
+    ∷ row 8 (not (revisionRight (kindAt s o) s o))
+    ∷ entityRows (kindAt s o) s o used n
 
 -- what the descriptor at o puts into the entity table: one entity or none
 abbrev pub entityOf : List ℕ → ℕ → Entity

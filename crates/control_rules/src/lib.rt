@@ -4,27 +4,25 @@ mod shape;
 ghost use mathlib.Core.Path.{_≡_};
 ghost use Prim.Native.Nat.{_<_, _≤_};
 ghost use lib.ListN.{length};
-ghost use lib.Dec.{eqb};
-ghost use mathlib.Core.Bool.{_&&_, not, true};
+ghost use mathlib.Core.Bool.{true};
 ghost use Rattle.le.specs.Le.{byte};
-ghost use Rattle.rules.specs.Numbered.{firstFrom};
+ghost use Rattle.rules.specs.Numbered.{firstRow};
 ghost use Rattle.marks.specs.Marks.{marked};
 ghost use Rattle.control_rules.specs.Descriptors.{kindOf, isEntity, terminalOf, Shaped};
-ghost use Rattle.control_rules.specs.Rules.{headFlags, flags, entityFlags, revisionRight, pinCount, pinsRight, entityOf};
+ghost use Rattle.control_rules.specs.Rules.{headRows, rows, entityRows, revisionRight, pinCount, pinsRight, entityOf};
+use blocks::Limits;
+use entities::ENTITIES_MOST;
 use entities::Entity;
 use marks::Marks;
 
-const SHORTEST_BLOCK: usize = 12;
+const LIMITS: Limits = Limits {
+    least: 12,
+    most: 4096,
+    total: 5,
+    first: 1,
+};
 
-const LONGEST_BLOCK: usize = 4096;
-
-const MOST_ENTITIES: usize = 32;
-
-const MOST_PINS: u8 = 16;
-// CS_INTERFACE, the type of every descriptor of the block.
-const DESCRIPTOR: u8 = 0x24;
-
-const HEADER: u8 = 1;
+const PINS_MOST: u8 = 16;
 
 const REVISION: u16 = 0x0150;
 // The terminal type of a camera.
@@ -32,48 +30,25 @@ pub const CAMERA: u16 = 0x0201;
 
 // The first of rules 1 to 4 that the block breaks; 0 where none is broken.
 pub fn head_rule(s: &[u8]) -> u8
-    ensures { λ r. ⌜ r ≡ firstFrom 1 (headFlags (now (s .entry))) ⌝ }
+    ensures { λ r. ⌜ r ≡ firstRow (headRows (now (s .entry))) ⌝ }
 {
-    let n = s.len();
-    if n < SHORTEST_BLOCK {
-        return 1;
-    }
-    if LONGEST_BLOCK < n {
-        return 2;
-    }
-    if s[1] != DESCRIPTOR {
-        return 3;
-    }
-    if s[2] != HEADER {
-        return 3;
-    }
-    let total = le::le16(s, 5) as usize;
-    if total != n {
-        return 4;
-    }
-    0
+    blocks::whole_rule(s, LIMITS)
 }
 
 // Inner: a descriptor starts at `at`.
 // The first of rules 5 to 12 that it breaks, after `count` entities whose IDs are marked; 0 where none is broken.
 pub fn rule_at(s: &[u8], at: usize, count: usize, marks: &Marks) -> u8
     requires { ⌜ at < length (now s) ⌝ }
-    ensures { λ r. ⌜ r ≡ firstFrom 5 (flags (now (s .entry)) at (marked (now (marks .entry)) (byte (now (s .entry)) at 3)) count) ⌝ }
+    ensures { λ r. ⌜ r ≡ firstRow (rows (now (s .entry)) at (marked (now (marks .entry)) (byte (now (s .entry)) at 3)) count) ⌝ }
 {
+    if blocks::length_broken(s, at) {
+        return 5;
+    }
+    if blocks::type_broken(s, at) {
+        return 6;
+    }
     let len = le::wide(s[at]);
-    if len < 3 {
-        return 5;
-    }
-    if s.len() - at < len {
-        return 5;
-    }
-    if s[at + 1] != DESCRIPTOR {
-        return 6;
-    }
     let sub = s[at + 2];
-    if second_header(sub, at) {
-        return 6;
-    }
     let shaped = shape::right(s, at, len, sub);
     if !shaped {
         return 7;
@@ -111,16 +86,6 @@ pub fn is_entity(sub: u8) -> bool
     }
 }
 
-// Rule 6: a second header.
-fn second_header(sub: u8, at: usize) -> bool
-    ensures { λ r. ⌜ r ≡ (eqb sub 1 && not (eqb at 0)) ⌝ }
-{
-    if sub != HEADER {
-        return false;
-    }
-    at != 0
-}
-
 // Rule 8: the header's revision.
 fn revision_right(s: &[u8], at: usize, sub: u8) -> bool
     requires { ⌜ Shaped (kindOf sub) (now s) at ⌝ }
@@ -135,7 +100,7 @@ fn revision_right(s: &[u8], at: usize, sub: u8) -> bool
 // Rules 9 to 12, of an entity; 0 where none is broken.
 fn entity_rule(s: &[u8], at: usize, sub: u8, count: usize, marks: &Marks) -> u8
     requires { ⌜ Shaped (kindOf sub) (now s) at ⌝ }
-    ensures { λ r. ⌜ r ≡ firstFrom 9 (entityFlags (kindOf sub) (now (s .entry)) at (marked (now (marks .entry)) (byte (now (s .entry)) at 3)) count) ⌝ }
+    ensures { λ r. ⌜ r ≡ firstRow (entityRows (kindOf sub) (now (s .entry)) at (marked (now (marks .entry)) (byte (now (s .entry)) at 3)) count) ⌝ }
 {
     let entity = is_entity(sub);
     if !entity {
@@ -148,7 +113,7 @@ fn entity_rule(s: &[u8], at: usize, sub: u8, count: usize, marks: &Marks) -> u8
     if marks::has(marks, id) {
         return 10;
     }
-    if MOST_ENTITIES <= count {
+    if ENTITIES_MOST <= count {
         return 11;
     }
     if pins_right(s, at, sub) {
@@ -175,7 +140,7 @@ fn pin_count(p: u8) -> bool
     if p < 1 {
         return false;
     }
-    p <= MOST_PINS
+    p <= PINS_MOST
 }
 
 // The terminal type, or 0.

@@ -11,6 +11,10 @@ use Rattle.entities.specs.declared.Table.{Table}
 use Rattle.entities.specs.declared.Found.{Found}
 use Rattle.entities.specs.declared.Found.the-variants.{At, Nothing}
 
+-- the most entities of a block, and the places of its table
+abbrev pub entitiesMost : ℕ
+entitiesMost = 32
+
 -- an unused place
 abbrev pub noEntity : Entity
 noEntity = record { id = 0; kind = 0; terminal = 0; offset = 0 }

@@ -3,6 +3,9 @@ ghost use mathlib.Core.Path.{_≡_};
 ghost use lib.Dec.{eqb};
 ghost use Rattle.entities.specs.Table.{foundIn, noTable, Finds};
 
+// The most entities of a block, and the places of its table.
+pub const ENTITIES_MOST: usize = 32;
+
 // A terminal or a unit: its ID, its subtype number, its terminal type or 0, and where its descriptor stands.
 pub struct Entity {
     pub id: u8,

@@ -6,8 +6,8 @@ use Rattle.rules.specs.declared.Verdict.{Verdict}
 use Rattle.rules.specs.declared.Verdict.the-variants.{Accepted, Refused}
 use Rattle.entities.specs.declared.Table.{Table}
 use Rattle.control.specs.declared.Control.{Control}
-use Rattle.control.specs.Reading.{ControlIs}
-use Rattle.streaming.specs.Block.{streamingOf}
+use Rattle.control.specs.Answer.{ControlIs}
+use Rattle.streaming.specs.Answer.{streamingOf}
 
 unfoldable pub numberOf : Verdict → ℕ
 numberOf Accepted = 0

@@ -14,11 +14,11 @@ use Rattle.rules.specs.declared.Verdict.{Verdict}
 use Rattle.rules.specs.declared.Verdict.the-variants.{Accepted, Refused}
 use Rattle.entities.specs.declared.Table.{Table}
 use Rattle.sizes.specs.Sizes.{frameSizeBroken, payloadSizeBroken}
-use Rattle.streaming_rules.specs.Descriptors.{frameLength}
+use Rattle.streaming_rules.specs.Descriptors.{kindAt, formatOf, frameLengthAt}
 use Rattle.streaming_rules.specs.Rules.{offersAt}
 use Rattle.streaming_rules.specs.declared.Frame.{Frame}
-use Rattle.streaming_rules.proofs.Ladder.{frame-long}
-use Rattle.streaming.specs.Block.{streamingOf}
+use Rattle.streaming_rules.proofs.Subtypes.{frame-long}
+use Rattle.streaming.specs.Answer.{streamingOf}
 use Rattle.streaming.specs.declared.Streaming.{Streaming}
 use Rattle.probe.specs.Fields.{probeLength, fieldsOf}
 use Rattle.probe.specs.Check.{frameIn, formatMissing, hasNumber, framePlace, frameFlags, checkFlags, given, checkBy, checkOf}
@@ -84,5 +84,5 @@ module _ (t : Table) (s b : List ℕ) (r : Verdict) where
         unfolding checkOf pick checkBy checkFlags firstFrom fieldsOf given
         check-on h q = rw (eq-eqb (length b) probeLength l, ← e, v, ← f, g, ← p, lt-leb (x .«frame_count») i h, ← p) q
 
-pub number-room : (s : List ℕ) (o : ℕ) → o + frameLength (byte s o 25) ≤ length s → o + 3 < length s
-number-room s o h = omega (arith, frame-long s o 0 (length s) h)
+pub number-room : (s : List ℕ) (o : ℕ) → o + frameLengthAt (formatOf (kindAt s o)) s o ≤ length s → o + 3 < length s
+number-room s o h = omega (arith, frame-long (formatOf (kindAt s o)) s o (length s) h)

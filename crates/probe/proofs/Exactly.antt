@@ -15,6 +15,7 @@ use Rattle.rules.specs.First.{First}
 use Rattle.rules.specs.Numbered.{firstFrom}
 use Rattle.rules.specs.declared.Verdict.{Verdict}
 use Rattle.rules.specs.declared.Verdict.the-variants.{Accepted, Refused}
+use Rattle.rules.proofs.Rows.{or-first, or-second}
 use Rattle.rules.proofs.Firsts.{first-map, first-unique, lt-or-ge}
 use Rattle.rules.proofs.Padded.{pad-at}
 use Rattle.entities.specs.declared.Table.{Table}
@@ -23,13 +24,12 @@ use Rattle.intervals.proofs.Deciding.{offered-decides}
 use Rattle.sizes.specs.Sizes.{frameMost, payloadLeast, payloadMost, frameSizeBroken, payloadSizeBroken}
 use Rattle.sizes.proofs.Limits.{frame-sound, payload-sound}
 use Rattle.streaming_rules.specs.Descriptors.{noFrame, kindAt, formatOf, kAt, intervalsAt}
-use Rattle.streaming_rules.specs.Rules.{offersAt}
+use Rattle.streaming_rules.specs.Rules.{offersUnder, offersAt}
 use Rattle.streaming_rules.specs.declared.Frame.{Frame}
-use Rattle.streaming_rules.proofs.Fine.{or-left, or-right}
-use Rattle.streaming.specs.Block.{Seen, acceptedWith, refusedBy, streamingOf}
+use Rattle.streaming.specs.Answer.{Seen, acceptedWith, refusedBy, streamingOf}
 use Rattle.streaming.specs.declared.Streaming.{Streaming}
-use Rattle.streaming.proofs.Places.{Says, first-place}
-use Rattle.streaming.proofs.Exactly.{Ends, taken, given-back, reads, tables, all-zero}
+use Rattle.rules.proofs.Places.{Says, first-place}
+use Rattle.streaming.proofs.ExactlyWhen.{Ends, taken, given-back, reads, tables, all-zero}
 use Rattle.probe.specs.Fields.{probeLength, fieldsOf}
 use Rattle.probe.specs.Check.{frameIn, formatMissing, hasNumber, framePlace, frameFlags, checkFlags, given, checkBy, checkOf}
 use Rattle.probe.specs.Agreement.{FormatGiven, offsetIn, FrameGiven, IntervalGiven, FrameSizeGood, PayloadSizeGood, Read, Yes, No, of-length, of-block, of-format, of-frame, of-interval, of-frame-size, of-payload-size}
@@ -54,7 +54,7 @@ unfolding formatMissing
 tells-42 n c = record { up = λ h r. true≢false (sym h ∙ (rw (ne-eqb n 0 (λ e. omega (arith, r .0)), le-ltb c n (r .1)))); down = down }
   where
     down : (eqb n 0 || ltb c n) ≡ false → (1 ≤ n) × (n ≤ c)
-    down h = let z = eqb-false n 0 (or-left (eqb n 0) (ltb c n) h) in (omega (arith, z), ltb-false c n (or-right (eqb n 0) (ltb c n) h))
+    down h = let z = eqb-false n 0 (or-first (eqb n 0) (ltb c n) h) in (omega (arith, z), ltb-false c n (or-second (eqb n 0) (ltb c n) h))
 
 tells-45 : (n : ℕ) → Tells (frameSizeBroken n) ((1 ≤ n) × (n ≤ frameMost))
 unfolding frameSizeBroken
@@ -64,9 +64,9 @@ tells-46 : (n : ℕ) → Tells (payloadSizeBroken n) ((payloadLeast ≤ n) × (n
 unfolding payloadSizeBroken
 tells-46 n = record { up = λ h r. true≢false (sym h ∙ (rw (le-ltb n payloadLeast (r .0), le-ltb payloadMost n (r .1)))); down = λ h. (payload-sound n h .low, payload-sound n h .high) }
 
-tells-44 : (s : List ℕ) (o x : ℕ) → Tells (not (offersAt s o x)) (Offered s (o + intervalsAt) (byte s o (kAt (formatOf (kindAt s o)))) x)
-unfolding offersAt
-tells-44 s o x = go (offered s (o + intervalsAt) (byte s o (kAt (formatOf (kindAt s o)))) x) (offered-decides s (o + intervalsAt) (byte s o (kAt (formatOf (kindAt s o)))) x)
+tells-44 : (s : List ℕ) (o x : ℕ) → Tells (not (offersAt s o x)) (Offered s (o + intervalsAt) (kAt (formatOf (kindAt s o)) s o) x)
+unfolding offersUnder
+tells-44 s o x = go (offered s (o + intervalsAt) (kAt (formatOf (kindAt s o)) s o) x) (offered-decides s (o + intervalsAt) (kAt (formatOf (kindAt s o)) s o) x)
   where
     go : (b : Bool) {P : Type 0} → (b ≡ true) ↔ P → Tells (not b) P
     go true d = record { up = λ h p. true≢false (sym h); down = λ h. d .0 refl }

@@ -9,8 +9,8 @@ use Rattle.entities.specs.declared.Table.{Table}
 use Rattle.intervals.specs.Intervals.{Offered}
 use Rattle.sizes.specs.Sizes.{frameMost, payloadLeast, payloadMost}
 use Rattle.streaming_rules.specs.Descriptors.{noFrame, kindAt, formatOf, kAt, intervalsAt}
-use Rattle.streaming.specs.Block.{Seen}
-use Rattle.streaming.specs.Reading.{Sound, Broken}
+use Rattle.streaming.specs.Answer.{Seen}
+use Rattle.streaming.specs.Broken.{Sound, FirstBroken}
 use Rattle.probe.specs.Fields.{probeLength, fieldsOf}
 use Rattle.probe.specs.declared.Probe.{Probe}
 
@@ -28,7 +28,7 @@ FrameGiven s a p i = (getD (a .frames) i noFrame .format ≡ p .format) × (byte
 
 -- 44: the interval could be the default of the frame at o
 abbrev pub IntervalGiven : List ℕ → ℕ → Probe → Type 0
-IntervalGiven s o p = Offered s (o + intervalsAt) (byte s o (kAt (formatOf (kindAt s o)))) (p .interval)
+IntervalGiven s o p = Offered s (o + intervalsAt) (kAt (formatOf (kindAt s o)) s o) (p .interval)
 
 -- 45 and 46
 abbrev pub FrameSizeGood : Probe → Type 0
@@ -57,7 +57,7 @@ pub record Yes (t : Table) (s b : List ℕ) : Type 0 where
 -- the first that does not hold
 pub data No (t : Table) (s b : List ℕ) : ℕ → ℕ → Type 0 where
   of-length : (length b ≡ probeLength → ⊥) → No t s b 41 0
-  of-block : (k o : ℕ) → length b ≡ probeLength → Broken t s k o → No t s b k o
+  of-block : (k o : ℕ) → length b ≡ probeLength → FirstBroken t s k o → No t s b k o
   of-format : (a : Seen) → Read t s b a → (FormatGiven a (fieldsOf b) → ⊥) → No t s b 42 0
   of-frame : (a : Seen) → Read t s b a → FormatGiven a (fieldsOf b) → ((i : ℕ) → i < length (a .frames) → FrameGiven s a (fieldsOf b) i → ⊥) → No t s b 43 0
   of-interval :

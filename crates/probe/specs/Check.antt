@@ -14,8 +14,8 @@ use Rattle.sizes.specs.Sizes.{frameSizeBroken, payloadSizeBroken}
 use Rattle.streaming_rules.specs.Descriptors.{noFrame}
 use Rattle.streaming_rules.specs.Rules.{offersAt}
 use Rattle.streaming_rules.specs.declared.Frame.{Frame}
-use Rattle.streaming.specs.Place.{firstPlace}
-use Rattle.streaming.specs.Block.{streamingOf}
+use Rattle.rules.specs.Place.{firstPlace}
+use Rattle.streaming.specs.Answer.{streamingOf}
 use Rattle.streaming.specs.declared.Streaming.{Streaming}
 use Rattle.probe.specs.Fields.{probeLength, fieldsOf}
 use Rattle.probe.specs.declared.Probe.{Probe}

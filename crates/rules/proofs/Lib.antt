@@ -3,5 +3,6 @@ pub mod Numbered
 pub mod Rows
 pub mod Ladder
 pub mod Firsts
+pub mod Places
 pub mod Padded
 pub mod Walks

@@ -2,7 +2,7 @@
 use Prim.Native.Nat.{ℕ, zero, suc, _+_, _≤_, _<_}
 use mathlib.Core.Path.{_≡_, refl, sym, ap, _∙_, subst}
 use mathlib.Core.List.{List, [], _∷_, _++_}
-use mathlib.Core.Bool.{Bool, true, false, _||_, true≢false}
+use mathlib.Core.Bool.{Bool, true, false, _||_, _&&_, true≢false}
 use mathlib.Core.Logic.{_⊎_, inl, inr, ⊎-elim, _↔_}
 use native.Mathlib.Omega.{arith}
 use native.Mathlib.Nat.{eq-or-lt-of-le}
@@ -30,14 +30,38 @@ row-given (r ∷ rs) k e = go (r .broken) refl (row-given rs k)
 pub row-first : (rows : List Row) (k : ℕ) → (firstRow rows ≡ suc k) ↔ Given rows (suc k)
 row-first rows k = (row-given rows k, given-row)
 
+pub row-gives : (rows : List Row) (k : ℕ) → k ≡ firstRow rows → (k ≡ 0 → ⊥) → Given rows k
+row-gives rows zero e n = absurd (n refl)
+row-gives rows (suc k) e n = row-given rows k (sym e)
+
+-- one number is given
+pub given-unique : {rows : List Row} {j k : ℕ} → Given rows j → Given rows k → j ≡ k
+given-unique g h = sym (given-row g) ∙ given-row h
+
+-- where one is given, not every row is whole
+pub given-none : {rows : List Row} {k : ℕ} → Given rows k → NoneOf rows → ⊥
+given-none (here r rs e) n = true≢false (sym e ∙ n .0)
+given-none (later r rs k e g) n = given-none g (n .1)
+
+-- what holds of the number of every row holds of the one that is given
+abbrev pub Each : (ℕ → Type 0) → List Row → Type 0
+Each P [] = Unit {0}
+Each P (r ∷ rs) = P (r .number) × Each P rs
+
+pub given-each : (P : ℕ → Type 0) {rows : List Row} {k : ℕ} → Given rows k → Each P rows → P k
+given-each P (here r rs e) p = p .0
+given-each P (later r rs k e g) p = given-each P g (p .1)
+
+-- no row has number 0
+abbrev pub Numbered : List Row → Type 0
+Numbered rows = Each (λ k. 0 < k) rows
+
+pub given-number : {rows : List Row} {k : ℕ} → Given rows k → Numbered rows → 0 < k
+given-number g p = given-each (λ k. 0 < k) g p
+
 pub none-row : (rows : List Row) → NoneOf rows → firstRow rows ≡ 0
 none-row [] n = refl
 none-row (r ∷ rs) n = row-later r rs (n .0) ∙ none-row rs (n .1)
-
--- every row has a number that is not 0
-abbrev pub Numbered : List Row → Type 0
-Numbered [] = Unit {0}
-Numbered (r ∷ rs) = (0 < r .number) × Numbered rs
 
 pub row-none : (rows : List Row) → Numbered rows → firstRow rows ≡ 0 → NoneOf rows
 row-none [] p e = tt
@@ -46,6 +70,10 @@ row-none (r ∷ rs) p e = go (r .broken) refl (row-none rs (p .1))
     go : (b : Bool) → r .broken ≡ b → (firstRow rs ≡ 0 → NoneOf rs) → NoneOf (r ∷ rs)
     go true q f = absurd (omega (arith, p .0, sym (row-here r rs q) ∙ e))
     go false q f = (q, f (sym (row-later r rs q) ∙ e))
+
+-- no number is given exactly where no row is broken
+pub row-whole : (rows : List Row) → Numbered rows → (firstRow rows ≡ 0) ↔ NoneOf rows
+row-whole rows p = (row-none rows p, none-row rows)
 
 -- rows checked before others
 pub row-before : (rs qs : List Row) (k : ℕ) → firstRow rs ≡ suc k → firstRow (rs ++ qs) ≡ suc k
@@ -64,7 +92,14 @@ row-after (r ∷ rs) qs p e = go (r .broken) refl (row-after rs qs (p .1))
     go true q f = absurd (omega (arith, p .0, sym (row-here r rs q) ∙ e))
     go false q f = row-later r (rs ++ qs) q ∙ f (sym (row-later r rs q) ∙ e)
 
--- ---- a test below n
+-- ---- one test of code that checks rules in their order
+pub row-yes : (b : Bool) (k r : ℕ) → b ≡ true → k ≡ orElse b k r
+row-yes b k r e = rw e
+
+pub row-no : (b : Bool) (k r x : ℕ) → b ≡ false → x ≡ r → x ≡ orElse b k r
+row-no b k r x e q = rw e q
+
+-- ---- two tests joined
 pub or-first : (a b : Bool) → (a || b) ≡ false → a ≡ false
 or-first true b h = h
 or-first false b h = refl
@@ -73,6 +108,24 @@ pub or-second : (a b : Bool) → (a || b) ≡ false → b ≡ false
 or-second true b h = absurd (true≢false h)
 or-second false b h = h
 
+pub or-either : (a b : Bool) → ((a || b) ≡ true) ↔ ((a ≡ true) ⊎ (b ≡ true))
+or-either true b = (λ h. inl refl, λ h. refl)
+or-either false b = (inr, ⊎-elim (λ h. absurd (true≢false (sym h))) (λ h. h))
+
+pub and-first : (a b : Bool) → (a && b) ≡ true → a ≡ true
+and-first true b h = refl
+and-first false b h = h
+
+pub and-second : (a b : Bool) → (a && b) ≡ true → b ≡ true
+and-second true b h = h
+and-second false b h = absurd (true≢false (sym h))
+
+-- of which the first is met, and not both
+pub and-not : (a b : Bool) → (a && b) ≡ false → a ≡ true → b ≡ false
+and-not true b h e = h
+and-not false b h e = absurd (true≢false (sym e))
+
+-- ---- a test below n
 pub any-none : (n : ℕ) (f : ℕ → Bool) → ((k : ℕ) → k < n → f k ≡ false) → anyBelow n f ≡ false
 unfolding anyBelow
 any-none zero f h = refl

@@ -9,15 +9,15 @@ use native.Mathlib.Omega.{arith}
 use native.Mathlib.Decide.{decLt}
 use lib.Dec.{ltb}
 use borrow.Author.Tests.{lt-ltb, le-ltb}
-use Rattle.rules.specs.Numbered.{firstFrom, Up}
-use Rattle.rules.specs.Walk.{Course, Reached, first, next, Breaks, Clean, FirstBreak, Outcome, done, stop, brokenAt, decide, walkFrom, walk}
-use Rattle.rules.proofs.Numbered.{none-up, none-first, first-up, first-low, up-first, up-above}
+use Rattle.rules.specs.Numbered.{Row, Given, NoneOf}
+use Rattle.rules.specs.Walk.{Course, Reached, first, next, Clean, FirstBreak, Outcome, done, stop, brokenAt, decide, walkFrom, walk}
+use Rattle.rules.proofs.Rows.{Numbered, row-first, row-none, none-row, given-none, given-row, given-number}
 
--- what a course must have: its rules have numbers, and a descriptor that breaks none has a length and lies within the block
+-- what a course must have: no rule has number 0, and a descriptor that breaks none has a length and lies within the block
 pub record Steady {A : Type 0} (c : Course A) : Type 0 where
-  pub numbered : 0 < c .base
-  pub onward : (a : A) (o : ℕ) → o < c .size → brokenAt c a o ≡ 0 → 0 < c .len o
-  pub inside : (a : A) (o : ℕ) → o < c .size → brokenAt c a o ≡ 0 → o + c .len o ≤ c .size
+  pub numbered : (a : A) (o : ℕ) → Numbered (c .rows a o)
+  pub onward : (a : A) (o : ℕ) → o < c .size → NoneOf (c .rows a o) → 0 < c .len o
+  pub inside : (a : A) (o : ℕ) → o < c .size → NoneOf (c .rows a o) → o + c .len o ≤ c .size
 
 module _ {A : Type 0} (c : Course A) where
   -- ---- one step
@@ -55,13 +55,13 @@ module _ {A : Type 0} (c : Course A) where
     pub ends : c .size ≤ o → walk c ≡ done a
     ends h = sym (w .same) ∙ step-done (w .fuel) a o h
 
-    module _ (d : Steady c) (h : o < c .size) (e : brokenAt c a o ≡ 0) where
+    module _ (d : Steady c) (h : o < c .size) (e : NoneOf (c .rows a o)) where
       on : (f : ℕ) → w .fuel ≡ f → (g : ℕ) × (c .size ≤ o + c .len o + g) × (walkFrom g c (c .gather a o) (o + c .len o) ≡ walk c)
       on zero q = absurd (omega (arith, w .enough))
       on (suc g) q = (
         g,
         omega (arith, w .enough, d .onward a o h e),
-        sym (step-on g a o h (omega (arith, w .enough)) e) ∙ (rw q at (w .same)),
+        sym (step-on g a o h (omega (arith, w .enough)) (none-row (c .rows a o) e)) ∙ (rw q at (w .same)),
       )
 
       pub goes : Walking (c .gather a o) (o + c .len o)
@@ -71,8 +71,8 @@ module _ {A : Type 0} (c : Course A) where
 
   -- ---- every place that is reached before the walk stops is walked by
   module _ (d : Steady c) (limit : ℕ) (late : (k o : ℕ) → o < limit → walk c ≡ stop (suc k) o → ⊥) where
-    calm : (a : A) (o : ℕ) → o < limit → o < c .size → Walking a o → (k : ℕ) → brokenAt c a o ≡ k → k ≡ 0
-    calm a o l h w zero e = refl
+    calm : (a : A) (o : ℕ) → o < limit → o < c .size → Walking a o → (k : ℕ) → brokenAt c a o ≡ k → NoneOf (c .rows a o)
+    calm a o l h w zero e = row-none (c .rows a o) (d .numbered a o) e
     calm a o l h w (suc k) e = absurd (late k o l (stops a o w (suc k) h e (λ z. omega arith)))
 
     passing : {a : A} {o : ℕ} → Reached c a o → o ≤ limit → Walking a o
@@ -81,7 +81,7 @@ module _ {A : Type 0} (c : Course A) where
         let w = passing r (omega arith) in
         goes a o w d h (calm a o (omega arith) h w (brokenAt c a o) refl)
 
-    clean-before : (a : A) (o : ℕ) → Reached c a o → o < limit → o < c .size → brokenAt c a o ≡ 0
+    clean-before : (a : A) (o : ℕ) → Reached c a o → o < limit → o < c .size → NoneOf (c .rows a o)
     clean-before a o r l h = calm a o l h (passing r (omega arith)) (brokenAt c a o) refl
 
   -- ---- how a walk ends
@@ -99,8 +99,9 @@ module _ {A : Type 0} (c : Course A) where
         → Dec (o < c .size) → (k : ℕ) → brokenAt c a o ≡ k → Ends (walkFrom (suc f) c a o)
     turn f a o r w n rec (no q) k e = at-end (suc f) a o r (omega arith)
     turn f a o r w n rec (yes h) zero e =
-        let p = d .onward a o h e in
-        let q = d .inside a o h e in
+        let z = row-none (c .rows a o) (d .numbered a o) e in
+        let p = d .onward a o h z in
+        let q = d .inside a o h z in
         rw (step-on f a o h n e) (rec (next r h p q) q (omega arith))
     turn f a o r w n rec (yes h) (suc k) e = inr (a, o, k, r, h, e, step-bad (suc f) a o k h n e)
 
@@ -118,8 +119,7 @@ module _ {A : Type 0} (c : Course A) where
 
     -- ---- EXACTLY WHEN
     all-clean : (a : A) → walk c ≡ done a → Clean c
-    all-clean a e b o r h k u =
-        none-up (c .base) (c .flags b o) (d .numbered) (clean-before d (c .size) (λ k o l q. apart a (suc k) o (sym e ∙ q)) b o r h h) k u
+    all-clean a e b o r h = clean-before d (c .size) (λ k o l q. apart a (suc k) o (sym e ∙ q)) b o r h h
 
     reached-all : (a : A) → walk c ≡ done a → Reached c a (c .size)
     reached-all a e =
@@ -132,7 +132,7 @@ module _ {A : Type 0} (c : Course A) where
         late : (k o : ℕ) → o < c .size → walk c ≡ stop (suc k) o → ⊥
         late k o l q =
             ⊎-elim (λ p. apart (p .0) (suc k) o (sym (p .2) ∙ q))
-            (λ p. h (p .0) (p .1) (p .3) (p .4) (suc (p .2)) (first-up (c .base) (c .flags (p .0) (p .1)) (p .2) (p .5))) walk-ends
+            (λ p. given-none (row-first (c .rows (p .0) (p .1)) (p .2) .0 (p .5)) (h (p .0) (p .1) (p .3) (p .4))) walk-ends
 
     -- a walk gives all that the descriptors give exactly when no descriptor breaks a rule
     pub walk-done : (a : A) → (walk c ≡ done a) ↔ (Reached c a (c .size) × Clean c)
@@ -148,9 +148,8 @@ module _ {A : Type 0} (c : Course A) where
           seen = p .0;
           there = p .3;
           inside = p .4;
-          broken = first-up (c .base) (c .flags (p .0) (p .1)) (p .2) (p .5);
-          lowest = λ j. first-low (c .base) (c .flags (p .0) (p .1)) (p .2) j (p .5);
-          earliest = λ a m r l j u. none-up (c .base) (c .flags a m) (d .numbered) (clean-before d (p .1) (late (p .2) (p .1) (p .6)) a m r l (omega (arith, p .4))) j u;
+          given = row-first (c .rows (p .0) (p .1)) (p .2) .0 (p .5);
+          earliest = λ a m r l. clean-before d (p .1) (late (p .2) (p .1) (p .6)) a m r l (omega (arith, p .4));
         }))
         walk-ends
       where
@@ -158,13 +157,12 @@ module _ {A : Type 0} (c : Course A) where
         late j m q i n l w = let z : _≡_ {A = Outcome A} (stop (suc j) m) (stop (suc i) n) = sym q ∙ w in let y : m ≡ n = cc in omega arith
 
     from-first : (k o : ℕ) → FirstBreak c k o → walk c ≡ stop k o
-    from-first zero o f = absurd (omega (arith, d .numbered, up-above (c .base) (c .flags (f .seen) o) zero (f .broken)))
-    from-first (suc k) o f =
-        stops (f .seen) o (passing d o late (f .there) (omega arith)) (suc k) (f .inside)
-        (up-first (c .base) (c .flags (f .seen) o) (suc k) (f .broken) (f .lowest)) (λ z. omega arith)
+    from-first k o f =
+        stops (f .seen) o (passing d o late (f .there) (omega arith)) k (f .inside)
+        (given-row (f .given)) (λ z. omega (arith, given-number (f .given) (d .numbered (f .seen) o)))
       where
         late : (j n : ℕ) → n < o → walk c ≡ stop (suc j) n → ⊥
-        late j n l q = let g = to-first (suc j) n q in f .earliest (g .seen) n (g .there) l (suc j) (g .broken)
+        late j n l q = let g = to-first (suc j) n q in given-none (g .given) (f .earliest (g .seen) n (g .there) l)
 
     -- a walk stops at rule k and place o exactly when that is the first broken rule at the first place
     pub walk-stop : (k o : ℕ) → (walk c ≡ stop k o) ↔ FirstBreak c k o

@@ -1,6 +1,7 @@
 pub mod Pick
 pub mod Numbered
 pub mod First
+pub mod Place
 pub mod Chain
 pub mod Pad
 pub mod Walk

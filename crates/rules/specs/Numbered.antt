@@ -21,10 +21,13 @@ abbrev pub Down : List Bool → Type 0
 Down [] = Unit {0}
 Down (f ∷ fs) = (f ≡ false) × Down fs
 
--- Rules whose numbers do not follow each other, in the order in which they are checked.
+-- A rule with its number, and whether it is broken. Rules stand in a list in the order in which they are checked, whatever their numbers.
 pub record Row : Type 0 where
   pub number : ℕ
   pub broken : Bool
+
+abbrev pub row : ℕ → Bool → Row
+row k b = record { number = k; broken = b }
 
 abbrev pub orElse : Bool → ℕ → ℕ → ℕ
 orElse true k r = k

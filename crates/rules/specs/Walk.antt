@@ -1,19 +1,17 @@
--- A block is a row of descriptors, one after the other from offset 0. Each is held to its numbered rules, after what the earlier ones gave.
+-- A block is a line of descriptors, one after the other from offset 0. Each is held to its rules, after what the earlier ones gave.
 use Prim.Native.Nat.{ℕ, zero, suc, _+_, _≤_, _<_}
-use mathlib.Core.Path.{_≡_}
 use mathlib.Core.List.{List}
 use mathlib.Core.Bool.{Bool, true, false}
 use lib.Dec.{ltb}
-use Rattle.rules.specs.Numbered.{firstFrom, Up}
+use Rattle.rules.specs.Numbered.{Row, firstRow, Given, NoneOf}
 
 -- What a block asks of a walk. A is what the walk gathers, as the list of entities so far.
 pub record Course (A : Type 0) : Type 0 where
   -- the block's length, and the length of the descriptor at an offset
   pub size : ℕ
   pub len : ℕ → ℕ
-  -- the rules base, base + 1, .. of the descriptor at an offset: a flag is up where its rule is broken
-  pub base : ℕ
-  pub flags : A → ℕ → List Bool
+  -- the rules of the descriptor at an offset, each with its number, in the order in which they are checked
+  pub rows : A → ℕ → List Row
   -- what is gathered at first, and after the descriptor at an offset
   pub start : A
   pub gather : A → ℕ → A
@@ -29,26 +27,21 @@ module _ {A : Type 0} where
     first : Reached c (c .start) 0
     next : {a : A} {o : ℕ} → Reached c a o → o < c .size → 0 < c .len o → o + c .len o ≤ c .size → Reached c (c .gather a o) (o + c .len o)
 
-  -- the descriptor at o breaks rule k
-  abbrev pub Breaks : Course A → A → ℕ → ℕ → Type 0
-  Breaks c a o k = Up (c .base) (c .flags a o) k
-
   -- no descriptor breaks a rule
   abbrev pub Clean : Course A → Type 0
-  Clean c = (a : A) (o : ℕ) → Reached c a o → o < c .size → (k : ℕ) → Breaks c a o k → ⊥
+  Clean c = (a : A) (o : ℕ) → Reached c a o → o < c .size → NoneOf (c .rows a o)
 
-  -- rule k is the first that is broken, at the first descriptor that breaks one
+  -- rule k is the first in their order that the descriptor at o breaks, and no earlier descriptor breaks one
   pub record FirstBreak (c : Course A) (k o : ℕ) : Type 0 where
     pub seen : A
     pub there : Reached c seen o
     pub inside : o < c .size
-    pub broken : Breaks c seen o k
-    pub lowest : (j : ℕ) → j < k → Breaks c seen o j → ⊥
-    pub earliest : (a : A) (p : ℕ) → Reached c a p → p < o → (j : ℕ) → Breaks c a p j → ⊥
+    pub given : Given (c .rows seen o) k
+    pub earliest : (a : A) (p : ℕ) → Reached c a p → p < o → NoneOf (c .rows a p)
 
   -- BY A WALK: the first rule that the descriptor at o breaks, 0 for none
   abbrev pub brokenAt : Course A → A → ℕ → ℕ
-  brokenAt c a o = firstFrom (c .base) (c .flags a o)
+  brokenAt c a o = firstRow (c .rows a o)
 
   -- past the end: done. At a descriptor that breaks a rule: stop. Else on.
   abbrev pub decide : Bool → ℕ → A → ℕ → (Unit {0} → Outcome A) → Outcome A

@@ -6,7 +6,7 @@ use lib.ListN.{length, replicate}
 use Rattle.rules.specs.declared.Verdict.the-variants.{Accepted}
 use Rattle.entities.specs.Table.{noTable}
 use Rattle.control.specs.declared.Control.{Control}
-use Rattle.control.specs.Reading.{ControlIs, refusedBy}
+use Rattle.control.specs.Answer.{ControlIs, refusedBy}
 use Rattle.payload.specs.declared.Opening.{Opening}
 use Rattle.frames.specs.declared.Fate.{Fate}
 use Rattle.ledger.specs.declared.Step.the-variants.{Forward, Backward}

@@ -1,6 +1,6 @@
 -- What the first q sources of an entity name, source by source.
 use Prim.Native.Nat.{ℕ, _+_, _≤_, _<_}
-use mathlib.Core.Path.{_≡_, refl, sym, _∙_, subst}
+use mathlib.Core.Path.{_≡_, sym, _∙_, subst}
 use mathlib.Core.List.{List}
 use mathlib.Core.Bool.{Bool, true, false, _||_, true≢false}
 use mathlib.Core.Logic.{_⊎_, inl, inr, ⊎-elim, _↔_}
@@ -8,6 +8,7 @@ use lib.ListN.{length, getD, length-take}
 use lib.Bits.{bitOr}
 use native.Mathlib.Omega.{arith}
 use native.Mathlib.Nat.{eq-or-lt-of-le}
+use Rattle.rules.proofs.Rows.{or-either}
 use Rattle.graph.specs.Rows.{Bit}
 use Rattle.graph.proofs.Bits.{bit-zero, or-cases, or-l, or-r}
 use Rattle.entities.specs.Table.{entityAt, findFrom, used}
@@ -33,11 +34,7 @@ some-more P n a b c = (
   λ z. c .1 (⊎-elim (λ l. inl (a .1 (z .0, l, z .2))) (λ e. inr (b .1 (subst P e (z .2)))) (below-or-at (z .0) n (z .1))),
 )
 
--- ---- the union of two tests, and of two rows
-or-either : (a b : Bool) → ((a || b) ≡ true) ↔ ((a ≡ true) ⊎ (b ≡ true))
-or-either true b = (λ e. inl refl, λ x. refl)
-or-either false b = (λ e. inr e, λ x. ⊎-elim (λ e. absurd (true≢false (sym e))) (λ e. e) x)
-
+-- ---- the union of two rows
 row-either : (x y j : ℕ) → Bit (bitOr x y) j ↔ (Bit x j ⊎ Bit y j)
 row-either x y j = (or-cases x y j, λ z. ⊎-elim (or-l x y j) (or-r x y j) z)
 

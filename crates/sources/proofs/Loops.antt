@@ -12,6 +12,7 @@ use native.Mathlib.Omega.{arith}
 use native.Mathlib.Nat.{eq-or-lt-of-le}
 use Rattle.rules.specs.Chain.{Chain, Chain.one, Chain.more, OnLoop}
 use Rattle.rules.specs.declared.Verdict.the-variants.{Accepted}
+use Rattle.rules.proofs.Rows.{and-first, and-second}
 use Rattle.entities.specs.Table.{entityAt, findFrom}
 use Rattle.entities.specs.declared.Entity.{Entity}
 use Rattle.entities.specs.declared.Found.{Found}
@@ -76,19 +77,11 @@ unfoldable pub allBelow : ℕ → (ℕ → Bool) → Bool
 allBelow zero f = true
 allBelow (suc n) f = f n && allBelow n f
 
-and-left : (a b : Bool) → (a && b) ≡ true → a ≡ true
-and-left true b h = refl
-and-left false b h = h
-
-and-right : (a b : Bool) → (a && b) ≡ true → b ≡ true
-and-right true b h = h
-and-right false b h = absurd (true≢false (sym h))
-
 pub all-below : (n : ℕ) (f : ℕ → Bool) → allBelow n f ≡ true → (i : ℕ) → i < n → f i ≡ true
 unfolding allBelow
 all-below zero f h i l = absurd (omega arith)
 all-below (suc n) f h i l =
-    ⊎-elim (λ e. rw e (and-left (f n) (allBelow n f) h)) (λ k. all-below n f (and-right (f n) (allBelow n f) h) i k) (eq-or-lt-of-le {n = i} {m = n} (omega arith))
+    ⊎-elim (λ e. rw e (and-first (f n) (allBelow n f) h)) (λ k. all-below n f (and-second (f n) (allBelow n f) h) i k) (eq-or-lt-of-le {n = i} {m = n} (omega arith))
 
 unfoldable pub earlier : List Entity → ℕ → Found → Bool
 earlier l i Nothing = false
@@ -100,8 +93,8 @@ earlier-is l i Nothing h = absurd (true≢false (sym h))
 earlier-is l i (At j) h = record {
   place = j;
   found = refl;
-  before = ltb-true j i (and-left (ltb j i) (not (eqb (entityAt l j .kind) 3)) h);
-  plain = eqb-false (entityAt l j .kind) 3 (not-true (eqb (entityAt l j .kind) 3) (and-right (ltb j i) (not (eqb (entityAt l j .kind) 3)) h));
+  before = ltb-true j i (and-first (ltb j i) (not (eqb (entityAt l j .kind) 3)) h);
+  plain = eqb-false (entityAt l j .kind) 3 (not-true (eqb (entityAt l j .kind) 3) (and-second (ltb j i) (not (eqb (entityAt l j .kind) 3)) h));
 }
 
 unfoldable pub orderly : List ℕ → List Entity → Bool

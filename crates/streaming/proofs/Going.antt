@@ -11,43 +11,41 @@ use native.Mathlib.Omega.{arith}
 use Rattle.le.specs.Le.{byte}
 use Rattle.rules.specs.Pick.{pick}
 use Rattle.rules.specs.Pad.{pad}
+use Rattle.rules.specs.Numbered.{firstRow}
 use Rattle.rules.specs.Walk.{walk, brokenAt}
 use Rattle.rules.specs.declared.Verdict.{Verdict}
 use Rattle.rules.specs.declared.Verdict.the-variants.{Accepted, Refused}
 use Rattle.rules.proofs.Padded.{pad-set, pad-at}
+use Rattle.rules.proofs.Rows.{row-none}
 use Rattle.rules.proofs.Walks.{Walking, Steady, starts, stops, ends, goes}
-use Rattle.streaming_rules.specs.Descriptors.{lenAt, kindAt, isFormat, isFrame, formatOf, noFormat, noFrame, formatAt, frameAt}
-use Rattle.streaming_rules.specs.Rules.{ruleAt}
+use Rattle.streaming_rules.specs.Descriptors.{lenAt, kindAt, isFormat, isFrame, formatOf, layoutOf, noFormat, noFrame, formatAt, frameAt}
+use Rattle.streaming_rules.specs.Rules.{formatsMost, framesMost, rows}
 use Rattle.streaming_rules.specs.declared.Kind.{Kind}
 use Rattle.streaming_rules.specs.declared.Sofar.{Sofar}
 use Rattle.streaming_rules.specs.declared.Format.{Format}
 use Rattle.streaming_rules.specs.declared.Frame.{Frame}
-use Rattle.streaming_rules.proofs.Fine.{Fine, fine, no-frame-format, frame-inside}
-use Rattle.streaming_rules.proofs.Ladder.{frame-long}
-use Rattle.streaming.specs.Block.{Seen, countUnder, lastOf, noCounts, sofar, after, course, lateBy, late, acceptedWith, refusedBy, answer, afterWalk, walked}
+use Rattle.streaming_rules.proofs.Fine.{Fine, fine, numbered, no-frame-format, format-inside, frame-inside}
+use Rattle.streaming_rules.proofs.Subtypes.{frame-long}
+use Rattle.streaming.specs.Answer.{Seen, countUnder, lastOf, noCounts, sofar, after, course, lateBy, late, acceptedWith, refusedBy, answer, afterWalk, walked}
 use Rattle.streaming.specs.declared.Streaming.{Streaming}
 use Rattle.streaming.proofs.Late.{late-same}
 
 -- ---- the course
-broken-is : (linked : Bool) (s : List ℕ) (a : Seen) (o : ℕ) → brokenAt (course linked s) a o ≡ ruleAt s o (sofar linked a)
-unfolding ruleAt
-broken-is linked s a o = refl
-
 pub steady : (linked : Bool) (s : List ℕ) → Steady (course linked s)
 steady linked s =
     record {
-      numbered = omega arith;
-      onward = λ a o h e. omega (arith, fine s o (sofar linked a) (sym (broken-is linked s a o) ∙ e) .long);
-      inside = λ a o h e. fine s o (sofar linked a) (sym (broken-is linked s a o) ∙ e) .inside;
+      numbered = λ a o. numbered s o (sofar linked a);
+      onward = λ a o h e. omega (arith, fine s o (sofar linked a) e .long);
+      inside = λ a o h e. fine s o (sofar linked a) e .inside;
     }
 
 -- ---- what a descriptor adds
 module _ (s : List ℕ) (a : Seen) (o : ℕ) where
-  after-format : isFormat (kindAt s o) ≡ true → after s a o ≡ record { formats = a .formats ++ (formatAt (kindAt s o) s o ∷ []); frames = a .frames }
+  after-format : isFormat (kindAt s o) ≡ true → after s a o ≡ record { formats = a .formats ++ (formatAt (formatOf (kindAt s o)) s o ∷ []); frames = a .frames }
   unfolding after pick
   after-format q = rw (q, no-frame-format (kindAt s o) q, append-nil)
 
-  after-frame : isFormat (kindAt s o) ≡ false → isFrame (kindAt s o) ≡ true → after s a o ≡ record { formats = a .formats; frames = a .frames ++ (frameAt (length (a .formats)) s o ∷ []) }
+  after-frame : isFormat (kindAt s o) ≡ false → isFrame (kindAt s o) ≡ true → after s a o ≡ record { formats = a .formats; frames = a .frames ++ (frameAt (formatOf (kindAt s o)) (length (a .formats)) s o ∷ []) }
   unfolding after pick
   after-frame p q = rw (p, q, append-nil)
 
@@ -71,9 +69,9 @@ last-more l e =
     let n : length (l ++ (e ∷ [])) - 1 ≡ length l + 0 = simp length-append (omega arith) in
     rw n (getD-append-add l (e ∷ []) 0 noFormat)
 
-of-format : (f : ℕ) (s : List ℕ) (o : ℕ) (x : Frame) → x ≡ frameAt f s o → x .format ≡ f
+of-format : (k f : ℕ) (s : List ℕ) (o : ℕ) (x : Frame) → x ≡ frameAt k f s o → x .format ≡ f
 unfolding frameAt
-of-format f s o x r = rw r
+of-format k f s o x r = rw r
 
 -- one frame more: the number that it has is the number of frames of its format
 counted-more : (counts : List ℕ) (f v : ℕ) (l : List Frame) (x : Frame) → f < length counts → x .format ≡ f → v ≡ getD counts f 0 + 1 → ((j : ℕ) → j < 9 → getD counts j 0 ≡ countUnder j l) → (j : ℕ) → j < 9 → getD (set counts f v) j 0 ≡ countUnder j (l ++ (x ∷ []))
@@ -85,7 +83,7 @@ counted-more counts f v l x w e n h j k = rw (count-more j l x, e) (go (eqb f j)
     go false q = getD-set-other counts f j v 0 (λ z. eqb-false f j q (sym z)) ∙ h j k
 
 -- ---- the invariant: what the loop holds is what the walk has seen
-pub record Going (linked : Bool) (s : List ℕ) (formats : List Format) (frames : List Frame) (counts : List ℕ) (f n under at : ℕ) : Type 0 where
+pub record Going (linked : Bool) (s : List ℕ) (formats : List Format) (frames : List Frame) (counts : List ℕ) (f n : ℕ) (last : Format) (at : ℕ) : Type 0 where
   pub seen : Seen
   pub walking : Walking (course linked s) seen at
   pub formats-kept : formats ≡ pad 8 noFormat (seen .formats)
@@ -94,11 +92,11 @@ pub record Going (linked : Bool) (s : List ℕ) (formats : List Format) (frames 
   pub frames-kept : frames ≡ pad 64 noFrame (seen .frames)
   pub frames-counted : n ≡ length (seen .frames)
   pub frames-few : n ≤ 64
-  pub last : under ≡ lastOf (seen .formats) .kind
+  pub last-is : last ≡ lastOf (seen .formats)
   pub size : length counts ≡ 9
   pub counted : (j : ℕ) → j < 9 → getD counts j 0 ≡ countUnder j (seen .frames)
 
-pub going-starts : (linked : Bool) (s : List ℕ) → Going linked s (replicate 8 noFormat) (replicate 64 noFrame) noCounts 0 0 0 0
+pub going-starts : (linked : Bool) (s : List ℕ) → Going linked s (replicate 8 noFormat) (replicate 64 noFrame) noCounts 0 0 noFormat 0
 unfolding countUnder
 going-starts linked s =
     record {
@@ -110,14 +108,14 @@ going-starts linked s =
       frames-kept = refl;
       frames-counted = refl;
       frames-few = omega arith;
-      last = refl;
+      last-is = refl;
       size = refl;
       counted = λ j h. getD-replicate {A = ℕ} 9 j 0 0 h;
     }
 
 -- what the loop hands to the rules
-abbrev pub handed : Bool → ℕ → ℕ → ℕ → List ℕ → Sofar
-handed linked f n under counts = record { linked = linked; formats = f; frames = n; under = under; numbered = getD counts f 0 }
+abbrev pub handed : Bool → ℕ → ℕ → Format → List ℕ → Sofar
+handed linked f n last counts = record { linked = linked; formats = f; frames = n; last = last; numbered = getD counts f 0 }
 
 -- what the callees say of the kind
 pub so-format : (k m : Kind) (r b : Bool) → k ≡ m → r ≡ isFormat k → r ≡ b → isFormat m ≡ b
@@ -126,29 +124,31 @@ so-format k m r b e f g = rw (← e) (sym f ∙ g)
 pub so-frame : (k m : Kind) (r b : Bool) → k ≡ m → r ≡ isFrame k → r ≡ b → isFrame m ≡ b
 so-frame k m r b e f g = rw (← e) (sym f ∙ g)
 
+pub format-room : (s : List ℕ) (o : ℕ) (a : Sofar) → Fine s o a → isFormat (kindAt s o) ≡ true → o + layoutOf (formatOf (kindAt s o)) .length ≤ length s
+format-room s o a f q = format-inside (kindAt s o) s o (length s) q (f .inside) (f .shaped)
+
 pub frame-room : (s : List ℕ) (o : ℕ) (a : Sofar) → Fine s o a → isFrame (kindAt s o) ≡ true → o + 26 ≤ length s
-frame-room s o a f q = frame-long s o (formatOf (kindAt s o)) (length s) (frame-inside (kindAt s o) s o (length s) q (f .inside) (f .shaped))
+frame-room s o a f q = frame-long (formatOf (kindAt s o)) s o (length s) (frame-inside (kindAt s o) s o (length s) q (f .inside) (f .shaped))
 
-module _ (linked : Bool) (s : List ℕ) (formats : List Format) (frames : List Frame) (counts : List ℕ) (f n under o : ℕ) (w : Going linked s formats frames counts f n under o) where
-  same-sofar : handed linked f n under counts ≡ sofar linked (w .seen)
-  same-sofar = let m = w .formats-few in rw (w .counted f (omega arith), w .formats-counted, w .frames-counted, w .last)
+module _ (linked : Bool) (s : List ℕ) (formats : List Format) (frames : List Frame) (counts : List ℕ) (f n : ℕ) (last : Format) (o : ℕ) (w : Going linked s formats frames counts f n last o) where
+  same-sofar : handed linked f n last counts ≡ sofar linked (w .seen)
+  same-sofar = let m = w .formats-few in rw (w .counted f (omega arith), w .formats-counted, w .frames-counted, w .last-is)
 
-  same-rule : ruleAt s o (handed linked f n under counts) ≡ brokenAt (course linked s) (w .seen) o
-  unfolding ruleAt
+  same-rule : firstRow (rows s o (handed linked f n last counts)) ≡ brokenAt (course linked s) (w .seen) o
   same-rule = rw same-sofar
 
-  pub going-stops : (r : ℕ) → o < length s → r ≡ ruleAt s o (handed linked f n under counts) → (r ≡ 0 → ⊥) → refusedBy r o ≡ walked linked s
+  pub going-stops : (r : ℕ) → o < length s → r ≡ firstRow (rows s o (handed linked f n last counts)) → (r ≡ 0 → ⊥) → refusedBy r o ≡ walked linked s
   unfolding afterWalk
   going-stops r h e z = rw (stops (course linked s) (w .seen) o (w .walking) r h (sym (e ∙ same-rule)) z)
 
-  module _ (h : o < length s) (e : 0 ≡ ruleAt s o (handed linked f n under counts)) where
-    pub fine-here : Fine s o (handed linked f n under counts)
-    fine-here = fine s o (handed linked f n under counts) (sym e)
+  module _ (h : o < length s) (e : 0 ≡ firstRow (rows s o (handed linked f n last counts))) where
+    pub fine-here : Fine s o (handed linked f n last counts)
+    fine-here = fine s o (handed linked f n last counts) (row-none (rows s o (handed linked f n last counts)) (numbered s o (handed linked f n last counts)) (sym e))
 
     on : Walking (course linked s) (after s (w .seen) o) (o + lenAt s o)
-    on = goes (course linked s) (w .seen) o (w .walking) (steady linked s) h (sym (e ∙ same-rule))
+    on = goes (course linked s) (w .seen) o (w .walking) (steady linked s) h (row-none (course linked s .rows (w .seen) o) (steady linked s .numbered (w .seen) o) (sym (e ∙ same-rule)))
 
-    pub going-format : (x : Format) → isFormat (kindAt s o) ≡ true → x ≡ formatAt (kindAt s o) s o → Going linked s (set formats f x) frames counts (f + 1) n (x .kind) (o + lenAt s o)
+    pub going-format : (x : Format) → isFormat (kindAt s o) ≡ true → x ≡ formatAt (formatOf (kindAt s o)) s o → Going linked s (set formats f x) frames counts (f + 1) n x (o + lenAt s o)
     going-format x q p =
         let few : f < 8 = fine-here .fewer q in
         let l : List Format = w .seen .formats in
@@ -161,12 +161,12 @@ module _ (linked : Bool) (s : List ℕ) (formats : List Format) (frames : List F
           frames-kept = w .frames-kept;
           frames-counted = w .frames-counted;
           frames-few = w .frames-few;
-          last = sym (ap (λ (y : Format). y .kind) (last-more l x));
+          last-is = sym (last-more l x);
           size = w .size;
           counted = w .counted;
         }
 
-    pub going-frame : (x : Frame) → isFormat (kindAt s o) ≡ false → isFrame (kindAt s o) ≡ true → x ≡ frameAt f s o → Going linked s formats (set frames n x) (set counts f (byte s o 3)) f (n + 1) under (o + lenAt s o)
+    pub going-frame : (x : Frame) → isFormat (kindAt s o) ≡ false → isFrame (kindAt s o) ≡ true → x ≡ frameAt (formatOf (kindAt s o)) f s o → Going linked s formats (set frames n x) (set counts f (byte s o 3)) f (n + 1) last (o + lenAt s o)
     going-frame x p q r =
         let few : n < 64 = fine-here .few q in
         let l : List Frame = w .seen .frames in
@@ -179,12 +179,12 @@ module _ (linked : Bool) (s : List ℕ) (formats : List Format) (frames : List F
           frames-kept = rw (w .frames-kept, w .frames-counted) (pad-set 64 noFrame l x (omega (arith, w .frames-counted)));
           frames-counted = simp length-append (omega (arith, w .frames-counted));
           frames-few = omega arith;
-          last = w .last;
+          last-is = w .last-is;
           size = length-set counts f (byte s o 3) ∙ w .size;
-          counted = counted-more counts f (byte s o 3) (w .seen .frames) x (omega (arith, w .size, w .formats-few)) (of-format f s o x r) (fine-here .numbered q) (w .counted);
+          counted = counted-more counts f (byte s o 3) (w .seen .frames) x (omega (arith, w .size, w .formats-few)) (of-format (formatOf (kindAt s o)) f s o x r) (fine-here .numbered q) (w .counted);
         }
 
-    pub going-other : isFormat (kindAt s o) ≡ false → isFrame (kindAt s o) ≡ false → Going linked s formats frames counts f n under (o + lenAt s o)
+    pub going-other : isFormat (kindAt s o) ≡ false → isFrame (kindAt s o) ≡ false → Going linked s formats frames counts f n last (o + lenAt s o)
     going-other p q =
         record {
           seen = w .seen;
@@ -195,7 +195,7 @@ module _ (linked : Bool) (s : List ℕ) (formats : List Format) (frames : List F
           frames-kept = w .frames-kept;
           frames-counted = w .frames-counted;
           frames-few = w .frames-few;
-          last = w .last;
+          last-is = w .last-is;
           size = w .size;
           counted = w .counted;
         }

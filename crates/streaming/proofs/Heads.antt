@@ -4,16 +4,15 @@ use mathlib.Core.Path.{_≡_, refl, sym, _∙_}
 use mathlib.Core.List.{List}
 use mathlib.Core.Bool.{Bool}
 use lib.ListN.{length}
-use borrow.Author.Tests.{ltb-false}
-use native.Mathlib.Omega.{arith}
-use Rattle.rules.specs.Numbered.{Down}
-use Rattle.rules.proofs.Numbered.{first-zero}
+use Rattle.rules.specs.Numbered.{firstRow}
+use Rattle.rules.proofs.Rows.{row-none}
 use Rattle.entities.specs.declared.Table.{Table}
-use Rattle.streaming_rules.specs.Rules.{headFlags, headRule, blockMost}
-use Rattle.streaming.specs.Block.{linkedTo, linkOf, refusedBy, walked, afterHead, streamingOf}
+use Rattle.streaming_rules.specs.Rules.{headRows}
+use Rattle.streaming_rules.proofs.Fine.{head-numbered, head-sizes}
+use Rattle.streaming.specs.Answer.{linkedTo, linkOf, refusedBy, walked, afterHead, streamingOf}
 use Rattle.streaming.specs.declared.Streaming.{Streaming}
 
-module _ (t : Table) (s : List ℕ) (r : ℕ) (e : r ≡ headRule (t .count) s) where
+module _ (t : Table) (s : List ℕ) (r : ℕ) (e : r ≡ firstRow (headRows (t .count) s)) where
   pub head-bad : (x : Streaming) → (r ≡ 0 → ⊥) → x ≡ refusedBy r 0 → x ≡ streamingOf t s
   unfolding streamingOf afterHead
   head-bad x n f = f ∙ (rw (← e) (go r n))
@@ -27,6 +26,5 @@ module _ (t : Table) (s : List ℕ) (r : ℕ) (e : r ≡ headRule (t .count) s) 
     unfolding streamingOf afterHead
     head-good l x g f = rw (← e, z, ← g) f
 
-    pub head-sizes : (13 ≤ length s) × (length s ≤ 16384)
-    unfolding headRule headFlags
-    head-sizes = let d : Down (headFlags (t .count) s) = first-zero 20 (headFlags (t .count) s) (omega arith) (sym e ∙ z) in (ltb-false (length s) 13 (d .1 .0), ltb-false blockMost (length s) (d .1 .1 .0))
+    pub block-sizes : (13 ≤ length s) × (length s ≤ 16384)
+    block-sizes = head-sizes (t .count) s (row-none (headRows (t .count) s) (head-numbered (t .count) s) (sym e ∙ z))

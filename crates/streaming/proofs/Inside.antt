@@ -11,20 +11,18 @@ use Rattle.le.specs.Le.{byte}
 use Rattle.rules.specs.Pick.{pick}
 use Rattle.rules.specs.Walk.{Reached, first, next, Clean}
 use Rattle.rules.specs.declared.Verdict.the-variants.{Accepted}
-use Rattle.rules.proofs.Numbered.{none-first}
 use Rattle.rules.proofs.Padded.{pad-at}
 use Rattle.entities.specs.declared.Table.{Table}
-use Rattle.streaming_rules.specs.Descriptors.{kindAt, isFrame, noFrame, frameAt, frameLength}
-use Rattle.streaming_rules.specs.Rules.{flags, ruleAt}
+use Rattle.streaming_rules.specs.Descriptors.{kindAt, isFrame, formatOf, noFrame, frameAt, frameLengthAt}
 use Rattle.streaming_rules.specs.declared.Frame.{Frame}
 use Rattle.streaming_rules.proofs.Fine.{Fine, fine, frame-inside}
-use Rattle.streaming.specs.Block.{Seen, sofar, after, course, acceptedWith, streamingOf}
+use Rattle.streaming.specs.Answer.{Seen, sofar, after, course, acceptedWith, streamingOf}
 use Rattle.streaming.specs.declared.Streaming.{Streaming}
-use Rattle.streaming.proofs.Exactly.{accepted, tables}
+use Rattle.streaming.proofs.ExactlyWhen.{accepted, tables}
 
 -- a frame's descriptor, with its intervals, lies within the block
 abbrev pub Within : List ℕ → ℕ → Type 0
-Within s o = o + frameLength (byte s o 25) ≤ length s
+Within s o = o + frameLengthAt (formatOf (kindAt s o)) s o ≤ length s
 
 record Held (s : List ℕ) (l : List Frame) : Type 0 where
   few : length l ≤ 64
@@ -42,24 +40,23 @@ held-more s l x n w h = record { few = simp length-append (omega arith); inside 
     inside : (i : ℕ) → i < length (l ++ (x ∷ [])) → Within s (getD (l ++ (x ∷ [])) i noFrame .offset)
     inside i k = at i k (decLt i (length l))
 
-frame-offset : (n : ℕ) (s : List ℕ) (o : ℕ) → frameAt n s o .offset ≡ o
+frame-offset : (f n : ℕ) (s : List ℕ) (o : ℕ) → frameAt f n s o .offset ≡ o
 unfolding frameAt
-frame-offset n s o = refl
+frame-offset f n s o = refl
 
 module _ (linked : Bool) (s : List ℕ) (clean : Clean (course linked s)) where
   fine-at : (a : Seen) (o : ℕ) → Reached (course linked s) a o → o < length s → Fine s o (sofar linked a)
-  unfolding ruleAt
-  fine-at a o r h = fine s o (sofar linked a) (none-first 25 (flags s o (sofar linked a)) (clean a o r h))
+  fine-at a o r h = fine s o (sofar linked a) (clean a o r h)
 
   step : (a : Seen) (o : ℕ) → Fine s o (sofar linked a) → Held s (a .frames) → Held s (after s a o .frames)
   unfolding after pick
   step a o f h = go (isFrame (kindAt s o)) refl
     where
-      go : (b : Bool) → isFrame (kindAt s o) ≡ b → Held s (a .frames ++ pick b (frameAt (length (a .formats)) s o ∷ []) [])
+      go : (b : Bool) → isFrame (kindAt s o) ≡ b → Held s (a .frames ++ pick b (frameAt (formatOf (kindAt s o)) (length (a .formats)) s o ∷ []) [])
       go false q = rw append-nil h
       go true q =
-          held-more s (a .frames) (frameAt (length (a .formats)) s o) (f .few q)
-          (rw (frame-offset (length (a .formats)) s o) (frame-inside (kindAt s o) s o (length s) q (f .inside) (f .shaped))) h
+          held-more s (a .frames) (frameAt (formatOf (kindAt s o)) (length (a .formats)) s o) (f .few q)
+          (rw (frame-offset (formatOf (kindAt s o)) (length (a .formats)) s o) (frame-inside (kindAt s o) s o (length s) q (f .inside) (f .shaped))) h
 
   held : {a : Seen} {o : ℕ} → Reached (course linked s) a o → Held s (a .frames)
   held first = record { few = omega arith; inside = λ i h. absurd (omega arith) }

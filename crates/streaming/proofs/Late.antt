@@ -7,9 +7,9 @@ use borrow.Author.Tests.{lt-ltb, le-ltb, eq-eqb, ne-eqb}
 use Rattle.rules.specs.Pick.{pick}
 use Rattle.rules.specs.declared.Verdict.the-variants.{Accepted, Refused}
 use Rattle.streaming_rules.specs.declared.Format.{Format}
-use Rattle.streaming.specs.Place.{firstPlace}
-use Rattle.streaming.specs.Block.{countBroken, defaultBroken, lateBy}
-use Rattle.streaming.proofs.Places.{same-place}
+use Rattle.rules.specs.Place.{firstPlace}
+use Rattle.streaming.specs.Answer.{countBroken, defaultBroken, lateBy}
+use Rattle.rules.proofs.Places.{same-place}
 
 pub count-differs : (m n : ℕ) → (m ≡ n → ⊥) → not (eqb m n) ≡ true
 count-differs m n h = rw (ne-eqb m n h)

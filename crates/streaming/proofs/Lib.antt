@@ -1,9 +1,8 @@
 pub mod Links
-pub mod Places
 pub mod Late
 pub mod Going
 pub mod Heads
-pub mod Exactly
+pub mod ExactlyWhen
 pub mod Unique
 pub mod Inside
 pub mod Samples

@@ -13,7 +13,8 @@ use Rattle.entities.specs.declared.Entity.{Entity}
 use Rattle.entities.specs.declared.Table.{Table}
 use Rattle.entities.specs.declared.Found.{Found}
 use Rattle.entities.specs.declared.Found.the-variants.{At, Nothing}
-use Rattle.streaming.specs.Block.{isOutput, linkedAt, linkedTo}
+use Rattle.entities.proofs.Finding.{found-within}
+use Rattle.streaming.specs.Answer.{isOutput, linkedAt, linkedTo}
 
 pub output-no : (e : Entity) → (e .kind ≡ 3 → ⊥) → false ≡ isOutput e
 unfolding isOutput
@@ -23,18 +24,9 @@ pub output-is : (e : Entity) → e .kind ≡ 3 → eqb (e .terminal) 0x0101 ≡ 
 unfolding isOutput
 output-is e h = rw (eq-eqb (e .kind) 3 h)
 
-found-below : (i : ℕ) (l : List Entity) (id j : ℕ) → findFrom i l id ≡ At j → j < i + length l
-unfolding findFrom pick
-found-below i [] id j h = let z : _≡_ {A = ℕ} 0 1 = cc in absurd (omega arith)
-found-below i (e ∷ l) id j h = go (eqb (e .id) id) refl (λ q. found-below (suc i) l id j q)
-  where
-    go : (b : Bool) → eqb (e .id) id ≡ b → (findFrom (suc i) l id ≡ At j → j < suc i + length l) → j < i + suc (length l)
-    go true q on = let w : At i ≡ At j = rw q at h in let z : i ≡ j = cc in omega arith
-    go false q on = omega (arith, on (rw q at h))
-
 -- what is found lies in the table
 pub found-inside : (t : Table) (id i n : ℕ) (f : Found) → length (t .entities) ≡ n → f ≡ foundIn t id → f ≡ At i → i < n
-found-inside t id i n f e g h = omega (arith, found-below 0 (used t) id i (sym g ∙ h), length-take (t .count) (t .entities))
+found-inside t id i n f e g h = omega (arith, found-within (used t) id i (sym g ∙ h), length-take (t .count) (t .entities))
 
 pub linked-none : (t : Table) (id : ℕ) (f : Found) → f ≡ foundIn t id → f ≡ Nothing → false ≡ linkedTo t id
 unfolding linkedAt

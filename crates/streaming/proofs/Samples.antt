@@ -4,16 +4,16 @@ use mathlib.Core.Path.{_≡_, refl}
 use mathlib.Core.List.{List, [], _∷_, _++_}
 use lib.ListN.{replicate}
 use Rattle.rules.specs.Pick.{pick}
-use Rattle.rules.specs.Numbered.{firstFrom}
 use Rattle.rules.specs.Walk.{walkFrom, walk}
 use Rattle.rules.specs.declared.Verdict.the-variants.{Accepted, Refused}
 use Rattle.entities.specs.Table.{noEntity, findFrom}
 use Rattle.entities.specs.declared.Table.{Table}
 use Rattle.intervals.specs.Intervals.{listAt, rises, among, offered}
-use Rattle.streaming_rules.specs.Descriptors.{kindOf, shape, formatAt, frameAt}
-use Rattle.streaming_rules.specs.Rules.{headFlags, lengthBroken, typeBroken, misplaced, offersAt, kindFlags, flags, headRule}
-use Rattle.streaming.specs.Place.{placeFrom}
-use Rattle.streaming.specs.Block.{isOutput, linkedAt, countUnder, after, defaultBroken, lateBy, refusedBy, acceptedWith, afterWalk, afterHead, streamingOf}
+use Rattle.streaming_rules.specs.Descriptors.{kindOf, layoutOf, shape, formatAt, frameAt}
+use Rattle.blocks.specs.Blocks.{wholeRows, lengthBroken, typeBroken}
+use Rattle.streaming_rules.specs.Rules.{headRows, misplaced, offersUnder, kindRows, rows}
+use Rattle.rules.specs.Place.{placeFrom}
+use Rattle.streaming.specs.Answer.{isOutput, linkedAt, countUnder, after, defaultBroken, lateBy, refusedBy, acceptedWith, afterWalk, afterHead, streamingOf}
 
 -- one entity: the output terminal 3, of type 0x0101
 table : Table
@@ -33,19 +33,19 @@ frame low =
 
 -- a header alone, with no formats
 bare : streamingOf table (header 13 0 3) .verdict ≡ Accepted
-unfolding table header streamingOf afterHead headRule headFlags firstFrom afterWalk walk walkFrom flags lengthBroken typeBroken kindFlags kindOf shape linkedAt findFrom isOutput after pick lateBy placeFrom acceptedWith
+unfolding table header streamingOf afterHead headRows wholeRows afterWalk walk walkFrom rows lengthBroken typeBroken kindRows kindOf layoutOf shape linkedAt findFrom isOutput after pick lateBy placeFrom acceptedWith
 bare = refl
 
 -- its link names nothing
 unlinked : streamingOf table (header 13 0 4) .verdict ≡ Refused 30 0
-unfolding table header streamingOf afterHead headRule headFlags firstFrom afterWalk walk walkFrom flags lengthBroken typeBroken kindFlags kindOf shape linkedAt findFrom isOutput after pick refusedBy
+unfolding table header streamingOf afterHead headRows wholeRows afterWalk walk walkFrom rows lengthBroken typeBroken kindRows kindOf layoutOf shape linkedAt findFrom isOutput after pick refusedBy
 unlinked = refl
 
 -- a format with its frame; and the frame whose default is not in its list
 filmed : streamingOf table (header 58 1 3 ++ (mjpeg ++ frame 0x15)) .verdict ≡ Accepted
-unfolding table header mjpeg frame streamingOf afterHead headRule headFlags firstFrom afterWalk walk walkFrom flags lengthBroken typeBroken kindFlags kindOf shape linkedAt findFrom isOutput after pick formatAt frameAt misplaced offersAt offered listAt rises among countUnder lateBy placeFrom defaultBroken acceptedWith
+unfolding table header mjpeg frame streamingOf afterHead headRows wholeRows afterWalk walk walkFrom rows lengthBroken typeBroken kindRows kindOf layoutOf shape linkedAt findFrom isOutput after pick formatAt frameAt misplaced offersUnder offered listAt rises among countUnder lateBy placeFrom defaultBroken acceptedWith
 filmed = refl
 
 unlisted : streamingOf table (header 58 1 3 ++ (mjpeg ++ frame 0x16)) .verdict ≡ Refused 34 24
-unfolding table header mjpeg frame streamingOf afterHead headRule headFlags firstFrom afterWalk walk walkFrom flags lengthBroken typeBroken kindFlags kindOf shape linkedAt findFrom isOutput after pick formatAt frameAt misplaced offersAt offered listAt rises among countUnder refusedBy
+unfolding table header mjpeg frame streamingOf afterHead headRows wholeRows afterWalk walk walkFrom rows lengthBroken typeBroken kindRows kindOf layoutOf shape linkedAt findFrom isOutput after pick formatAt frameAt misplaced offersUnder offered listAt rises among countUnder refusedBy
 unlisted = refl

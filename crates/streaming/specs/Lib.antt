@@ -1,3 +1,2 @@
-pub mod Place
-pub mod Block
-pub mod Reading
+pub mod Answer
+pub mod Broken

@@ -3,8 +3,8 @@ ghost use mathlib.Core.Path.{_≡_};
 ghost use Prim.Native.Nat.{_+_, _≤_, _<_};
 ghost use lib.ListN.{length, getD};
 ghost use Rattle.streaming_rules.specs.Descriptors.{noFormat, noFrame};
-ghost use Rattle.streaming.specs.Place.{firstPlace};
-ghost use Rattle.streaming.specs.Block.{isOutput, linkedTo, countBroken, defaultBroken, lateBy, refusedBy, noCounts, streamingOf};
+ghost use Rattle.rules.specs.Place.{firstPlace};
+ghost use Rattle.streaming.specs.Answer.{isOutput, linkedTo, countBroken, defaultBroken, lateBy, refusedBy, noCounts, streamingOf};
 use entities::Entity;
 use entities::Found;
 use entities::Table;
@@ -161,7 +161,7 @@ pub fn read(table: Table, block: &[u8]) -> Streaming
     let mut counts = no_counts();
     let mut f: usize = 0;
     let mut n: usize = 0;
-    let mut under: u8 = 0;
+    let mut last = no_format;
     let mut at: usize = 0;
     while at < block.len() {
         let numbered = counts[f];
@@ -169,7 +169,7 @@ pub fn read(table: Table, block: &[u8]) -> Streaming
             linked,
             formats: f,
             frames: n,
-            under,
+            last,
             numbered,
         };
         let broken = streaming_rules::rule_at(block, at, a);
@@ -180,12 +180,12 @@ pub fn read(table: Table, block: &[u8]) -> Streaming
         let kind = streaming_rules::kind_of(block[at + 2]);
         if streaming_rules::is_format(kind) {
             let e = streaming_rules::format_at(block, at, kind);
-            under = e.kind;
+            last = e;
             formats[f] = e;
             f = f + 1;
             at = next;
         } else if streaming_rules::is_frame(kind) {
-            let e = streaming_rules::frame_at(block, at, f);
+            let e = streaming_rules::frame_at(block, at, kind, f);
             frames[n] = e;
             // a frame's number is the number of its format's frames so far
             counts[f] = block[at + 3];

@@ -2,25 +2,22 @@
 use Prim.Native.Nat.{ℕ, _+_, _-_}
 use mathlib.Core.Path.{_≡_, refl, sym, _∙_}
 use mathlib.Core.List.{List, [], _∷_}
-use mathlib.Core.Bool.{Bool, true, false, _&&_, true≢false}
+use mathlib.Core.Bool.{Bool, true, false, true≢false}
 use mathlib.Core.Logic.{_↔_}
 use lib.ListN.{take, drop}
 use lib.Dec.{eqb}
 use borrow.Author.Tests.{eq-eqb, eqb-true}
 use native.Mathlib.Omega.{arith}
 use Rattle.rules.specs.Pick.{pick}
+use Rattle.rules.proofs.Rows.{and-first, and-second}
 use Rattle.streaming_rules.specs.Descriptors.{sameBytes, sortOf, guidAt, yuy2, nv12}
-
-and-both : (a b : Bool) → (a && b) ≡ true → (a ≡ true) × (b ≡ true)
-and-both true b h = (refl, h)
-and-both false b h = absurd (true≢false (sym h))
 
 same-of : (l m : List ℕ) → sameBytes l m ≡ true → l ≡ m
 unfolding sameBytes
 same-of [] [] h = refl
 same-of [] (y ∷ m) h = absurd (true≢false (sym h))
 same-of (x ∷ l) [] h = absurd (true≢false (sym h))
-same-of (x ∷ l) (y ∷ m) h = let p = and-both (eqb x y) (sameBytes l m) h in let e = eqb-true x y (p .0) in let r = same-of l m (p .1) in cc
+same-of (x ∷ l) (y ∷ m) h = let e = eqb-true x y (and-first (eqb x y) (sameBytes l m) h) in let r = same-of l m (and-second (eqb x y) (sameBytes l m) h) in cc
 
 same-self : (l : List ℕ) → sameBytes l l ≡ true
 unfolding sameBytes

@@ -1,184 +1,92 @@
 -- What the tests of the rule functions say of the rules, in the order of the code.
-use Prim.Native.Nat.{ℕ, _+_, _-_, _/_, _%_, _^_, _≤_, _<_}
+use Prim.Native.Nat.{ℕ, _+_, _≤_}
 use mathlib.Core.Path.{_≡_, sym, _∙_}
 use mathlib.Core.List.{List}
-use mathlib.Core.Bool.{Bool, true, false, not, or-true}
-use lib.ListN.{length, getD}
+use mathlib.Core.Bool.{Bool, true, false, not, _||_}
+use lib.ListN.{length}
 use lib.Dec.{eqb}
-use borrow.Author.Tests.{lt-ltb, le-ltb, lt-leb, le-leb, eq-eqb, ne-eqb, not-false}
-use native.Mathlib.Omega.{arith}
-use Rattle.le.specs.Le.{byte, le16At, le32At}
-use Rattle.rules.specs.Numbered.{firstFrom}
-use Rattle.intervals.specs.Intervals.{offered, span}
-use Rattle.streaming_rules.specs.Descriptors.{kindAt, lenAt, shape, frameLength, kAt, defaultAt, intervalsAt, isHeader, isFormat, isFrame}
-use Rattle.streaming_rules.specs.Rules.{headFlags, headRule, lengthBroken, headerBroken, typeBroken, isUnread, misplaced, offersAt, defaultOffered, kindFlags, flags, ruleAt, blockMost, entitiesMost, formatsMost, framesMost}
+use borrow.Author.Tests.{eq-eqb, ne-eqb, not-false}
+use Rattle.le.specs.Le.{byte, le32At}
+use Rattle.rules.specs.Numbered.{firstRow}
+use Rattle.blocks.specs.Blocks.{lengthBroken, typeBroken}
+use Rattle.blocks.proofs.Right.{said-placed}
+use Rattle.intervals.specs.Intervals.{offered}
+use Rattle.streaming_rules.specs.Descriptors.{lenAt, kindAt, shape, layoutOf, kAt, intervalsAt, isHeader, isFormat, isFrame, formatOf}
+use Rattle.streaming_rules.specs.Rules.{isUnread, misplaced, offersUnder, offersAt, defaultOffered, kindRows, rows}
 use Rattle.streaming_rules.specs.declared.Kind.{Kind}
-use Rattle.streaming_rules.specs.declared.Kind.the-variants.{Header, Uncompressed, Frames}
+use Rattle.streaming_rules.specs.declared.Layout.{Layout}
 use Rattle.streaming_rules.specs.declared.Sofar.{Sofar}
-use Rattle.streaming_rules.proofs.Subtypes.{length-span}
 
-module _ (s : List ℕ) (o : ℕ) (a : Sofar) where
-  -- ---- no header, format or frame breaks none of 29 to 35
-  pub kind-none : (k : Kind) → isHeader k ≡ false → isFormat k ≡ false → isFrame k ≡ false → 0 ≡ firstFrom 29 (kindFlags k s o a)
-  unfolding firstFrom kindFlags
-  kind-none k h i j = rw (h, i, j)
+-- ---- no header, format or frame breaks none of 29 to 35
+pub kind-none : (k : Kind) (s : List ℕ) (o : ℕ) (a : Sofar) → isHeader k ≡ false → isFormat k ≡ false → isFrame k ≡ false → 0 ≡ firstRow (kindRows k s o a)
+unfolding kindRows
+kind-none k s o a h i j = rw (h, i, j)
 
-  -- ---- 29 and 30, of the header
-  pub rule-29 : (byte s o 6 / 2 ^ 7 % 2 ≡ 1 → ⊥) → 29 ≡ firstFrom 29 (kindFlags Header s o a)
-  unfolding firstFrom kindFlags
-  rule-29 h = rw (ne-eqb (byte s o 6 / 2 ^ 7 % 2) 1 h)
+-- ---- 25 to 28, and on
+module _ (s : List ℕ) (o : ℕ) (a : Sofar) (b : Bool) (x : b ≡ lengthBroken s o) where
+  pub rule-25 : b ≡ true → 25 ≡ firstRow (rows s o a)
+  unfolding rows
+  rule-25 h = rw (← x, h)
 
-  pub rule-30 : byte s o 6 / 2 ^ 7 % 2 ≡ 1 → a .linked ≡ false → 30 ≡ firstFrom 29 (kindFlags Header s o a)
-  unfolding firstFrom kindFlags
-  rule-30 h l = rw (eq-eqb (byte s o 6 / 2 ^ 7 % 2) 1 h, l)
+  module _ (y : b ≡ false) (t : Bool) (z : t ≡ typeBroken s o) where
+    pub rule-26 : t ≡ true → 26 ≡ firstRow (rows s o a)
+    unfolding rows
+    rule-26 h = rw (← x, y, ← z, h)
 
-  pub header-none : byte s o 6 / 2 ^ 7 % 2 ≡ 1 → a .linked ≡ true → 0 ≡ firstFrom 29 (kindFlags Header s o a)
-  unfolding firstFrom kindFlags
-  header-none h l = rw (eq-eqb (byte s o 6 / 2 ^ 7 % 2) 1 h, l)
+    module _ (w : t ≡ false) where
+      pub rule-26′ : byte s o 2 ≡ 2 → 26 ≡ firstRow (rows s o a)
+      unfolding rows
+      rule-26′ h = rw (← x, y, ← z, w, eq-eqb (byte s o 2) 2 h)
 
-  -- ---- 31 and 35, of a format
-  module _ (n : ℕ) (e : n ≡ byte s o 3) where
-    pub rule-31 : (n ≡ a .formats + 1 → ⊥) → 31 ≡ firstFrom 29 (kindFlags Uncompressed s o a)
-    unfolding firstFrom kindFlags
-    rule-31 h = rw (← e, ne-eqb n (a .formats + 1) h)
+      module _ (v : byte s o 2 ≡ 2 → ⊥) (k : Kind) (d : k ≡ kindAt s o) (u : Bool) (e : u ≡ isUnread k) where
+        pub rule-27 : u ≡ true → 27 ≡ firstRow (rows s o a)
+        unfolding rows
+        rule-27 h = rw (← x, y, ← z, w, ne-eqb (byte s o 2) 2 v, ← d, ← e, h)
 
-    pub rule-35 : n ≡ a .formats + 1 → formatsMost ≤ a .formats → 35 ≡ firstFrom 29 (kindFlags Uncompressed s o a)
-    unfolding firstFrom kindFlags
-    rule-35 h l = rw (← e, eq-eqb n (a .formats + 1) h, le-leb formatsMost (a .formats) l)
+        module _ (g : u ≡ false) (q : Bool) (f : q ≡ shape k s o) where
+          pub rule-28 : not q ≡ true → 28 ≡ firstRow (rows s o a)
+          unfolding rows
+          rule-28 h = rw (← x, y, ← z, w, ne-eqb (byte s o 2) 2 v, ← d, ← e, g, ← f, h)
 
-    pub format-none : n ≡ a .formats + 1 → a .formats < formatsMost → 0 ≡ firstFrom 29 (kindFlags Uncompressed s o a)
-    unfolding firstFrom kindFlags
-    format-none h l = rw (← e, eq-eqb n (a .formats + 1) h, lt-leb formatsMost (a .formats) l)
+          pub rule-on : (r : ℕ) → not q ≡ false → r ≡ firstRow (kindRows k s o a) → r ≡ firstRow (rows s o a)
+          unfolding rows
+          rule-on r h i = rw (← x, y, ← z, w, ne-eqb (byte s o 2) 2 v, ← d, ← e, g, ← f, h) i
 
-  -- ---- 32 to 35, of a frame
-  module _ (f : ℕ) (m : Bool) (u : m ≡ misplaced f a) where
-    pub rule-32 : m ≡ true → 32 ≡ firstFrom 29 (kindFlags (Frames f) s o a)
-    unfolding firstFrom kindFlags
-    rule-32 h = rw (← u, h)
+-- ---- 31, 33
+pub differs : (a b n m : ℕ) → n ≡ a → m ≡ b → (n ≡ m + 1 → ⊥) → not (eqb a (b + 1)) ≡ true
+differs a b n m e f h = rw (← e, ← f, ne-eqb n (m + 1) h)
 
-    module _ (v : m ≡ false) (n k : ℕ) (e : n ≡ byte s o 3) (q : k ≡ a .numbered) where
-      pub rule-33 : (n ≡ k + 1 → ⊥) → 33 ≡ firstFrom 29 (kindFlags (Frames f) s o a)
-      unfolding firstFrom kindFlags
-      rule-33 h = rw (← u, v, ← e, ← q, ne-eqb n (k + 1) h)
+pub agrees : (a b n m : ℕ) → n ≡ a → m ≡ b → n ≡ m + 1 → not (eqb a (b + 1)) ≡ false
+agrees a b n m e f h = rw (← e, ← f, eq-eqb n (m + 1) h)
 
-      module _ (w : n ≡ k + 1) (d : Bool) (y : d ≡ defaultOffered s o) where
-        pub rule-34 : not d ≡ true → 34 ≡ firstFrom 29 (kindFlags (Frames f) s o a)
-        unfolding firstFrom kindFlags
-        rule-34 h = rw (← u, v, ← e, ← q, eq-eqb n (k + 1) w, ← y, h)
-
-        pub rule-35-frame : not d ≡ false → framesMost ≤ a .frames → 35 ≡ firstFrom 29 (kindFlags (Frames f) s o a)
-        unfolding firstFrom kindFlags
-        rule-35-frame h l = rw (← u, v, ← e, ← q, eq-eqb n (k + 1) w, ← y, h, le-leb framesMost (a .frames) l)
-
-        pub frame-none : not d ≡ false → a .frames < framesMost → 0 ≡ firstFrom 29 (kindFlags (Frames f) s o a)
-        unfolding firstFrom kindFlags
-        frame-none h l = rw (← u, v, ← e, ← q, eq-eqb n (k + 1) w, ← y, h, lt-leb framesMost (a .frames) l)
+-- ---- 35, of a format
+pub or-no : (b v : Bool) → b ≡ v → (b || false) ≡ v
+or-no true v e = e
+or-no false v e = e
 
 -- ---- 32
 pub no-format-yet : (f : ℕ) (a : Sofar) → a .formats ≡ 0 → true ≡ misplaced f a
 unfolding misplaced
 no-format-yet f a h = rw (eq-eqb (a .formats) 0 h)
 
-pub some-format : (f : ℕ) (a : Sofar) → (a .formats ≡ 0 → ⊥) → not (eqb (a .under) f) ≡ misplaced f a
+pub some-format : (f : ℕ) (a : Sofar) → (a .formats ≡ 0 → ⊥) → not (eqb (a .last .kind) f) ≡ misplaced f a
 unfolding misplaced
 some-format f a h = rw (ne-eqb (a .formats) 0 h)
 
 -- ---- 34
-pub offers-is : (s : List ℕ) (o k x : ℕ) (r : Bool) → k ≡ byte s o (kAt 0) → r ≡ offered s (o + intervalsAt) k x → r ≡ offersAt s o x
-unfolding offersAt
-offers-is s o k x r e h = rw (← e) h
+pub offers-is : (f : ℕ) (s : List ℕ) (o k x : ℕ) (r : Bool) → k ≡ kAt f s o → r ≡ offered s (o + intervalsAt) k x → r ≡ offersUnder f s o x
+unfolding offersUnder
+offers-is f s o k x r e h = rw (← e) h
 
-pub default-is : (s : List ℕ) (o x : ℕ) (r : Bool) → x ≡ le32At s (o + defaultAt 0) → r ≡ offersAt s o x → r ≡ defaultOffered s o
-default-is s o x r e h = h ∙ (rw e)
+pub default-is : (f : ℕ) (l : Layout) (s : List ℕ) (o x : ℕ) (r : Bool) → l ≡ layoutOf f → x ≡ le32At s (o + l .interval) → r ≡ offersUnder f s o x → r ≡ defaultOffered f s o
+default-is f l s o x r w e h = h ∙ (rw (e, w))
 
-pub frame-long : (s : List ℕ) (o f n : ℕ) → o + frameLength (byte s o (kAt f)) ≤ n → o + 26 ≤ n
-frame-long s o f n h = omega (arith, length-span (byte s o (kAt f)))
+pub own-subtype : (s : List ℕ) (o x : ℕ) (k : Kind) (f : ℕ) (r : Bool) → k ≡ kindAt s o → f ≡ formatOf k → r ≡ offersUnder f s o x → r ≡ offersAt s o x
+own-subtype s o x k f r e g h = rw (← e, ← g) h
 
-pub span-room : (s : List ℕ) (o f k n : ℕ) → o + frameLength (byte s o (kAt f)) ≤ n → k ≡ byte s o (kAt f) → k < 256 → (o + 26 + span k ≤ n) × (k < 256)
-span-room s o f k n h e l = (rw e (omega (arith, length-span (byte s o (kAt f)))), l)
+-- ---- 28
+pub shaped : (k : Kind) (s : List ℕ) (o : ℕ) (q : Bool) → q ≡ shape k s o → not q ≡ false → shape k s o ≡ true
+shaped k s o q f g = sym f ∙ not-false q g
 
--- ---- 25
-module _ (s : List ℕ) (o len : ℕ) (l : len ≡ lenAt s o) where
-  pub len-short : len < 3 → lengthBroken s o ≡ true
-  unfolding lengthBroken
-  len-short h = rw (← l, lt-ltb len 3 h)
-
-  pub len-past : length s - o < len → lengthBroken s o ≡ true
-  unfolding lengthBroken
-  len-past h = rw (← l, lt-ltb (length s) (o + len) (omega arith), or-true)
-
-  pub len-good : 3 ≤ len → o < length s → len ≤ length s - o → lengthBroken s o ≡ false
-  unfolding lengthBroken
-  len-good a b c = rw (← l, le-ltb len 3 a, le-ltb (length s) (o + len) (omega arith))
-
--- ---- 26
-pub type-bad : (s : List ℕ) (o : ℕ) → (byte s o 1 ≡ 0x24 → ⊥) → typeBroken s o ≡ true
-unfolding typeBroken
-type-bad s o h = rw (ne-eqb (byte s o 1) 0x24 h)
-
-pub type-is : (s : List ℕ) (o : ℕ) (k : Kind) (r b : Bool) → byte s o 1 ≡ 0x24 → k ≡ kindAt s o → r ≡ headerBroken k o → r ≡ b → typeBroken s o ≡ b
-unfolding typeBroken
-type-is s o k r b h d e f = rw (h, ← d, ← e, f)
-
--- ---- 25 to 28, and on
-module _ (s : List ℕ) (o : ℕ) (a : Sofar) where
-  pub rule-25 : lengthBroken s o ≡ true → 25 ≡ ruleAt s o a
-  unfolding ruleAt flags firstFrom
-  rule-25 h = rw h
-
-  module _ (x : lengthBroken s o ≡ false) where
-    pub rule-26 : typeBroken s o ≡ true → 26 ≡ ruleAt s o a
-    unfolding ruleAt flags firstFrom
-    rule-26 h = rw (x, h)
-
-    module _ (y : typeBroken s o ≡ false) (k : Kind) (d : k ≡ kindAt s o) (u : Bool) (e : u ≡ isUnread k) where
-      pub rule-27 : u ≡ true → 27 ≡ ruleAt s o a
-      unfolding ruleAt flags firstFrom
-      rule-27 h = rw (x, y, ← d, ← e, h)
-
-      module _ (z : u ≡ false) (q : Bool) (f : q ≡ shape k s o) where
-        pub rule-28 : not q ≡ true → 28 ≡ ruleAt s o a
-        unfolding ruleAt flags firstFrom
-        rule-28 h = rw (x, y, ← d, ← e, z, ← f, h)
-
-        pub rule-on : (r : ℕ) → not q ≡ false → r ≡ firstFrom 29 (kindFlags k s o a) → r ≡ ruleAt s o a
-        unfolding ruleAt flags firstFrom
-        rule-on r h i = rw (x, y, ← d, ← e, z, ← f, h) i
-
-pub shaped : (k : Kind) (s : List ℕ) (o len : ℕ) (q : Bool) → len ≡ lenAt s o → o < length s → len ≤ length s - o → q ≡ shape k s o → not q ≡ false → (shape k s o ≡ true) × (o + lenAt s o ≤ length s)
-shaped k s o len q e a b f g = (sym f ∙ not-false q g, omega arith)
-
--- ---- 20 to 24
-module _ (t : ℕ) (s : List ℕ) where
-  pub rule-20 : entitiesMost < t → 20 ≡ headRule t s
-  unfolding headRule headFlags firstFrom
-  rule-20 a = rw (lt-ltb entitiesMost t a)
-
-  module _ (a : t ≤ entitiesMost) where
-    pub rule-21 : length s < 13 → 21 ≡ headRule t s
-    unfolding headRule headFlags firstFrom
-    rule-21 b = rw (le-ltb entitiesMost t a, lt-ltb (length s) 13 b)
-
-    module _ (b : 13 ≤ length s) where
-      pub rule-22 : blockMost < length s → 22 ≡ headRule t s
-      unfolding headRule headFlags firstFrom
-      rule-22 c = rw (le-ltb entitiesMost t a, le-ltb (length s) 13 b, lt-ltb blockMost (length s) c)
-
-      module _ (c : length s ≤ blockMost) where
-        pub rule-23 : (getD s 1 0 ≡ 0x24 → ⊥) → 23 ≡ headRule t s
-        unfolding headRule headFlags firstFrom
-        rule-23 d = rw (le-ltb entitiesMost t a, le-ltb (length s) 13 b, le-ltb blockMost (length s) c, ne-eqb (getD s 1 0) 0x24 d)
-
-        module _ (d : getD s 1 0 ≡ 0x24) where
-          pub rule-23′ : (getD s 2 0 ≡ 1 → ⊥) → 23 ≡ headRule t s
-          unfolding headRule headFlags firstFrom
-          rule-23′ e = rw (le-ltb entitiesMost t a, le-ltb (length s) 13 b, le-ltb blockMost (length s) c, eq-eqb (getD s 1 0) 0x24 d, ne-eqb (getD s 2 0) 1 e)
-
-          module _ (e : getD s 2 0 ≡ 1) (n : ℕ) (f : n ≡ le16At s 4) where
-            pub rule-24 : (n ≡ length s → ⊥) → 24 ≡ headRule t s
-            unfolding headRule headFlags firstFrom
-            rule-24 g = rw (le-ltb entitiesMost t a, le-ltb (length s) 13 b, le-ltb blockMost (length s) c, eq-eqb (getD s 1 0) 0x24 d, eq-eqb (getD s 2 0) 1 e, ← f, ne-eqb n (length s) g)
-
-            pub head-none : n ≡ length s → 0 ≡ headRule t s
-            unfolding headRule headFlags firstFrom
-            head-none g = rw (le-ltb entitiesMost t a, le-ltb (length s) 13 b, le-ltb blockMost (length s) c, eq-eqb (getD s 1 0) 0x24 d, eq-eqb (getD s 2 0) 1 e, ← f, eq-eqb n (length s) g)
+pub lies : (s : List ℕ) (o : ℕ) (b : Bool) → b ≡ lengthBroken s o → b ≡ false → o + lenAt s o ≤ length s
+lies s o b e h = said-placed s o b e h .inside

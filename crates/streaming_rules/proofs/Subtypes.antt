@@ -2,23 +2,25 @@
 use Prim.Native.Nat.{ℕ, zero, suc, _+_, _*_, _≤_, _<_}
 use mathlib.Core.Path.{_≡_, refl, sym, _∙_}
 use mathlib.Core.List.{List}
-use mathlib.Core.Bool.{true, false}
+use mathlib.Core.Bool.{Bool, true, false, true≢false}
 use lib.ListN.{length}
 use lib.Dec.{eqb}
 use borrow.Author.Tests.{le-leb, lt-leb, ne-eqb, eqb-true}
 use native.Mathlib.Omega.{arith}
 use native.Mathlib.Nat.{mul-le-mul}
 use Rattle.le.specs.Le.{byte}
-use Rattle.rules.specs.Pick.{pick}
+use Rattle.rules.specs.Pick.{pick, pick-all}
 use Rattle.intervals.specs.Intervals.{span}
-use Rattle.streaming_rules.specs.Descriptors.{kindOf, unread, lenAt, shape, frameLength, kAt}
-use Rattle.streaming_rules.specs.declared.Kind.the-variants.{Header, Uncompressed, Mjpeg, Frames, Unread, Other}
+use Rattle.streaming_rules.specs.Descriptors.{kindOf, unread, lenAt, shape, uncompressed, mjpeg, noLayout, layoutOf, formatOf, frameLength, kAt, frameLengthAt}
+use Rattle.streaming_rules.specs.declared.Kind.{Kind}
+use Rattle.streaming_rules.specs.declared.Kind.the-variants.{Header, Formats, Frames, Unread, Other}
+use Rattle.streaming_rules.specs.declared.Layout.{Layout}
 
 -- a number that is none of those that are read
-module _ (n : ℕ) (a : n ≡ 1 → ⊥) (b : n ≡ 2 → ⊥) (c : n ≡ 4 → ⊥) (d : n ≡ 5 → ⊥) (e : n ≡ 6 → ⊥) (f : n ≡ 7 → ⊥) where
+module _ (n : ℕ) (a : n ≡ 1 → ⊥) (c : n ≡ 4 → ⊥) (d : n ≡ 5 → ⊥) (e : n ≡ 6 → ⊥) (f : n ≡ 7 → ⊥) where
   rest : kindOf n ≡ pick (unread n) Unread Other
   unfolding kindOf pick
-  rest = rw (ne-eqb n 1 a, ne-eqb n 2 b, ne-eqb n 4 c, ne-eqb n 5 d, ne-eqb n 6 e, ne-eqb n 7 f)
+  rest = rw (ne-eqb n 1 a, ne-eqb n 4 c, ne-eqb n 5 d, ne-eqb n 6 e, ne-eqb n 7 f)
 
   module _ (g : n ≡ 0x0A → ⊥) (h : n ≡ 0x0C → ⊥) where
     pub within : 0x10 ≤ n → n ≤ 0x18 → Unread ≡ kindOf n
@@ -42,6 +44,52 @@ module _ (n : ℕ) (a : n ≡ 1 → ⊥) (b : n ≡ 2 → ⊥) (c : n ≡ 4 → 
         rest-is : kindOf n ≡ Other
         rest-is = rest ∙ (rw (ne-eqb n 0x0A g, ne-eqb n 0x0C h, le-leb 0x10 n (omega arith), lt-leb n 0x18 l))
 
+-- ---- layouts: their fields lie within their lengths
+pub record Fits (l : Layout) : Type 0 where
+  pub numbered : 5 ≤ l .length
+  pub default : l .default < l .length
+  pub guided : l .guided ≡ true → 22 ≤ l .length
+  pub short : l .length ≤ 256
+  pub interval : l .interval + 4 ≤ 26
+  pub k : l .k < 26
+
+pub fits : (f : ℕ) → Fits (layoutOf f)
+unfolding layoutOf
+fits f = pick-all Fits (eqb f 4) uncompressed (pick (eqb f 6) mjpeg noLayout) four (pick-all Fits (eqb f 6) mjpeg noLayout six none)
+  where
+    four : Fits uncompressed
+    four = record { numbered = omega arith; default = omega arith; guided = λ h. omega arith; short = omega arith; interval = omega arith; k = omega arith }
+
+    six : Fits mjpeg
+    six = record { numbered = omega arith; default = omega arith; guided = λ h. absurd (true≢false (sym h)); short = omega arith; interval = omega arith; k = omega arith }
+
+    none : Fits noLayout
+    none = record { numbered = omega arith; default = omega arith; guided = λ h. omega arith; short = omega arith; interval = omega arith; k = omega arith }
+
+-- the layout of a kind that callees gave
+pub its-layout : (k : Kind) (f : ℕ) (l : Layout) → f ≡ formatOf k → l ≡ layoutOf f → l ≡ layoutOf (formatOf k)
+its-layout k f l e h = rw (← e) h
+
+module _ (f : ℕ) (l : Layout) (e : l ≡ layoutOf f) where
+  pub default-in : l .default < layoutOf f .length
+  default-in = rw e (fits f .default)
+
+  pub guided-in : (o n : ℕ) → o + layoutOf f .length ≤ n → l .guided ≡ true → o + 22 ≤ n
+  guided-in o n w h = omega (arith, fits f .guided (rw e at h))
+
+  pub interval-in : l .interval + 4 ≤ 26
+  interval-in = rw e (fits f .interval)
+
+  pub k-in : l .k < 26
+  k-in = rw e (fits f .k)
+
+  pub k-is : (s : List ℕ) (o k : ℕ) → k ≡ byte s o (l .k) → k ≡ kAt f s o
+  k-is s o k h = rw (← e) h
+
+pub no-layout : (f : ℕ) → (f ≡ 4 → ⊥) → (f ≡ 6 → ⊥) → noLayout ≡ layoutOf f
+unfolding layoutOf pick
+no-layout f a b = rw (ne-eqb f 4 a, ne-eqb f 6 b)
+
 -- ---- lengths
 module _ (s : List ℕ) (o len : ℕ) (l : len ≡ lenAt s o) where
   pub header-short : len < 13 → false ≡ shape Header s o
@@ -52,19 +100,23 @@ module _ (s : List ℕ) (o len : ℕ) (l : len ≡ lenAt s o) where
   unfolding shape
   header-long p n e f = rw (← l, e, f)
 
+  pub format-is : (f : ℕ) (r : Bool) → r ≡ eqb len (layoutOf f .length) → r ≡ shape (Formats f) s o
+  unfolding shape
+  format-is f r e = e ∙ (rw l)
+
   pub frame-short : (f : ℕ) → len < 26 → false ≡ shape (Frames f) s o
   unfolding shape
-  frame-short f h = rw (← l, ne-eqb len (frameLength (byte s o (kAt f))) (λ e. omega (arith, least (byte s o (kAt f)))))
+  frame-short f h = rw (← l, ne-eqb len (frameLengthAt f s o) (λ e. omega (arith, least (kAt f s o))))
     where
       least : (k : ℕ) → 26 ≤ frameLength k
       least zero = omega arith
       least (suc k) = omega arith
 
-  pub frame-steps : (f k : ℕ) → k ≡ byte s o (kAt f) → k ≡ 0 → eqb len 38 ≡ shape (Frames f) s o
+  pub frame-steps : (f k : ℕ) → k ≡ kAt f s o → k ≡ 0 → eqb len 38 ≡ shape (Frames f) s o
   unfolding shape
   frame-steps f k e z = rw (← l, ← e, z)
 
-  pub frame-list : (f k : ℕ) → k ≡ byte s o (kAt f) → (k ≡ 0 → ⊥) → eqb len (26 + 4 * k) ≡ shape (Frames f) s o
+  pub frame-list : (f k : ℕ) → k ≡ kAt f s o → (k ≡ 0 → ⊥) → eqb len (26 + 4 * k) ≡ shape (Frames f) s o
   unfolding shape
   frame-list f k e z = rw (← l, ← e) (go k z)
     where
@@ -77,22 +129,24 @@ module _ (s : List ℕ) (o n : ℕ) (w : o + lenAt s o ≤ n) where
   unfolding shape
   header-room h = omega (arith, eqb-true (lenAt s o) (13 + byte s o 3 * byte s o 12) h)
 
-  pub uncompressed-room : shape Uncompressed s o ≡ true → o + 27 ≤ n
+  pub format-room : (f : ℕ) → shape (Formats f) s o ≡ true → o + layoutOf f .length ≤ n
   unfolding shape
-  uncompressed-room h = omega (arith, eqb-true (lenAt s o) 27 h)
+  format-room f h = omega (arith, eqb-true (lenAt s o) (layoutOf f .length) h)
 
-  pub mjpeg-room : shape Mjpeg s o ≡ true → o + 11 ≤ n
+  pub frame-room : (f : ℕ) → shape (Frames f) s o ≡ true → o + frameLengthAt f s o ≤ n
   unfolding shape
-  mjpeg-room h = omega (arith, eqb-true (lenAt s o) 11 h)
-
-  pub frame-room : (f : ℕ) → shape (Frames f) s o ≡ true → o + frameLength (byte s o (kAt f)) ≤ n
-  unfolding shape
-  frame-room f h = omega (arith, eqb-true (lenAt s o) (frameLength (byte s o (kAt f))) h)
+  frame-room f h = omega (arith, eqb-true (lenAt s o) (frameLengthAt f s o) h)
 
 -- where the intervals of a frame lie
 pub length-span : (k : ℕ) → frameLength k ≡ 26 + span k
 length-span zero = refl
 length-span (suc k) = refl
+
+pub frame-long : (f : ℕ) (s : List ℕ) (o n : ℕ) → o + frameLengthAt f s o ≤ n → o + 26 ≤ n
+frame-long f s o n h = omega (arith, length-span (kAt f s o))
+
+pub span-room : (f : ℕ) (s : List ℕ) (o k n : ℕ) → o + frameLengthAt f s o ≤ n → k ≡ kAt f s o → o + 26 + span k ≤ n
+span-room f s o k n h e = rw e (omega (arith, length-span (kAt f s o)))
 
 pub product-fits : (a b : ℕ) → a < 256 → b < 256 → a * b ≤ 65025
 product-fits a b h k = mul-le-mul {n₁ = a} {m₁ = b} {n₂ = 255} {m₂ = 255} (omega arith) (omega arith)

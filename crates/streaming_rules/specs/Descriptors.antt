@@ -2,12 +2,14 @@
 use Prim.Native.Nat.{ℕ, zero, suc, _+_, _*_}
 use mathlib.Core.List.{List, [], _∷_}
 use mathlib.Core.Bool.{Bool, true, false, _&&_, _||_}
-use lib.ListN.{getD, take, drop}
+use lib.ListN.{take, drop}
 use lib.Dec.{leb, eqb}
 use Rattle.le.specs.Le.{byte, le16At, le32At}
 use Rattle.rules.specs.Pick.{pick}
+pub use Rattle.blocks.specs.Blocks.{lenAt}
 use Rattle.streaming_rules.specs.declared.Kind.{Kind}
-use Rattle.streaming_rules.specs.declared.Kind.the-variants.{Header, OutputHeader, Uncompressed, Mjpeg, Frames, Unread, Other}
+use Rattle.streaming_rules.specs.declared.Kind.the-variants.{Header, Formats, Frames, Unread, Other}
+use Rattle.streaming_rules.specs.declared.Layout.{Layout}
 use Rattle.streaming_rules.specs.declared.Format.{Format}
 use Rattle.streaming_rules.specs.declared.Frame.{Frame}
 
@@ -15,67 +17,66 @@ use Rattle.streaming_rules.specs.declared.Frame.{Frame}
 abbrev pub unread : ℕ → Bool
 unread n = eqb n 0x0A || (eqb n 0x0C || (leb 0x10 n && leb n 0x18))
 
--- What a subtype number says, with one case for everything unknown. A frame's kind names the subtype of the format that it stands under.
+-- What a subtype number says, with one case for everything unknown. Formats and frames go by the format's subtype: 4 uncompressed, 6 MJPEG.
 unfoldable pub kindOf : ℕ → Kind
 kindOf n =
     pick (eqb n 1) Header
-    (pick (eqb n 2) OutputHeader
-    (pick (eqb n 4) Uncompressed
+    (pick (eqb n 4) (Formats 4)
     (pick (eqb n 5) (Frames 4)
-    (pick (eqb n 6) Mjpeg
+    (pick (eqb n 6) (Formats 6)
     (pick (eqb n 7) (Frames 6)
-    (pick (unread n) Unread Other))))))
-
-abbrev pub lenAt : List ℕ → ℕ → ℕ
-lenAt s o = getD s o 0
+    (pick (unread n) Unread Other)))))
 
 abbrev pub kindAt : List ℕ → ℕ → Kind
 kindAt s o = kindOf (byte s o 2)
 
 abbrev pub isHeader : Kind → Bool
 isHeader Header = true
-isHeader OutputHeader = false
-isHeader Uncompressed = false
-isHeader Mjpeg = false
+isHeader (Formats f) = false
 isHeader (Frames f) = false
 isHeader Unread = false
 isHeader Other = false
 
 abbrev pub isFormat : Kind → Bool
 isFormat Header = false
-isFormat OutputHeader = false
-isFormat Uncompressed = true
-isFormat Mjpeg = true
+isFormat (Formats f) = true
 isFormat (Frames f) = false
 isFormat Unread = false
 isFormat Other = false
 
 abbrev pub isFrame : Kind → Bool
 isFrame Header = false
-isFrame OutputHeader = false
-isFrame Uncompressed = false
-isFrame Mjpeg = false
+isFrame (Formats f) = false
 isFrame (Frames f) = true
 isFrame Unread = false
 isFrame Other = false
 
--- the subtype of the format that a frame of the kind stands under; 0 for what is no frame
+-- the subtype of the format, or of the format that a frame of the kind stands under; 0 for what is neither
 abbrev pub formatOf : Kind → ℕ
 formatOf Header = 0
-formatOf OutputHeader = 0
-formatOf Uncompressed = 0
-formatOf Mjpeg = 0
+formatOf (Formats f) = f
 formatOf (Frames f) = f
 formatOf Unread = 0
 formatOf Other = 0
 
--- ---- where the fields of a frame stand, by the kind of its format
-abbrev pub defaultAt : ℕ → ℕ
-defaultAt f = 21
+-- ---- where the fields stand that differ from kind to kind, a line for each; no descriptor has the length of what is none
+abbrev pub uncompressed : Layout
+uncompressed = record { length = 27; guided = true; default = 22; sized = true; interval = 21; k = 25 }
 
-abbrev pub kAt : ℕ → ℕ
-kAt f = 25
+abbrev pub mjpeg : Layout
+mjpeg = record { length = 11; guided = false; default = 6; sized = true; interval = 21; k = 25 }
 
+abbrev pub noLayout : Layout
+noLayout = record { length = 256; guided = false; default = 6; sized = true; interval = 21; k = 25 }
+
+-- by the format's subtype
+unfoldable pub layoutOf : ℕ → Layout
+layoutOf f =
+    pick (eqb f 4) uncompressed
+    (pick (eqb f 6) mjpeg
+    noLayout)
+
+-- the intervals of a frame of every kind stand at 26
 abbrev pub intervalsAt : ℕ
 intervalsAt = 26
 
@@ -84,13 +85,18 @@ abbrev pub frameLength : ℕ → ℕ
 frameLength zero = 38
 frameLength (suc k) = 26 + 4 * suc k
 
+-- k, and the length, of the frame at o under a format of subtype f
+abbrev pub kAt : ℕ → List ℕ → ℕ → ℕ
+kAt f s o = byte s o (layoutOf f .k)
+
+abbrev pub frameLengthAt : ℕ → List ℕ → ℕ → ℕ
+frameLengthAt f s o = frameLength (kAt f s o)
+
 -- ---- the lengths, a line for each row of document 01
 unfoldable pub shape : Kind → List ℕ → ℕ → Bool
 shape Header s o = eqb (lenAt s o) (13 + byte s o 3 * byte s o 12)
-shape OutputHeader s o = true
-shape Uncompressed s o = eqb (lenAt s o) 27
-shape Mjpeg s o = eqb (lenAt s o) 11
-shape (Frames f) s o = eqb (lenAt s o) (frameLength (byte s o (kAt f)))
+shape (Formats f) s o = eqb (lenAt s o) (layoutOf f .length)
+shape (Frames f) s o = eqb (lenAt s o) (frameLengthAt f s o)
 shape Unread s o = true
 shape Other s o = true
 
@@ -124,18 +130,27 @@ noFormat = record { kind = 0; guid = 0; bits = 0; frames = 0; default = 0; offse
 abbrev pub noFrame : Frame
 noFrame = record { format = 0; k = 0; width = 0; height = 0; offset = 0; size = 0; interval = 0 }
 
--- an MJPEG format has no GUID and no bits per pixel
-unfoldable pub formatAt : Kind → List ℕ → ℕ → Format
-formatAt Header s o = noFormat
-formatAt OutputHeader s o = noFormat
-formatAt Uncompressed s o = record { kind = 4; guid = sortOf (guidAt s o); bits = byte s o 21; frames = byte s o 4; default = byte s o 22; offset = o }
-formatAt Mjpeg s o = record { kind = 6; guid = 0; bits = 0; frames = byte s o 4; default = byte s o 6; offset = o }
-formatAt (Frames f) s o = noFormat
-formatAt Unread s o = noFormat
-formatAt Other s o = noFormat
+-- a format of subtype f; one without a GUID has sort 0 and 0 bits per pixel
+unfoldable pub formatAt : ℕ → List ℕ → ℕ → Format
+formatAt f s o =
+    record {
+      kind = f;
+      guid = pick (layoutOf f .guided) (sortOf (guidAt s o)) 0;
+      bits = pick (layoutOf f .guided) (byte s o 21) 0;
+      frames = byte s o 4;
+      default = byte s o (layoutOf f .default);
+      offset = o;
+    }
 
--- a frame under format n
-unfoldable pub frameAt : ℕ → List ℕ → ℕ → Frame
-frameAt n s o =
-    let f = formatOf (kindAt s o) in
-    record { format = n; k = byte s o (kAt f); width = le16At s (o + 5); height = le16At s (o + 7); offset = o; size = le32At s (o + 17); interval = le32At s (o + defaultAt f) }
+-- a frame under format number n, of subtype f; one without a buffer size has 0
+unfoldable pub frameAt : ℕ → ℕ → List ℕ → ℕ → Frame
+frameAt f n s o =
+    record {
+      format = n;
+      k = kAt f s o;
+      width = le16At s (o + 5);
+      height = le16At s (o + 7);
+      offset = o;
+      size = pick (layoutOf f .sized) (le32At s (o + 17)) 0;
+      interval = le32At s (o + layoutOf f .interval);
+    }

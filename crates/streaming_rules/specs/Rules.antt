@@ -1,66 +1,42 @@
--- Rules 20 to 35 of document 01: of the block as a whole, and of the descriptor at an offset. A flag is up where its rule is broken.
-use Prim.Native.Nat.{ℕ, _+_, _-_, _/_, _%_, _^_}
+-- Rules 20 to 35 of document 01, each with its number: of the block as a whole, and of the descriptor at an offset.
+use Prim.Native.Nat.{ℕ, _+_, _/_, _%_, _^_}
 use mathlib.Core.List.{List, [], _∷_}
 use mathlib.Core.Bool.{Bool, true, false, not, _&&_, _||_}
-use lib.ListN.{length, getD}
 use lib.Dec.{ltb, leb, eqb}
-use Rattle.le.specs.Le.{byte, le16At, le32At}
-use Rattle.rules.specs.Numbered.{firstFrom}
+use Rattle.le.specs.Le.{byte, le32At}
+use Rattle.rules.specs.Numbered.{Row, row}
+use Rattle.blocks.specs.Blocks.{wholeRows, lengthBroken, typeBroken}
+use Rattle.blocks.specs.declared.Limits.{Limits}
+use Rattle.entities.specs.Table.{entitiesMost}
 use Rattle.intervals.specs.Intervals.{offered}
-use Rattle.streaming_rules.specs.Descriptors.{lenAt, kindAt, isHeader, isFormat, isFrame, formatOf, shape, defaultAt, kAt, intervalsAt}
+use Rattle.streaming_rules.specs.Descriptors.{kindAt, isHeader, isFormat, isFrame, formatOf, shape, layoutOf, kAt, intervalsAt}
 use Rattle.streaming_rules.specs.declared.Sofar.{Sofar}
 use Rattle.streaming_rules.specs.declared.Kind.{Kind}
-use Rattle.streaming_rules.specs.declared.Kind.the-variants.{Header, OutputHeader, Uncompressed, Mjpeg, Frames, Unread, Other}
+use Rattle.streaming_rules.specs.declared.Kind.the-variants.{Header, Formats, Frames, Unread, Other}
 
 -- ours
-abbrev pub entitiesMost : ℕ
-entitiesMost = 32
-
-abbrev pub blockMost : ℕ
-blockMost = 16_384
-
 abbrev pub formatsMost : ℕ
 formatsMost = 8
 
 abbrev pub framesMost : ℕ
 framesMost = 64
 
--- 20 to 24, of the block, with the number of entities that the table says
-unfoldable pub headFlags : ℕ → List ℕ → List Bool
-headFlags entities s =
-    -- 20, 21, 22
-    ltb entitiesMost entities
-    ∷ ltb (length s) 13
-    ∷ ltb blockMost (length s)
-    -- 23, 24
-    ∷ not (eqb (getD s 1 0) 0x24 && eqb (getD s 2 0) 1)
-    ∷ not (eqb (le16At s 4) (length s))
-    ∷ []
+-- 21 to 24: as 1 to 4, with 13 and 16,384, and wTotalLength at 4
+abbrev pub limits : Limits
+limits = record { least = 13; most = 16_384; total = 4; first = 21 }
 
--- 25: bLength under 3 or past the end
-unfoldable pub lengthBroken : List ℕ → ℕ → Bool
-lengthBroken s o = ltb (lenAt s o) 3 || ltb (length s) (o + lenAt s o)
+-- 20, with the number of entities that the table says; 21 to 24
+unfoldable pub headRows : ℕ → List ℕ → List Row
+headRows entities s = row 20 (ltb entitiesMost entities) ∷ wholeRows limits s
 
--- 26: a second header, or an output header
-abbrev pub headerBroken : Kind → ℕ → Bool
-headerBroken Header o = not (eqb o 0)
-headerBroken OutputHeader o = true
-headerBroken Uncompressed o = false
-headerBroken Mjpeg o = false
-headerBroken (Frames f) o = false
-headerBroken Unread o = false
-headerBroken Other o = false
-
--- 26: the type is not 0x24, or one of those
-unfoldable pub typeBroken : List ℕ → ℕ → Bool
-typeBroken s o = not (eqb (byte s o 1) 0x24) || headerBroken (kindAt s o) o
+-- 26: subtype 2 too
+abbrev pub outputHeader : ℕ
+outputHeader = 2
 
 -- 27: a kind that is refused
 abbrev pub isUnread : Kind → Bool
 isUnread Header = false
-isUnread OutputHeader = false
-isUnread Uncompressed = false
-isUnread Mjpeg = false
+isUnread (Formats f) = false
 isUnread (Frames f) = false
 isUnread Unread = true
 isUnread Other = false
@@ -71,45 +47,41 @@ inward endpoint = eqb (endpoint / 2 ^ 7 % 2) 1
 
 -- 32: no format yet, or the last one is of another kind
 unfoldable pub misplaced : ℕ → Sofar → Bool
-misplaced f a = eqb (a .formats) 0 || not (eqb (a .under) f)
+misplaced f a = eqb (a .formats) 0 || not (eqb (a .last .kind) f)
 
--- the frame at o offers x as an interval
-unfoldable pub offersAt : List ℕ → ℕ → ℕ → Bool
-offersAt s o x = offered s (o + intervalsAt) (byte s o (kAt (formatOf (kindAt s o)))) x
+-- the frame at o, under a format of subtype f, offers x as an interval
+unfoldable pub offersUnder : ℕ → List ℕ → ℕ → ℕ → Bool
+offersUnder f s o x = offered s (o + intervalsAt) (kAt f s o) x
+
+-- the same by the descriptor's own subtype
+abbrev pub offersAt : List ℕ → ℕ → ℕ → Bool
+offersAt s o x = offersUnder (formatOf (kindAt s o)) s o x
 
 -- 34: the default interval is one that the frame offers
-abbrev pub defaultOffered : List ℕ → ℕ → Bool
-defaultOffered s o = offersAt s o (le32At s (o + defaultAt (formatOf (kindAt s o))))
+abbrev pub defaultOffered : ℕ → List ℕ → ℕ → Bool
+defaultOffered f s o = offersUnder f s o (le32At s (o + layoutOf f .interval))
 
 -- 29 to 35, by the kind
-unfoldable pub kindFlags : Kind → List ℕ → ℕ → Sofar → List Bool
-kindFlags k s o a =
-    -- 29, 30: the header's endpoint and link
-    (isHeader k && not (inward (byte s o 6)))
-    ∷ (isHeader k && not (a .linked))
-    -- 31: the format's number
-    ∷ (isFormat k && not (eqb (byte s o 3) (a .formats + 1)))
-    -- 32, 33, 34: the frame's place, number and intervals
-    ∷ (isFrame k && misplaced (formatOf k) a)
-    ∷ (isFrame k && not (eqb (byte s o 3) (a .numbered + 1)))
-    ∷ (isFrame k && not (defaultOffered s o))
-    -- 35: a ninth format or a 65th frame
-    ∷ ((isFormat k && leb formatsMost (a .formats)) || (isFrame k && leb framesMost (a .frames)))
+unfoldable pub kindRows : Kind → List ℕ → ℕ → Sofar → List Row
+kindRows k s o a =
+    -- the header's endpoint and link
+    row 29 (isHeader k && not (inward (byte s o 6)))
+    ∷ row 30 (isHeader k && not (a .linked))
+    -- the format's number
+    ∷ row 31 (isFormat k && not (eqb (byte s o 3) (a .formats + 1)))
+    -- the frame's place, number and intervals
+    ∷ row 32 (isFrame k && misplaced (formatOf k) a)
+    ∷ row 33 (isFrame k && not (eqb (byte s o 3) (a .numbered + 1)))
+    ∷ row 34 (isFrame k && not (defaultOffered (formatOf k) s o))
+    -- a ninth format or a 65th frame
+    ∷ row 35 ((isFormat k && leb formatsMost (a .formats)) || (isFrame k && leb framesMost (a .frames)))
     ∷ []
 
--- 25 to 35, of the descriptor at o
-unfoldable pub flags : List ℕ → ℕ → Sofar → List Bool
-flags s o a =
-    -- 25, 26, 27, 28
-    lengthBroken s o
-    ∷ typeBroken s o
-    ∷ isUnread (kindAt s o)
-    ∷ not (shape (kindAt s o) s o)
-    -- 29 to 35
-    ∷ kindFlags (kindAt s o) s o a
-
-unfoldable pub headRule : ℕ → List ℕ → ℕ
-headRule entities s = firstFrom 20 (headFlags entities s)
-
-unfoldable pub ruleAt : List ℕ → ℕ → Sofar → ℕ
-ruleAt s o a = firstFrom 25 (flags s o a)
+-- 25 to 35, of the descriptor at o: 25, 26 as 5, 6
+unfoldable pub rows : List ℕ → ℕ → Sofar → List Row
+rows s o a =
+    row 25 (lengthBroken s o)
+    ∷ row 26 (typeBroken s o || eqb (byte s o 2) outputHeader)
+    ∷ row 27 (isUnread (kindAt s o))
+    ∷ row 28 (not (shape (kindAt s o) s o))
+    ∷ kindRows (kindAt s o) s o a

@@ -2,33 +2,51 @@
 ghost use mathlib.Core.Path.{_≡_};
 ghost use mathlib.Core.Bool.{true};
 ghost use Prim.Native.Nat.{_+_, _≤_, _<_};
-ghost use lib.ListN.{length, getD, take, drop};
-ghost use Rattle.le.specs.Le.{byte};
-ghost use Rattle.rules.specs.Numbered.{firstFrom};
-ghost use Rattle.streaming_rules.specs.Descriptors.{kindOf, kindAt, lenAt, shape, frameLength, kAt, sortOf, guidAt, noFormat, noFrame, formatAt, frameAt, isFormat, isFrame};
-ghost use Rattle.streaming_rules.specs.Rules.{headRule, headerBroken, isUnread, misplaced, offersAt, defaultOffered, kindFlags, ruleAt};
-
-pub const ENTITIES_MOST: usize = 32;
-
-pub const BLOCK_MOST: usize = 16_384;
+ghost use lib.ListN.{length};
+ghost use lib.Dec.{eqb};
+ghost use Rattle.le.specs.Le.{byte, le32At};
+ghost use Rattle.rules.specs.Pick.{pick};
+ghost use Rattle.rules.specs.Numbered.{firstRow};
+ghost use Rattle.streaming_rules.specs.Descriptors.{kindOf, kindAt, lenAt, shape, layoutOf, frameLengthAt, sortOf, guidAt, noFormat, noFrame, formatAt, frameAt, isFormat, isFrame, formatOf};
+ghost use Rattle.streaming_rules.specs.Rules.{headRows, isUnread, misplaced, offersUnder, offersAt, defaultOffered, kindRows, rows};
+use blocks::Limits;
+use entities::ENTITIES_MOST;
 
 pub const FORMATS_MOST: usize = 8;
 
 pub const FRAMES_MOST: usize = 64;
 
+const LIMITS: Limits = Limits {
+    least: 13,
+    most: 16_384,
+    total: 4,
+    first: 21,
+};
+
+const OUTPUT_HEADER: u8 = 2;
+
 const YUY2: [u8; 16] = *b"YUY2\x00\x00\x10\x00\x80\x00\x00\xAA\x00\x38\x9B\x71";
 
 const NV12: [u8; 16] = *b"NV12\x00\x00\x10\x00\x80\x00\x00\xAA\x00\x38\x9B\x71";
 
-// What a subtype number says. A frame names the subtype of the format that it stands under.
+// What a subtype number says. Formats and frames go by the format's subtype.
 pub enum Kind {
     Header,
-    OutputHeader,
-    Uncompressed,
-    Mjpeg,
+    Formats(u8),
     Frames(u8),
     Unread,
     Other,
+}
+
+// Where the fields stand that differ from kind to kind. A format: its length, whether it has a GUID and bits per pixel, and its default frame.
+// Its frames: whether they have a buffer size, the default interval, and k.
+struct Layout {
+    length: usize,
+    guided: bool,
+    default: usize,
+    sized: bool,
+    interval: usize,
+    k: usize,
 }
 
 // A format: its subtype (4 or 6), its GUID (1 YUY2, 2 NV12, 3 other, 0 for MJPEG), and where its descriptor stands.
@@ -53,12 +71,12 @@ pub struct Frame {
 }
 
 // What the descriptors before one leave to its rules: whether the header's link is good, how many formats and frames came,
-// the subtype of the last format, and how many frames stand under it.
+// the last format, and how many frames stand under it.
 pub struct Sofar {
     pub linked: bool,
     pub formats: usize,
     pub frames: usize,
-    pub under: u8,
+    pub last: Format,
     pub numbered: u8,
 }
 
@@ -68,14 +86,45 @@ pub fn kind_of(sub: u8) -> Kind
 {
     match sub {
         1 => Kind::Header,
-        2 => Kind::OutputHeader,
-        4 => Kind::Uncompressed,
+        4 => Kind::Formats(4),
         5 => Kind::Frames(4),
-        6 => Kind::Mjpeg,
+        6 => Kind::Formats(6),
         7 => Kind::Frames(6),
         0x0A | 0x0C => Kind::Unread,
         0x10..=0x18 => Kind::Unread,
         _ => Kind::Other,
+    }
+}
+
+// The layout, by the format's subtype; one that no descriptor has where there is none.
+fn layout_of(format: u8) -> Layout
+    ensures { λ r. ⌜ r ≡ layoutOf format ⌝ }
+{
+    match format {
+        4 => Layout {
+            length: 27,
+            guided: true,
+            default: 22,
+            sized: true,
+            interval: 21,
+            k: 25,
+        },
+        6 => Layout {
+            length: 11,
+            guided: false,
+            default: 6,
+            sized: true,
+            interval: 21,
+            k: 25,
+        },
+        _ => Layout {
+            length: 256,
+            guided: false,
+            default: 6,
+            sized: true,
+            interval: 21,
+            k: 25,
+        },
     }
 }
 
@@ -106,6 +155,14 @@ fn header_shape(s: &[u8], at: usize, len: usize) -> bool
     len == 13 + le::wide(s[at + 3]) * le::wide(s[at + 12])
 }
 
+// The length of a format.
+fn format_shape(len: usize, format: u8) -> bool
+    ensures { λ r. ⌜ r ≡ eqb len (layoutOf format .length) ⌝ }
+{
+    let l = layout_of(format);
+    len == l.length
+}
+
 // The length of a frame: 38, or 26 and four for each interval.
 fn frame_shape(s: &[u8], at: usize, len: usize, format: u8) -> bool
     requires { ⌜ (len ≡ lenAt (now s) at) × (at + len ≤ length (now s)) ⌝ }
@@ -114,7 +171,9 @@ fn frame_shape(s: &[u8], at: usize, len: usize, format: u8) -> bool
     if len < 26 {
         return false;
     }
-    let k = le::wide(s[at + 25]);
+    let l = layout_of(format);
+    let place = at + l.k;
+    let k = le::wide(s[place]);
     if k == 0 {
         return len == 38;
     }
@@ -128,27 +187,10 @@ fn shape_ok(s: &[u8], at: usize, len: usize, kind: Kind) -> bool
 {
     match kind {
         Kind::Header => header_shape(s, at, len),
-        Kind::OutputHeader => true,
-        Kind::Uncompressed => len == 27,
-        Kind::Mjpeg => len == 11,
+        Kind::Formats(format) => format_shape(len, format),
         Kind::Frames(format) => frame_shape(s, at, len, format),
         Kind::Unread => true,
         Kind::Other => true,
-    }
-}
-
-// 26: a second header, or an output header.
-fn header_broken(kind: Kind, at: usize) -> bool
-    ensures { λ r. ⌜ r ≡ headerBroken kind at ⌝ }
-{
-    match kind {
-        Kind::Header => at != 0,
-        Kind::OutputHeader => true,
-        Kind::Uncompressed => false,
-        Kind::Mjpeg => false,
-        Kind::Frames(_) => false,
-        Kind::Unread => false,
-        Kind::Other => false,
     }
 }
 
@@ -158,9 +200,7 @@ fn is_unread(kind: Kind) -> bool
 {
     match kind {
         Kind::Header => false,
-        Kind::OutputHeader => false,
-        Kind::Uncompressed => false,
-        Kind::Mjpeg => false,
+        Kind::Formats(_) => false,
         Kind::Frames(_) => false,
         Kind::Unread => true,
         Kind::Other => false,
@@ -172,9 +212,7 @@ pub fn is_format(kind: Kind) -> bool
 {
     match kind {
         Kind::Header => false,
-        Kind::OutputHeader => false,
-        Kind::Uncompressed => true,
-        Kind::Mjpeg => true,
+        Kind::Formats(_) => true,
         Kind::Frames(_) => false,
         Kind::Unread => false,
         Kind::Other => false,
@@ -186,19 +224,30 @@ pub fn is_frame(kind: Kind) -> bool
 {
     match kind {
         Kind::Header => false,
-        Kind::OutputHeader => false,
-        Kind::Uncompressed => false,
-        Kind::Mjpeg => false,
+        Kind::Formats(_) => false,
         Kind::Frames(_) => true,
         Kind::Unread => false,
         Kind::Other => false,
     }
 }
 
+// The format's subtype, of a format or a frame; 0 of what is neither.
+fn format_of(kind: Kind) -> u8
+    ensures { λ r. ⌜ r ≡ formatOf kind ⌝ }
+{
+    match kind {
+        Kind::Header => 0,
+        Kind::Formats(format) => format,
+        Kind::Frames(format) => format,
+        Kind::Unread => 0,
+        Kind::Other => 0,
+    }
+}
+
 // 29 and 30, of the header.
 fn header_rule(s: &[u8], at: usize, a: Sofar) -> u8
     requires { ⌜ at + 13 ≤ length (now s) ⌝ }
-    ensures { λ r. ⌜ r ≡ firstFrom 29 (kindFlags Kind.Header (now (s .entry)) at a) ⌝ }
+    ensures { λ r. ⌜ r ≡ firstRow (kindRows Kind.Header (now (s .entry)) at a) ⌝ }
 {
     let endpoint = s[at + 6];
     if (endpoint >> 7) % 2 != 1 {
@@ -211,9 +260,9 @@ fn header_rule(s: &[u8], at: usize, a: Sofar) -> u8
 }
 
 // 31 and 35, of a format.
-fn format_rule(s: &[u8], at: usize, a: Sofar) -> u8
-    requires { ⌜ (at + 11 ≤ length (now s)) × (a .formats ≤ 8) ⌝ }
-    ensures { λ r. ⌜ r ≡ firstFrom 29 (kindFlags Kind.Uncompressed (now (s .entry)) at a) ⌝ }
+fn format_rule(s: &[u8], at: usize, format: u8, a: Sofar) -> u8
+    requires { ⌜ (at + layoutOf format .length ≤ length (now s)) × (a .formats ≤ 8) ⌝ }
+    ensures { λ r. ⌜ r ≡ firstRow (kindRows (Kind.Formats format) (now (s .entry)) at a) ⌝ }
 {
     if le::wide(s[at + 3]) != a.formats + 1 {
         return 31;
@@ -231,30 +280,44 @@ fn is_misplaced(format: u8, a: Sofar) -> bool
     if a.formats == 0 {
         return true;
     }
-    a.under != format
+    a.last.kind != format
 }
 
-// Inner: whether the frame at `at` offers x as an interval. The callers have looked at its length.
-pub fn offers_at(s: &[u8], at: usize, x: u32) -> bool
-    requires { ⌜ at + frameLength (byte (now s) at 25) ≤ length (now s) ⌝ }
-    ensures { λ r. ⌜ r ≡ offersAt (now (s .entry)) at x ⌝ }
+// Whether the frame at `at`, under a format of this subtype, offers x as an interval.
+fn offers_under(s: &[u8], at: usize, format: u8, x: u32) -> bool
+    requires { ⌜ at + frameLengthAt format (now s) at ≤ length (now s) ⌝ }
+    ensures { λ r. ⌜ r ≡ offersUnder format (now (s .entry)) at x ⌝ }
 {
-    let k = le::wide(s[at + 25]);
+    let l = layout_of(format);
+    let place = at + l.k;
+    let k = le::wide(s[place]);
     intervals::offers(s, at + 26, k, x)
 }
 
-// 34: the default interval is one that the frame offers.
-fn default_offered(s: &[u8], at: usize) -> bool
-    requires { ⌜ at + frameLength (byte (now s) at 25) ≤ length (now s) ⌝ }
-    ensures { λ r. ⌜ r ≡ defaultOffered (now (s .entry)) at ⌝ }
+// Inner: the same by the descriptor's own subtype. The callers have looked at its length.
+pub fn offers_at(s: &[u8], at: usize, x: u32) -> bool
+    requires { ⌜ at + frameLengthAt (formatOf (kindAt (now s) at)) (now s) at ≤ length (now s) ⌝ }
+    ensures { λ r. ⌜ r ≡ offersAt (now (s .entry)) at x ⌝ }
 {
-    offers_at(s, at, le::le32(s, at + 21))
+    let kind = kind_of(s[at + 2]);
+    let format = format_of(kind);
+    offers_under(s, at, format, x)
+}
+
+// 34: the default interval is one that the frame offers.
+fn default_offered(s: &[u8], at: usize, format: u8) -> bool
+    requires { ⌜ at + frameLengthAt format (now s) at ≤ length (now s) ⌝ }
+    ensures { λ r. ⌜ r ≡ defaultOffered format (now (s .entry)) at ⌝ }
+{
+    let l = layout_of(format);
+    let place = at + l.interval;
+    offers_under(s, at, format, le::le32(s, place))
 }
 
 // 32 to 35, of a frame.
 fn frame_rule(s: &[u8], at: usize, format: u8, a: Sofar) -> u8
-    requires { ⌜ at + frameLength (byte (now s) at (kAt format)) ≤ length (now s) ⌝ }
-    ensures { λ r. ⌜ r ≡ firstFrom 29 (kindFlags (Kind.Frames format) (now (s .entry)) at a) ⌝ }
+    requires { ⌜ at + frameLengthAt format (now s) at ≤ length (now s) ⌝ }
+    ensures { λ r. ⌜ r ≡ firstRow (kindRows (Kind.Frames format) (now (s .entry)) at a) ⌝ }
 {
     if is_misplaced(format, a) {
         return 32;
@@ -262,7 +325,7 @@ fn frame_rule(s: &[u8], at: usize, format: u8, a: Sofar) -> u8
     if le::wide(s[at + 3]) != le::wide(a.numbered) + 1 {
         return 33;
     }
-    let offered = default_offered(s, at);
+    let offered = default_offered(s, at, format);
     if !offered {
         return 34;
     }
@@ -276,13 +339,11 @@ fn frame_rule(s: &[u8], at: usize, format: u8, a: Sofar) -> u8
 fn kind_rule(s: &[u8], at: usize, kind: Kind, a: Sofar) -> u8
     requires { ⌜ (shape kind (now s) at ≡ true) × (at + lenAt (now s) at ≤ length (now s)) ⌝ }
     requires { ⌜ a .formats ≤ 8 ⌝ }
-    ensures { λ r. ⌜ r ≡ firstFrom 29 (kindFlags kind (now (s .entry)) at a) ⌝ }
+    ensures { λ r. ⌜ r ≡ firstRow (kindRows kind (now (s .entry)) at a) ⌝ }
 {
     match kind {
         Kind::Header => header_rule(s, at, a),
-        Kind::OutputHeader => 0,
-        Kind::Uncompressed => format_rule(s, at, a),
-        Kind::Mjpeg => format_rule(s, at, a),
+        Kind::Formats(format) => format_rule(s, at, format, a),
         Kind::Frames(format) => frame_rule(s, at, format, a),
         Kind::Unread => 0,
         Kind::Other => 0,
@@ -292,25 +353,23 @@ fn kind_rule(s: &[u8], at: usize, kind: Kind, a: Sofar) -> u8
 // Inner: the first of 25 to 35 that the descriptor at `at` breaks; 0 where none is broken.
 pub fn rule_at(s: &[u8], at: usize, a: Sofar) -> u8
     requires { ⌜ (at < length (now s)) × (a .formats ≤ 8) ⌝ }
-    ensures { λ r. ⌜ r ≡ ruleAt (now (s .entry)) at a ⌝ }
+    ensures { λ r. ⌜ r ≡ firstRow (rows (now (s .entry)) at a) ⌝ }
 {
-    let len = le::wide(s[at]);
-    if len < 3 {
+    if blocks::length_broken(s, at) {
         return 25;
     }
-    if s.len() - at < len {
-        return 25;
-    }
-    if s[at + 1] != 0x24 {
+    if blocks::type_broken(s, at) {
         return 26;
     }
-    let kind = kind_of(s[at + 2]);
-    if header_broken(kind, at) {
+    let sub = s[at + 2];
+    if sub == OUTPUT_HEADER {
         return 26;
     }
+    let kind = kind_of(sub);
     if is_unread(kind) {
         return 27;
     }
+    let len = le::wide(s[at]);
     let shaped = shape_ok(s, at, len, kind);
     if !shaped {
         return 28;
@@ -320,46 +379,12 @@ pub fn rule_at(s: &[u8], at: usize, a: Sofar) -> u8
 
 // The first of 20 to 24 that the block breaks; 0 where none is broken.
 pub fn head_rule(entities: usize, s: &[u8]) -> u8
-    ensures { λ r. ⌜ r ≡ headRule entities (now (s .entry)) ⌝ }
+    ensures { λ r. ⌜ r ≡ firstRow (headRows entities (now (s .entry))) ⌝ }
 {
-    let n = s.len();
     if ENTITIES_MOST < entities {
         return 20;
     }
-    if n < 13 {
-        return 21;
-    }
-    if BLOCK_MOST < n {
-        return 22;
-    }
-    if s[1] != 0x24 {
-        return 23;
-    }
-    if s[2] != 1 {
-        return 23;
-    }
-    let total = le::le16(s, 4) as usize;
-    if total != n {
-        return 24;
-    }
-    0
-}
-
-// Inner: what a format's descriptor gives.
-pub fn format_at(s: &[u8], at: usize, kind: Kind) -> Format
-    requires { ⌜ (shape kind (now s) at ≡ true) × (at + lenAt (now s) at ≤ length (now s)) ⌝ }
-    requires { ⌜ length (now s) ≤ 16384 ⌝ }
-    ensures { λ r. ⌜ r ≡ formatAt kind (now (s .entry)) at ⌝ }
-{
-    match kind {
-        Kind::Header => no_format(),
-        Kind::OutputHeader => no_format(),
-        Kind::Uncompressed => uncompressed_at(s, at),
-        Kind::Mjpeg => mjpeg_at(s, at),
-        Kind::Frames(_) => no_format(),
-        Kind::Unread => no_format(),
-        Kind::Other => no_format(),
-    }
+    blocks::whole_rule(s, LIMITS)
 }
 
 pub fn no_format() -> Format
@@ -389,50 +414,75 @@ pub fn no_frame() -> Frame
     }
 }
 
-// The uncompressed format at `at`.
-fn uncompressed_at(s: &[u8], at: usize) -> Format
-    requires { ⌜ (at + 27 ≤ length (now s)) × (length (now s) ≤ 16384) ⌝ }
-    ensures { λ r. ⌜ r ≡ formatAt Kind.Uncompressed (now (s .entry)) at ⌝ }
+// The GUID's sort of the format at `at`, or 0.
+fn guid_at(s: &[u8], at: usize, guided: bool) -> u8
+    requires { ⌜ (guided ≡ true → at + 22 ≤ length (now s)) ⌝ }
+    ensures { λ r. ⌜ r ≡ pick guided (sortOf (guidAt (now (s .entry)) at)) 0 ⌝ }
 {
-    let guid = guid_sort(s, at);
+    if guided {
+        return guid_sort(s, at);
+    }
+    0
+}
+
+// Its bits per pixel, or 0.
+fn bits_at(s: &[u8], at: usize, guided: bool) -> u8
+    requires { ⌜ (guided ≡ true → at + 22 ≤ length (now s)) ⌝ }
+    ensures { λ r. ⌜ r ≡ pick guided (byte (now (s .entry)) at 21) 0 ⌝ }
+{
+    if guided {
+        return s[at + 21];
+    }
+    0
+}
+
+// Inner: what a format's descriptor gives.
+pub fn format_at(s: &[u8], at: usize, kind: Kind) -> Format
+    requires { ⌜ (at + layoutOf (formatOf kind) .length ≤ length (now s)) × (length (now s) ≤ 16384) ⌝ }
+    ensures { λ r. ⌜ r ≡ formatAt (formatOf kind) (now (s .entry)) at ⌝ }
+{
+    let format = format_of(kind);
+    let l = layout_of(format);
+    let default = at + l.default;
+    let guid = guid_at(s, at, l.guided);
+    let bits = bits_at(s, at, l.guided);
     Format {
-        kind: 4,
+        kind: format,
         guid,
-        bits: s[at + 21],
+        bits,
         frames: s[at + 4],
-        default: s[at + 22],
+        default: s[default],
         offset: at as u16,
     }
 }
 
-// The MJPEG format at `at`.
-fn mjpeg_at(s: &[u8], at: usize) -> Format
-    requires { ⌜ (at + 11 ≤ length (now s)) × (length (now s) ≤ 16384) ⌝ }
-    ensures { λ r. ⌜ r ≡ formatAt Kind.Mjpeg (now (s .entry)) at ⌝ }
+// The buffer size of the frame at `at`, or 0.
+fn size_at(s: &[u8], at: usize, sized: bool) -> u32
+    requires { ⌜ at + 26 ≤ length (now s) ⌝ }
+    ensures { λ r. ⌜ r ≡ pick sized (le32At (now (s .entry)) (at + 17)) 0 ⌝ }
 {
-    Format {
-        kind: 6,
-        guid: 0,
-        bits: 0,
-        frames: s[at + 4],
-        default: s[at + 6],
-        offset: at as u16,
+    if sized {
+        return le::le32(s, at + 17);
     }
+    0
 }
 
 // Inner: what a frame's descriptor gives, under format `number`.
-pub fn frame_at(s: &[u8], at: usize, number: usize) -> Frame
+pub fn frame_at(s: &[u8], at: usize, kind: Kind, number: usize) -> Frame
     requires { ⌜ (at + 26 ≤ length (now s)) × (length (now s) ≤ 16384) ⌝ }
     requires { ⌜ number ≤ 8 ⌝ }
-    ensures { λ r. ⌜ r ≡ frameAt number (now (s .entry)) at ⌝ }
+    ensures { λ r. ⌜ r ≡ frameAt (formatOf kind) number (now (s .entry)) at ⌝ }
 {
+    let format = format_of(kind);
+    let l = layout_of(format);
+    let k = at + l.k;
     let width = le::le16(s, at + 5);
     let height = le::le16(s, at + 7);
-    let size = le::le32(s, at + 17);
-    let interval = le::le32(s, at + 21);
+    let size = size_at(s, at, l.sized);
+    let interval = le::le32(s, at + l.interval);
     Frame {
         format: number as u8,
-        k: s[at + 25],
+        k: s[k],
         width,
         height,
         offset: at as u16,

@@ -1,4 +1,4 @@
-use Rattle.control.proofs.Walking.{head-bad}
+use Rattle.control.proofs.Walking.{head-bad, head-right}
 use borrow.Author.Needs.{needs}
 use Rattle.control.proofs.read.Statement.{statement}
 use Rattle.control.proofs.read.Tie as tie
@@ -13,7 +13,7 @@ returns : tie.Need-returns
 returns c = search head-bad
 
 walk-requires : tie.Need-walk-requires
-walk-requires c κs = search needs
+walk-requires c κs = search head-right
 
 returns-2 : tie.Need-returns-2
 returns-2 c = search needs

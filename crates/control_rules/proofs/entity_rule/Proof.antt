@@ -1,4 +1,6 @@
-use Rattle.control_rules.proofs.Ladder.{entity-room, no-entity, rule-9, rule-10, rule-11, rule-12, rule-none}
+use Rattle.rules.proofs.Ladder.{rungs}
+use Rattle.control_rules.specs.Rules.{entityRows}
+use Rattle.control_rules.proofs.Ladder.{entity-room, no-entity, and-is}
 use borrow.Author.Needs.{needs}
 use Rattle.control_rules.proofs.entity_rule.Statement.{statement}
 use Rattle.control_rules.proofs.entity_rule.Tie as tie
@@ -16,25 +18,30 @@ shared-slice-read-id : tie.Need-shared-slice-read-id
 shared-slice-read-id c = search entity-room
 
 returns-2 : tie.Need-returns-2
-returns-2 c = search rule-9
+unfolding entityRows
+returns-2 c = search (rungs, and-is) depth 9
 
 has-requires : tie.Need-has-requires
 has-requires c κs = search needs
 
 returns-3 : tie.Need-returns-3
-returns-3 c = search rule-10
+unfolding entityRows
+returns-3 c = search (rungs, and-is) depth 9
 
 returns-4 : tie.Need-returns-4
-returns-4 c = search rule-11
+unfolding entityRows
+returns-4 c = search (rungs, and-is) depth 9
 
 pins-right-requires : tie.Need-pins-right-requires
 pins-right-requires c κs = search needs
 
 returns-5 : tie.Need-returns-5
-returns-5 c = search rule-none
+unfolding entityRows
+returns-5 c = search (rungs, and-is) depth 9
 
 returns-6 : tie.Need-returns-6
-returns-6 c = search rule-12
+unfolding entityRows
+returns-6 c = search (rungs, and-is) depth 9
 
 pub entity-rule-spec : {M : Type 1} → statement M
 entity-rule-spec =

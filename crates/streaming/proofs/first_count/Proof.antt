@@ -1,6 +1,6 @@
-use Rattle.streaming.proofs.Places.{Seeking, seek, found-here, not-here, none-here}
+use Rattle.rules.proofs.Places.{Seeking, seek, found-here, not-here, none-here}
 use Rattle.streaming.proofs.Late.{count-differs, count-agrees}
-use Rattle.streaming.specs.Block.{countBroken}
+use Rattle.streaming.specs.Answer.{countBroken}
 use Rattle.streaming_rules.specs.Descriptors.{noFormat}
 use Prim.Native.Nat.{_+_, _-_}
 use lib.ListN.{getD}

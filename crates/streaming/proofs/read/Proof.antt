@@ -1,7 +1,8 @@
-use Rattle.streaming.proofs.Going.{Going, handed, so-format, so-frame, frame-room, going-starts, going-stops, fine-here, going-format, going-frame, going-other, going-accepts, going-refuses}
-use Rattle.streaming.proofs.Heads.{head-bad, head-good, head-sizes}
+use Rattle.streaming.proofs.Going.{Going, handed, so-format, so-frame, format-room, frame-room, going-starts, going-stops, fine-here, going-format, going-frame, going-other, going-accepts, going-refuses}
+use Rattle.streaming.proofs.Heads.{head-bad, head-good, block-sizes}
 use Rattle.streaming_rules.proofs.Fine.{Fine}
-use Rattle.streaming_rules.specs.Rules.{ruleAt}
+use Rattle.rules.specs.Numbered.{firstRow}
+use Rattle.streaming_rules.specs.Rules.{rows}
 use Rattle.streaming_rules.specs.Descriptors.{isFormat, isFrame, kindAt}
 use Prim.Native.Nat.{_-_, _≤_}
 use lib.ListN.{length}
@@ -13,23 +14,23 @@ use Rattle.streaming.proofs.read.Statement.{statement}
 use Rattle.streaming.proofs.read.Tie as tie
 
 abbrev Inv-loop : tie.InvT-loop
-Inv-loop block whole linked formats₀ frames₀ counts₀ f₀ n₀ under₀ at₀ formats frames counts f n under at = Going linked block formats frames counts f n under at
+Inv-loop block whole linked formats₀ frames₀ counts₀ f₀ n₀ last₀ at₀ formats frames counts f n last at = Going linked block formats frames counts f n last at
 
 abbrev μ-loop : tie.MeasureT-loop
-μ-loop block whole linked formats₀ frames₀ counts₀ f₀ n₀ under₀ at₀ formats frames counts f n under at = length block - at
+μ-loop block whole linked formats₀ frames₀ counts₀ f₀ n₀ last₀ at₀ formats frames counts f n last at = length block - at
 
 -- a descriptor that breaks no rule
 abbrev Passed : Type 0
 Passed = tie.Else2 Inv-loop μ-loop
 
-none : (c : Passed) → 0 ≡ ruleAt (c .before .before .before .before .before .before .before .before .before .before .before .before .args .block .now) (c .before .before .before .loop .at) (handed (c .before .before .before .before .before .before .before .is-linked .result) (c .before .before .before .loop .f) (c .before .before .before .loop .n) (c .before .before .before .loop .under) (c .before .before .before .loop .counts))
+none : (c : Passed) → 0 ≡ firstRow (rows (c .before .before .before .before .before .before .before .before .before .before .before .before .args .block .now) (c .before .before .before .loop .at) (handed (c .before .before .before .before .before .before .before .is-linked .result) (c .before .before .before .loop .f) (c .before .before .before .loop .n) (c .before .before .before .loop .last) (c .before .before .before .loop .counts)))
 none c = sym (c .if2 .left) ∙ c .before .rule-at .ensures
 
-fit : (c : Passed) → Fine (c .before .before .before .before .before .before .before .before .before .before .before .before .args .block .now) (c .before .before .before .loop .at) (handed (c .before .before .before .before .before .before .before .is-linked .result) (c .before .before .before .loop .f) (c .before .before .before .loop .n) (c .before .before .before .loop .under) (c .before .before .before .loop .counts))
+fit : (c : Passed) → Fine (c .before .before .before .before .before .before .before .before .before .before .before .before .args .block .now) (c .before .before .before .loop .at) (handed (c .before .before .before .before .before .before .before .is-linked .result) (c .before .before .before .loop .f) (c .before .before .before .loop .n) (c .before .before .before .loop .last) (c .before .before .before .loop .counts))
 fit c = fine-here _ _ _ _ _ _ _ _ _ (c .before .before .before .loop .inv) (c .before .before .loop-test .taken) (none c)
 
 short : (c : Passed) → length (c .before .before .before .before .before .before .before .before .before .before .before .before .args .block .now) ≤ 16384
-short c = head-sizes (c .before .before .before .before .before .before .before .before .before .before .before .before .args .table) _ _ (c .before .before .before .before .before .before .before .before .before .before .head-rule .ensures) (c .before .before .before .before .before .before .before .before .before .if1 .left) .1
+short c = block-sizes (c .before .before .before .before .before .before .before .before .before .before .before .before .args .table) _ _ (c .before .before .before .before .before .before .before .before .before .before .head-rule .ensures) (c .before .before .before .before .before .before .before .before .before .if1 .left) .1
 
 -- its kind
 a-format : (c : tie.Then3 Inv-loop μ-loop) → isFormat (kindAt (c .before .before .before .before .before .before .before .before .before .before .before .before .before .before .before .before .before .before .args .block .now) (c .before .before .before .before .before .before .before .before .before .loop .at)) ≡ true
@@ -54,7 +55,7 @@ returns : tie.Need-returns Inv-loop μ-loop
 returns c = head-bad _ _ _ (c .before .before .head-rule .ensures) _ (c .before .if1 .taken) (c .refused .ensures)
 
 shared-slice-read-is-linked : tie.Need-shared-slice-read-is-linked Inv-loop μ-loop
-shared-slice-read-is-linked c = omega (arith, head-sizes (c .before .before .before .before .args .table) _ _ (c .before .before .head-rule .ensures) (c .before .if1 .left))
+shared-slice-read-is-linked c = omega (arith, block-sizes (c .before .before .before .before .args .table) _ _ (c .before .before .head-rule .ensures) (c .before .if1 .left))
 
 is-linked-requires : tie.Need-is-linked-requires Inv-loop μ-loop
 is-linked-requires c κs = search needs
@@ -105,7 +106,7 @@ is-format-requires : tie.Need-is-format-requires Inv-loop μ-loop
 is-format-requires c κs = search needs
 
 format-at-requires : tie.Need-format-at-requires Inv-loop μ-loop
-format-at-requires c κs = let w = fit (c .before .before .before .before .before .before) in (rw (c .before .before .kind-of .ensures) (w .shaped, w .inside), short (c .before .before .before .before .before .before))
+format-at-requires c κs = (rw (c .before .before .kind-of .ensures) (format-room _ _ _ (fit (c .before .before .before .before .before .before)) (a-format c)), short (c .before .before .before .before .before .before))
 
 mul-formats : tie.Need-mul-formats Inv-loop μ-loop
 mul-formats c = let w = fit (c .before .before .before .before .before .before .before) .fewer (a-format (c .before)) in omega arith
@@ -150,7 +151,7 @@ loop-less-2 : tie.Need-loop-less-2 Inv-loop μ-loop
 loop-less-2 c = let w = fit (c .before .before .before .before .before .before .before .before .before .before) in omega (arith, w .inside, w .long, c .before .before .before .before .before .before .before .before .wide .ensures)
 
 loop-again-2 : tie.Need-loop-again-2 Inv-loop μ-loop
-loop-again-2 c = rw (c .before .before .before .before .before .before .before .before .wide .ensures .0) (going-frame _ _ _ _ _ _ _ _ _ (c .before .before .before .before .before .before .before .before .before .before .before .before .before .loop .inv) (c .before .before .before .before .before .before .before .before .before .before .before .before .loop-test .taken) (none (c .before .before .before .before .before .before .before .before .before .before)) _ (no-format (c .before .before .before .before)) (a-frame (c .before .before)) (c .before .frame-at .ensures))
+loop-again-2 c = rw (c .before .before .before .before .before .before .before .before .wide .ensures .0) (going-frame _ _ _ _ _ _ _ _ _ (c .before .before .before .before .before .before .before .before .before .before .before .before .before .loop .inv) (c .before .before .before .before .before .before .before .before .before .before .before .before .loop-test .taken) (none (c .before .before .before .before .before .before .before .before .before .before)) _ (no-format (c .before .before .before .before)) (a-frame (c .before .before)) (rw (c .before .before .before .before .before .before .kind-of .ensures) at (c .before .frame-at .ensures)))
 
 loop-less-3 : tie.Need-loop-less-3 Inv-loop μ-loop
 loop-less-3 c = let w = fit (c .before .before .before .before .before .before .before .before) in omega (arith, w .inside, w .long, c .before .before .before .before .before .before .wide .ensures)
@@ -159,7 +160,7 @@ loop-again-3 : tie.Need-loop-again-3 Inv-loop μ-loop
 loop-again-3 c = rw (c .before .before .before .before .before .before .wide .ensures .0) (going-other _ _ _ _ _ _ _ _ _ (c .before .before .before .before .before .before .before .before .before .before .before .loop .inv) (c .before .before .before .before .before .before .before .before .before .before .loop-test .taken) (none (c .before .before .before .before .before .before .before .before)) (no-format (c .before .before)) (no-frame c))
 
 shared-slice-read-late-verdict : tie.Need-shared-slice-read-late-verdict Inv-loop μ-loop
-shared-slice-read-late-verdict c = omega (arith, head-sizes (c .before .before .before .before .before .before .before .before .before .before .before .before .args .table) _ _ (c .before .before .before .before .before .before .before .before .before .before .head-rule .ensures) (c .before .before .before .before .before .before .before .before .before .if1 .left) .0)
+shared-slice-read-late-verdict c = omega (arith, block-sizes (c .before .before .before .before .before .before .before .before .before .before .before .before .args .table) _ _ (c .before .before .before .before .before .before .before .before .before .before .head-rule .ensures) (c .before .before .before .before .before .before .before .before .before .if1 .left) .0)
 
 late-verdict-requires : tie.Need-late-verdict-requires Inv-loop μ-loop
 late-verdict-requires c κs = omega (arith, c .before .before .before .loop .inv .formats-few)
@@ -177,10 +178,10 @@ enum-told : tie.Need-enum-told Inv-loop μ-loop
 enum-told c = search needs
 
 shared-slice-read-t26 : tie.Need-shared-slice-read-t26 Inv-loop μ-loop
-shared-slice-read-t26 c = omega (arith, head-sizes (c .before .before .before .before .before .before .before .before .before .before .before .before .before .before .before .before .args .table) _ _ (c .before .before .before .before .before .before .before .before .before .before .before .before .before .before .head-rule .ensures) (c .before .before .before .before .before .before .before .before .before .before .before .before .before .if1 .left) .0)
+shared-slice-read-t26 c = omega (arith, block-sizes (c .before .before .before .before .before .before .before .before .before .before .before .before .before .before .before .before .args .table) _ _ (c .before .before .before .before .before .before .before .before .before .before .before .before .before .before .head-rule .ensures) (c .before .before .before .before .before .before .before .before .before .before .before .before .before .if1 .left) .0)
 
 shared-slice-read-t53 : tie.Need-shared-slice-read-t53 Inv-loop μ-loop
-shared-slice-read-t53 c = omega (arith, head-sizes (c .before .before .before .before .before .before .before .before .before .before .before .before .before .before .before .before .before .args .table) _ _ (c .before .before .before .before .before .before .before .before .before .before .before .before .before .before .before .head-rule .ensures) (c .before .before .before .before .before .before .before .before .before .before .before .before .before .before .if1 .left) .0)
+shared-slice-read-t53 c = omega (arith, block-sizes (c .before .before .before .before .before .before .before .before .before .before .before .before .before .before .before .before .before .args .table) _ _ (c .before .before .before .before .before .before .before .before .before .before .before .before .before .before .before .head-rule .ensures) (c .before .before .before .before .before .before .before .before .before .before .before .before .before .before .if1 .left) .0)
 
 returns-4 : tie.Need-returns-4 Inv-loop μ-loop
 returns-4 c = head-good _ _ _ (c .before .before .before .before .before .before .before .before .before .before .before .before .before .before .before .head-rule .ensures) (c .before .before .before .before .before .before .before .before .before .before .before .before .before .before .if1 .left) _ _ (c .before .before .before .before .before .before .before .before .before .before .before .before .is-linked .ensures) (going-accepts _ _ _ _ _ _ _ _ _ (c .before .before .before .before .before .before .before .before .loop .inv) (c .before .before .before .before .before .before .before .loop-test .left) _ (c .before .before .before .before .late-verdict .ensures) (c .before .before .enum-told .given .1))

@@ -1,4 +1,4 @@
-use Rattle.streaming.specs.Block.{refusedBy}
+use Rattle.streaming.specs.Answer.{refusedBy}
 use borrow.Author.Needs.{needs}
 use Rattle.streaming.proofs.refused.Statement.{statement}
 use Rattle.streaming.proofs.refused.Tie as tie

@@ -1,99 +1,52 @@
-use Rattle.streaming_rules.proofs.Subtypes.{uncompressed-room, mjpeg-room}
-use Rattle.streaming_rules.specs.Descriptors.{formatAt}
+use native.Mathlib.Omega.{arith}
+use Rattle.streaming_rules.specs.Descriptors.{formatAt, formatOf}
+use Rattle.streaming_rules.proofs.Subtypes.{Fits, fits, its-layout, default-in, guided-in}
 use borrow.Author.Needs.{needs}
 use Rattle.streaming_rules.proofs.format_at.Statement.{statement}
 use Rattle.streaming_rules.proofs.format_at.Tie as tie
 
-enum-told : tie.Need-enum-told
-enum-told c = search needs
+format-of-requires : tie.Need-format-of-requires
+format-of-requires c κs = search needs
 
-no-format-requires : tie.Need-no-format-requires
-no-format-requires c κs = search needs
+layout-of-requires : tie.Need-layout-of-requires
+layout-of-requires c κs = search needs
 
-enum-told-2 : tie.Need-enum-told-2
-enum-told-2 c = search needs
+add-default : tie.Need-add-default
+add-default c = omega (arith, default-in _ _ (its-layout (c .before .before .before .before .args .kind) _ _ (c .before .before .format-of .ensures) (c .before .layout-of .ensures)))
 
-no-format-requires-2 : tie.Need-no-format-requires-2
-no-format-requires-2 c κs = search needs
+guid-at-requires : tie.Need-guid-at-requires
+guid-at-requires c κs = search (guided-in, its-layout)
 
-enum-told-3 : tie.Need-enum-told-3
-enum-told-3 c = search needs
+bits-at-requires : tie.Need-bits-at-requires
+bits-at-requires c κs = search (guided-in, its-layout)
 
-uncompressed-at-requires : tie.Need-uncompressed-at-requires
-uncompressed-at-requires c κs = (uncompressed-room _ _ _ (c .before .before .before .pre .0 .1) (rw (c .enum-told3 .given .1) at (c .before .before .before .pre .0 .0)), c .before .before .before .pre .1)
+add-t9 : tie.Need-add-t9
+add-t9 c = search needs
 
-enum-told-4 : tie.Need-enum-told-4
-enum-told-4 c = search needs
+shared-slice-read-t11 : tie.Need-shared-slice-read-t11
+shared-slice-read-t11 c = let w = fits (formatOf (c .before .before .before .before .before .before .before .args .kind)) .numbered in omega arith
 
-mjpeg-at-requires : tie.Need-mjpeg-at-requires
-mjpeg-at-requires c κs = (mjpeg-room _ _ _ (c .before .before .before .pre .0 .1) (rw (c .enum-told4 .given .1) at (c .before .before .before .pre .0 .0)), c .before .before .before .pre .1)
+shared-slice-read-t13 : tie.Need-shared-slice-read-t13
+shared-slice-read-t13 c = omega (arith, default-in _ _ (its-layout (c .before .before .before .before .before .before .before .before .args .kind) _ _ (c .before .before .before .before .before .before .format-of .ensures) (c .before .before .before .before .before .layout-of .ensures)))
 
-enum-told-5 : tie.Need-enum-told-5
-enum-told-5 c = search needs
-
-no-format-requires-3 : tie.Need-no-format-requires-3
-no-format-requires-3 c κs = search needs
-
-enum-told-6 : tie.Need-enum-told-6
-enum-told-6 c = search needs
-
-no-format-requires-4 : tie.Need-no-format-requires-4
-no-format-requires-4 c κs = search needs
-
-enum-told-7 : tie.Need-enum-told-7
-enum-told-7 c = search needs
-
-no-format-requires-5 : tie.Need-no-format-requires-5
-no-format-requires-5 c κs = search needs
+cast-t14 : tie.Need-cast-t14
+cast-t14 c = search needs
 
 returns : tie.Need-returns
 unfolding formatAt
-returns c = rw (c .before .enum-told .given .1) (c .no-format .ensures)
-
-returns-2 : tie.Need-returns-2
-unfolding formatAt
-returns-2 c = rw (c .before .enum-told2 .given .1) (c .no-format2 .ensures)
-
-returns-3 : tie.Need-returns-3
-returns-3 c = rw (c .before .enum-told3 .given .1) (c .uncompressed-at .ensures)
-
-returns-4 : tie.Need-returns-4
-returns-4 c = rw (c .before .enum-told4 .given .1) (c .mjpeg-at .ensures)
-
-returns-5 : tie.Need-returns-5
-unfolding formatAt
-returns-5 c = rw (c .before .enum-told5 .given .1) (c .no-format3 .ensures)
-
-returns-6 : tie.Need-returns-6
-unfolding formatAt
-returns-6 c = rw (c .before .enum-told6 .given .1) (c .no-format4 .ensures)
-
-returns-7 : tie.Need-returns-7
-unfolding formatAt
-returns-7 c = rw (c .before .enum-told7 .given .1) (c .no-format5 .ensures)
+returns c = rw (c .before .before .before .guid-at .ensures, c .before .before .bits-at .ensures, c .before .before .before .before .before .layout-of .ensures, c .before .before .before .before .before .before .format-of .ensures)
 
 pub format-at-spec : {M : Type 1} → statement M
 format-at-spec =
     tie.close
     (tie.spec
-    enum-told
-    no-format-requires
-    enum-told-2
-    no-format-requires-2
-    enum-told-3
-    uncompressed-at-requires
-    enum-told-4
-    mjpeg-at-requires
-    enum-told-5
-    no-format-requires-3
-    enum-told-6
-    no-format-requires-4
-    enum-told-7
-    no-format-requires-5
-    returns
-    returns-2
-    returns-3
-    returns-4
-    returns-5
-    returns-6
-    returns-7)
+    format-of-requires
+    layout-of-requires
+    add-default
+    guid-at-requires
+    bits-at-requires
+    add-t9
+    shared-slice-read-t11
+    shared-slice-read-t13
+    cast-t14
+    returns)

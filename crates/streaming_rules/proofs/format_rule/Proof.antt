@@ -1,4 +1,9 @@
-use Rattle.streaming_rules.proofs.Ladder.{rule-31, rule-35, format-none}
+use Rattle.rules.proofs.Ladder.{rungs}
+use Rattle.streaming_rules.specs.Rules.{kindRows}
+use Rattle.blocks.proofs.Tests.{differs, agrees}
+use Rattle.streaming_rules.proofs.Ladder.{or-no}
+use Rattle.streaming_rules.proofs.Subtypes.{Fits, fits}
+use native.Mathlib.Omega.{arith}
 use borrow.Author.Needs.{needs}
 use Rattle.streaming_rules.proofs.format_rule.Statement.{statement}
 use Rattle.streaming_rules.proofs.format_rule.Tie as tie
@@ -7,7 +12,7 @@ add-wide : tie.Need-add-wide
 add-wide c = search needs
 
 shared-slice-read-wide : tie.Need-shared-slice-read-wide
-shared-slice-read-wide c = search needs
+shared-slice-read-wide c = let w = fits (c .before .before .args .format) .numbered in omega arith
 
 wide-requires : tie.Need-wide-requires
 wide-requires c κs = search needs
@@ -16,13 +21,16 @@ add-if1 : tie.Need-add-if1
 add-if1 c = search needs
 
 returns : tie.Need-returns
-returns c = search rule-31
+unfolding kindRows
+returns c = search (rungs, differs) depth 8
 
 returns-2 : tie.Need-returns-2
-returns-2 c = search rule-35
+unfolding kindRows
+returns-2 c = search (rungs, agrees, or-no) depth 9
 
 returns-3 : tie.Need-returns-3
-returns-3 c = search format-none
+unfolding kindRows
+returns-3 c = search (rungs, agrees, or-no) depth 9
 
 pub format-rule-spec : {M : Type 1} → statement M
 format-rule-spec =

@@ -1,7 +1,18 @@
+use native.Mathlib.Omega.{arith}
 use Rattle.streaming_rules.specs.Descriptors.{frameAt}
+use Rattle.streaming_rules.proofs.Subtypes.{k-in, interval-in}
 use borrow.Author.Needs.{needs}
 use Rattle.streaming_rules.proofs.frame_at.Statement.{statement}
 use Rattle.streaming_rules.proofs.frame_at.Tie as tie
+
+format-of-requires : tie.Need-format-of-requires
+format-of-requires c κs = search needs
+
+layout-of-requires : tie.Need-layout-of-requires
+layout-of-requires c κs = search needs
+
+add-k : tie.Need-add-k
+add-k c = omega (arith, k-in _ _ (c .before .layout-of .ensures))
 
 add-le16 : tie.Need-add-le16
 add-le16 c = search needs
@@ -15,48 +26,43 @@ add-le16-2 c = search needs
 le16-requires-2 : tie.Need-le16-requires-2
 le16-requires-2 c κs = search needs
 
+size-at-requires : tie.Need-size-at-requires
+size-at-requires c κs = search needs
+
 add-le32 : tie.Need-add-le32
-add-le32 c = search needs
+add-le32 c = omega (arith, interval-in _ _ (c .before .before .before .before .before .layout-of .ensures))
 
 le32-requires : tie.Need-le32-requires
-le32-requires c κs = search needs
+le32-requires c κs = omega (arith, interval-in _ _ (c .before .before .before .before .before .layout-of .ensures))
 
-add-le32-2 : tie.Need-add-le32-2
-add-le32-2 c = search needs
+cast-t13 : tie.Need-cast-t13
+cast-t13 c = search needs
 
-le32-requires-2 : tie.Need-le32-requires-2
-le32-requires-2 c κs = search needs
+shared-slice-read-t15 : tie.Need-shared-slice-read-t15
+shared-slice-read-t15 c = omega (arith, k-in _ _ (c .before .before .before .before .before .before .before .layout-of .ensures))
 
-cast-t9 : tie.Need-cast-t9
-cast-t9 c = search needs
-
-add-t8 : tie.Need-add-t8
-add-t8 c = search needs
-
-shared-slice-read-t11 : tie.Need-shared-slice-read-t11
-shared-slice-read-t11 c = search needs
-
-cast-t12 : tie.Need-cast-t12
-cast-t12 c = search needs
+cast-t16 : tie.Need-cast-t16
+cast-t16 c = search needs
 
 returns : tie.Need-returns
 unfolding frameAt
-returns c = rw (c .before .before .before .before .le16 .ensures, c .before .before .before .le162 .ensures, c .before .before .le32 .ensures, c .before .le322 .ensures)
+returns c = rw (c .before .before .before .before .before .le16 .ensures, c .before .before .before .before .le162 .ensures, c .before .before .before .size-at .ensures, c .before .le32 .ensures, c .before .before .before .before .before .before .before .layout-of .ensures, c .before .before .before .before .before .before .before .before .format-of .ensures)
 
 pub frame-at-spec : {M : Type 1} → statement M
 frame-at-spec =
     tie.close
     (tie.spec
+    format-of-requires
+    layout-of-requires
+    add-k
     add-le16
     le16-requires
     add-le16-2
     le16-requires-2
+    size-at-requires
     add-le32
     le32-requires
-    add-le32-2
-    le32-requires-2
-    cast-t9
-    add-t8
-    shared-slice-read-t11
-    cast-t12
+    cast-t13
+    shared-slice-read-t15
+    cast-t16
     returns)

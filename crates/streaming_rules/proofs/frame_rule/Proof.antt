@@ -1,6 +1,9 @@
 use denote.Ref.{now}
-use Rattle.streaming_rules.proofs.Ladder.{rule-32, rule-33, rule-34, rule-35-frame, frame-none, frame-long}
 use native.Mathlib.Omega.{arith}
+use Rattle.rules.proofs.Ladder.{rungs}
+use Rattle.streaming_rules.specs.Rules.{kindRows}
+use Rattle.streaming_rules.proofs.Ladder.{differs, agrees}
+use Rattle.streaming_rules.proofs.Subtypes.{frame-long}
 use borrow.Author.Needs.{needs}
 use Rattle.streaming_rules.proofs.frame_rule.Statement.{statement}
 use Rattle.streaming_rules.proofs.frame_rule.Tie as tie
@@ -9,13 +12,14 @@ is-misplaced-requires : tie.Need-is-misplaced-requires
 is-misplaced-requires c κs = search needs
 
 returns : tie.Need-returns
-returns c = search rule-32
+unfolding kindRows
+returns c = search rungs depth 9
 
 add-wide : tie.Need-add-wide
 add-wide c = search needs
 
 shared-slice-read-wide : tie.Need-shared-slice-read-wide
-shared-slice-read-wide c = omega (arith, frame-long (now (c .before .before .before .before .args .s)) (c .before .before .before .before .args .at) (c .before .before .before .before .args .format) _ (c .before .before .before .before .pre))
+shared-slice-read-wide c = omega (arith, frame-long (c .before .before .before .before .args .format) (now (c .before .before .before .before .args .s)) (c .before .before .before .before .args .at) _ (c .before .before .before .before .pre))
 
 wide-requires : tie.Need-wide-requires
 wide-requires c κs = search needs
@@ -27,19 +31,23 @@ add-if2 : tie.Need-add-if2
 add-if2 c = search needs
 
 returns-2 : tie.Need-returns-2
-returns-2 c = search rule-33
+unfolding kindRows
+returns-2 c = search (rungs, differs) depth 10
 
 default-offered-requires : tie.Need-default-offered-requires
 default-offered-requires c κs = search needs
 
 returns-3 : tie.Need-returns-3
-returns-3 c = search rule-34
+unfolding kindRows
+returns-3 c = search (rungs, agrees) depth 11
 
 returns-4 : tie.Need-returns-4
-returns-4 c = search rule-35-frame
+unfolding kindRows
+returns-4 c = search (rungs, agrees) depth 12
 
 returns-5 : tie.Need-returns-5
-returns-5 c = search frame-none
+unfolding kindRows
+returns-5 c = search (rungs, agrees) depth 12
 
 pub frame-rule-spec : {M : Type 1} → statement M
 frame-rule-spec =

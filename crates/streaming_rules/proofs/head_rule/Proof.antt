@@ -1,53 +1,19 @@
-use Rattle.streaming_rules.proofs.Ladder.{rule-20, rule-21, rule-22, rule-23, rule-23′, rule-24, head-none}
+use Rattle.rules.proofs.Ladder.{rungs}
+use Rattle.streaming_rules.specs.Rules.{headRows}
 use borrow.Author.Needs.{needs}
 use Rattle.streaming_rules.proofs.head_rule.Statement.{statement}
 use Rattle.streaming_rules.proofs.head_rule.Tie as tie
 
 returns : tie.Need-returns
-returns c = search rule-20
+unfolding headRows
+returns c = search rungs
+
+whole-rule-requires : tie.Need-whole-rule-requires
+whole-rule-requires c κs = search needs
 
 returns-2 : tie.Need-returns-2
-returns-2 c = search rule-21
-
-returns-3 : tie.Need-returns-3
-returns-3 c = search rule-22
-
-shared-slice-read-if4 : tie.Need-shared-slice-read-if4
-shared-slice-read-if4 c = search needs
-
-returns-4 : tie.Need-returns-4
-returns-4 c = search rule-23
-
-shared-slice-read-if5 : tie.Need-shared-slice-read-if5
-shared-slice-read-if5 c = search needs
-
-returns-5 : tie.Need-returns-5
-returns-5 c = search rule-23′
-
-le16-requires : tie.Need-le16-requires
-le16-requires c κs = search needs
-
-cast-total : tie.Need-cast-total
-cast-total c = search needs
-
-returns-6 : tie.Need-returns-6
-returns-6 c = search rule-24
-
-returns-7 : tie.Need-returns-7
-returns-7 c = search head-none
+unfolding headRows
+returns-2 c = search rungs
 
 pub head-rule-spec : {M : Type 1} → statement M
-head-rule-spec =
-    tie.close
-    (tie.spec
-    returns
-    returns-2
-    returns-3
-    shared-slice-read-if4
-    returns-4
-    shared-slice-read-if5
-    returns-5
-    le16-requires
-    cast-total
-    returns-6
-    returns-7)
+head-rule-spec = tie.close (tie.spec returns whole-rule-requires returns-2)

@@ -1,4 +1,5 @@
-use Rattle.streaming_rules.proofs.Ladder.{rule-29, rule-30, header-none}
+use borrow.Author.Tests.{eq-eqb, ne-eqb}
+use Rattle.streaming_rules.specs.Rules.{kindRows}
 use borrow.Author.Needs.{needs}
 use Rattle.streaming_rules.proofs.header_rule.Statement.{statement}
 use Rattle.streaming_rules.proofs.header_rule.Tie as tie
@@ -10,13 +11,16 @@ shared-slice-read-endpoint : tie.Need-shared-slice-read-endpoint
 shared-slice-read-endpoint c = search needs
 
 returns : tie.Need-returns
-returns c = search rule-29
+unfolding kindRows
+returns c = rw (ne-eqb _ 1 (c .if1 .taken))
 
 returns-2 : tie.Need-returns-2
-returns-2 c = search header-none
+unfolding kindRows
+returns-2 c = rw (eq-eqb _ 1 (c .before .if1 .left), c .if2 .taken)
 
 returns-3 : tie.Need-returns-3
-returns-3 c = search rule-30
+unfolding kindRows
+returns-3 c = rw (eq-eqb _ 1 (c .before .if1 .left), c .if2 .left)
 
 pub header-rule-spec : {M : Type 1} → statement M
 header-rule-spec =

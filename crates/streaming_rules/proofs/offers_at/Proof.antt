@@ -1,29 +1,37 @@
-use Rattle.streaming_rules.proofs.Ladder.{offers-is, frame-long, span-room}
-use native.Mathlib.Omega.{arith}
+use Rattle.streaming_rules.proofs.Ladder.{own-subtype}
+use Rattle.streaming_rules.specs.Descriptors.{kindAt, formatOf}
 use denote.Ref.{now}
+use native.Mathlib.Omega.{arith}
+use Rattle.streaming_rules.proofs.Subtypes.{frame-long}
 use borrow.Author.Needs.{needs}
 use Rattle.streaming_rules.proofs.offers_at.Statement.{statement}
 use Rattle.streaming_rules.proofs.offers_at.Tie as tie
 
-add-wide : tie.Need-add-wide
-add-wide c = search needs
+add-kind-of : tie.Need-add-kind-of
+add-kind-of c = search needs
 
-shared-slice-read-wide : tie.Need-shared-slice-read-wide
-shared-slice-read-wide c = omega (arith, frame-long (now (c .before .before .args .s)) (c .before .before .args .at) 0 _ (c .before .before .pre))
+shared-slice-read-kind-of : tie.Need-shared-slice-read-kind-of
+shared-slice-read-kind-of c = omega (arith, frame-long (formatOf (kindAt (now (c .before .before .args .s)) (c .before .before .args .at))) (now (c .before .before .args .s)) (c .before .before .args .at) _ (c .before .before .pre))
 
-wide-requires : tie.Need-wide-requires
-wide-requires c κs = search needs
+kind-of-requires : tie.Need-kind-of-requires
+kind-of-requires c κs = search needs
 
-add-offers : tie.Need-add-offers
-add-offers c = search needs
+format-of-requires : tie.Need-format-of-requires
+format-of-requires c κs = search needs
 
-offers-requires : tie.Need-offers-requires
-offers-requires c κs = span-room (now (c .before .before .before .args .s)) (c .before .before .before .args .at) 0 _ _ (c .before .before .before .pre) (c .wide .ensures .0) (c .wide .ensures .1)
+offers-under-requires : tie.Need-offers-under-requires
+offers-under-requires c κs = rw (c .format-of .ensures, c .before .kind-of .ensures) (c .before .before .before .before .pre)
 
 returns : tie.Need-returns
-returns c = search offers-is
+returns c = search own-subtype
 
 pub offers-at-spec : {M : Type 1} → statement M
 offers-at-spec =
     tie.close
-    (tie.spec add-wide shared-slice-read-wide wide-requires add-offers offers-requires returns)
+    (tie.spec
+    add-kind-of
+    shared-slice-read-kind-of
+    kind-of-requires
+    format-of-requires
+    offers-under-requires
+    returns)

@@ -1,7 +1,38 @@
-use Rattle.streaming_rules.proofs.Ladder.{rule-25, rule-26, rule-27, rule-28, rule-on, len-short, len-past, len-good, type-bad, type-is, shaped}
+use Rattle.blocks.proofs.Right.{sub-inside, len-inside}
+use Rattle.streaming_rules.proofs.Ladder.{rule-25, rule-26, rule-26′, rule-27, rule-28, rule-on, shaped, lies}
 use borrow.Author.Needs.{needs}
 use Rattle.streaming_rules.proofs.rule_at.Statement.{statement}
 use Rattle.streaming_rules.proofs.rule_at.Tie as tie
+
+length-broken-requires : tie.Need-length-broken-requires
+length-broken-requires c κs = search needs
+
+returns : tie.Need-returns
+returns c = search rule-25
+
+type-broken-requires : tie.Need-type-broken-requires
+type-broken-requires c κs = search sub-inside
+
+returns-2 : tie.Need-returns-2
+returns-2 c = search rule-26
+
+add-sub : tie.Need-add-sub
+add-sub c = search needs
+
+shared-slice-read-sub : tie.Need-shared-slice-read-sub
+shared-slice-read-sub c = search sub-inside
+
+returns-3 : tie.Need-returns-3
+returns-3 c = search rule-26′
+
+kind-of-requires : tie.Need-kind-of-requires
+kind-of-requires c κs = search needs
+
+is-unread-requires : tie.Need-is-unread-requires
+is-unread-requires c κs = search needs
+
+returns-4 : tie.Need-returns-4
+returns-4 c = search rule-27
 
 shared-slice-read-wide : tie.Need-shared-slice-read-wide
 shared-slice-read-wide c = search needs
@@ -9,77 +40,35 @@ shared-slice-read-wide c = search needs
 wide-requires : tie.Need-wide-requires
 wide-requires c κs = search needs
 
-returns : tie.Need-returns
-returns c = search (rule-25, len-short, len-past)
-
-sub-if2 : tie.Need-sub-if2
-sub-if2 c = search needs
-
-returns-2 : tie.Need-returns-2
-returns-2 c = search (rule-25, len-short, len-past)
-
-add-if3 : tie.Need-add-if3
-add-if3 c = search needs
-
-shared-slice-read-if3 : tie.Need-shared-slice-read-if3
-shared-slice-read-if3 c = search needs
-
-returns-3 : tie.Need-returns-3
-returns-3 c = search (rule-26, len-good, type-bad)
-
-add-kind-of : tie.Need-add-kind-of
-add-kind-of c = search needs
-
-shared-slice-read-kind-of : tie.Need-shared-slice-read-kind-of
-shared-slice-read-kind-of c = search needs
-
-kind-of-requires : tie.Need-kind-of-requires
-kind-of-requires c κs = search needs
-
-header-broken-requires : tie.Need-header-broken-requires
-header-broken-requires c κs = search needs
-
-returns-4 : tie.Need-returns-4
-returns-4 c = search (rule-26, len-good, type-is)
-
-is-unread-requires : tie.Need-is-unread-requires
-is-unread-requires c κs = search needs
+shape-ok-requires : tie.Need-shape-ok-requires
+shape-ok-requires c κs = search len-inside
 
 returns-5 : tie.Need-returns-5
-returns-5 c = search (rule-27, len-good, type-is)
-
-shape-ok-requires : tie.Need-shape-ok-requires
-shape-ok-requires c κs = search needs
-
-returns-6 : tie.Need-returns-6
-returns-6 c = search (rule-28, len-good, type-is)
+returns-5 c = search rule-28
 
 kind-rule-requires : tie.Need-kind-rule-requires
-kind-rule-requires c κs = (shaped _ _ _ _ _ (c .before .before .before .before .before .before .before .before .before .before .before .before .wide .ensures .0) (c .before .before .before .before .before .before .before .before .before .before .before .before .before .before .before .pre .0) (c .before .before .before .before .before .before .before .before .before .before .if2 .left) (c .before .shape-ok .ensures) (c .if6 .left), c .before .before .before .before .before .before .before .before .before .before .before .before .before .before .before .pre .1)
+kind-rule-requires c κs = search (shaped, lies)
 
-returns-7 : tie.Need-returns-7
-returns-7 c = search (rule-on, len-good, type-is)
+returns-6 : tie.Need-returns-6
+returns-6 c = search rule-on
 
 pub rule-at-spec : {M : Type 1} → statement M
 rule-at-spec =
     tie.close
     (tie.spec
+    length-broken-requires
+    returns
+    type-broken-requires
+    returns-2
+    add-sub
+    shared-slice-read-sub
+    returns-3
+    kind-of-requires
+    is-unread-requires
+    returns-4
     shared-slice-read-wide
     wide-requires
-    returns
-    sub-if2
-    returns-2
-    add-if3
-    shared-slice-read-if3
-    returns-3
-    add-kind-of
-    shared-slice-read-kind-of
-    kind-of-requires
-    header-broken-requires
-    returns-4
-    is-unread-requires
-    returns-5
     shape-ok-requires
-    returns-6
+    returns-5
     kind-rule-requires
-    returns-7)
+    returns-6)

@@ -7,6 +7,7 @@ use lib.Dec.{ltb, eqb}
 use Rattle.le.specs.Le.{byte}
 use Rattle.rules.specs.Pick.{pick}
 use Rattle.rules.specs.Pad.{pad}
+use Rattle.rules.specs.Numbered.{firstRow}
 use Rattle.rules.specs.Walk.{Course, Outcome, done, stop, walk}
 use Rattle.rules.specs.declared.Verdict.{Verdict}
 use Rattle.rules.specs.declared.Verdict.the-variants.{Accepted, Refused}
@@ -15,12 +16,12 @@ use Rattle.entities.specs.declared.Entity.{Entity}
 use Rattle.entities.specs.declared.Table.{Table}
 use Rattle.entities.specs.declared.Found.{Found}
 use Rattle.entities.specs.declared.Found.the-variants.{At, Nothing}
-use Rattle.streaming_rules.specs.Descriptors.{lenAt, kindAt, isFormat, isFrame, noFormat, noFrame, formatAt, frameAt}
-use Rattle.streaming_rules.specs.Rules.{formatsMost, framesMost, flags, headRule}
+use Rattle.streaming_rules.specs.Descriptors.{lenAt, kindAt, isFormat, isFrame, formatOf, noFormat, noFrame, formatAt, frameAt}
+use Rattle.streaming_rules.specs.Rules.{formatsMost, framesMost, headRows, rows}
 use Rattle.streaming_rules.specs.declared.Sofar.{Sofar}
 use Rattle.streaming_rules.specs.declared.Format.{Format}
 use Rattle.streaming_rules.specs.declared.Frame.{Frame}
-use Rattle.streaming.specs.Place.{firstPlace}
+use Rattle.rules.specs.Place.{firstPlace}
 use Rattle.streaming.specs.declared.Streaming.{Streaming}
 
 -- ---- 30: the link names, among the used places of the table, an output terminal of type 0x0101
@@ -65,14 +66,14 @@ noCounts = replicate (suc formatsMost) 0
 -- what they leave to the rules of the next descriptor
 abbrev pub sofar : Bool → Seen → Sofar
 sofar linked a =
-    record { linked = linked; formats = length (a .formats); frames = length (a .frames); under = lastOf (a .formats) .kind; numbered = countUnder (length (a .formats)) (a .frames) }
+    record { linked = linked; formats = length (a .formats); frames = length (a .frames); last = lastOf (a .formats); numbered = countUnder (length (a .formats)) (a .frames) }
 
 -- what the descriptor at o adds: a format, a frame under the last format, or nothing
 unfoldable pub after : List ℕ → Seen → ℕ → Seen
 after s a o =
     record {
-      formats = a .formats ++ pick (isFormat (kindAt s o)) (formatAt (kindAt s o) s o ∷ []) [];
-      frames = a .frames ++ pick (isFrame (kindAt s o)) (frameAt (length (a .formats)) s o ∷ []) [];
+      formats = a .formats ++ pick (isFormat (kindAt s o)) (formatAt (formatOf (kindAt s o)) s o ∷ []) [];
+      frames = a .frames ++ pick (isFrame (kindAt s o)) (frameAt (formatOf (kindAt s o)) (length (a .formats)) s o ∷ []) [];
     }
 
 -- the walk, rules 25 to 35 at each descriptor in turn
@@ -81,8 +82,7 @@ course linked s =
     record {
       size = length s;
       len = lenAt s;
-      base = 25;
-      flags = λ a o. flags s o (sofar linked a);
+      rows = λ a o. rows s o (sofar linked a);
       start = record { formats = []; frames = [] };
       gather = after s;
     }
@@ -150,4 +150,4 @@ afterHead zero t s = walked (linkedTo t (linkOf s)) s
 afterHead (suc k) t s = refusedBy (suc k) 0
 
 unfoldable pub streamingOf : Table → List ℕ → Streaming
-streamingOf t s = afterHead (headRule (t .count) s) t s
+streamingOf t s = afterHead (firstRow (headRows (t .count) s)) t s

@@ -3,18 +3,18 @@ use Prim.Native.Nat.{ℕ, _+_, _≤_, _<_}
 use mathlib.Core.Path.{_≡_}
 use mathlib.Core.List.{List}
 use lib.ListN.{length, getD}
-use Rattle.rules.specs.Numbered.{Up}
+use Rattle.rules.specs.Numbered.{Given, NoneOf}
 use Rattle.rules.specs.First.{First}
 use Rattle.rules.specs.Walk.{Course, Reached, Clean, FirstBreak}
 use Rattle.entities.specs.declared.Table.{Table}
 use Rattle.streaming_rules.specs.Descriptors.{noFormat}
-use Rattle.streaming_rules.specs.Rules.{headFlags}
+use Rattle.streaming_rules.specs.Rules.{headRows}
 use Rattle.streaming_rules.specs.declared.Format.{Format}
-use Rattle.streaming.specs.Block.{Seen, linkedTo, linkOf, formatCount, countUnder, course}
+use Rattle.streaming.specs.Answer.{Seen, linkedTo, linkOf, formatCount, countUnder, course}
 
--- the block breaks rule k, of 20 to 24
-abbrev pub BlockBreaks : Table → List ℕ → ℕ → Type 0
-BlockBreaks t s k = Up 20 (headFlags (t .count) s) k
+-- the block breaks none of 20 to 24
+abbrev pub BlockRight : Table → List ℕ → Type 0
+BlockRight t s = NoneOf (headRows (t .count) s)
 
 -- its descriptors, with their rules 25 to 35
 abbrev pub blockCourse : Table → List ℕ → Course Seen
@@ -34,7 +34,7 @@ DefaultWrong a i = (1 ≤ formatIn a i .default) × (formatIn a i .default ≤ f
 
 -- no rule of 20 to 35 is broken, and these are all of the block's formats and frames, in order
 pub record Walked (t : Table) (s : List ℕ) (a : Seen) : Type 0 where
-  pub block : (k : ℕ) → BlockBreaks t s k → ⊥
+  pub block : BlockRight t s
   pub each : Clean (blockCourse t s)
   pub there : Reached (blockCourse t s) a (length s)
 
@@ -46,25 +46,25 @@ pub record Sound (t : Table) (s : List ℕ) (a : Seen) : Type 0 where
   pub number : length (a .formats) ≡ formatCount s
 
 -- rule k is the first that is broken, at the first place that breaks it
-pub data Broken (t : Table) (s : List ℕ) : ℕ → ℕ → Type 0 where
+pub data FirstBroken (t : Table) (s : List ℕ) : ℕ → ℕ → Type 0 where
   -- 20 to 24, of the block
-  of-block : (k : ℕ) → BlockBreaks t s k → ((j : ℕ) → j < k → BlockBreaks t s j → ⊥) → Broken t s k 0
+  by-block : (k : ℕ) → Given (headRows (t .count) s) k → FirstBroken t s k 0
   -- 25 to 35, of a descriptor
-  of-descriptor : (k o : ℕ) → ((j : ℕ) → BlockBreaks t s j → ⊥) → FirstBreak (blockCourse t s) k o → Broken t s k o
+  by-descriptor : (k o : ℕ) → BlockRight t s → FirstBreak (blockCourse t s) k o → FirstBroken t s k o
   -- 36, then 37, of a format; 38
-  of-count : (a : Seen) → Walked t s a → (i : ℕ) → i < length (a .formats) → First (CountWrong a) (length (a .formats)) i → Broken t s 36 (formatIn a i .offset)
-  of-default :
+  by-36 : (a : Seen) → Walked t s a → (i : ℕ) → i < length (a .formats) → First (CountWrong a) (length (a .formats)) i → FirstBroken t s 36 (formatIn a i .offset)
+  by-37 :
       (a : Seen) →
       Walked t s a →
       ((j : ℕ) → j < length (a .formats) → CountWrong a j → ⊥) →
       (i : ℕ) →
       i < length (a .formats) →
       First (DefaultWrong a) (length (a .formats)) i →
-      Broken t s 37 (formatIn a i .offset)
-  of-number :
+      FirstBroken t s 37 (formatIn a i .offset)
+  by-38 :
       (a : Seen) →
       Walked t s a →
       ((j : ℕ) → j < length (a .formats) → CountWrong a j → ⊥) →
       ((j : ℕ) → j < length (a .formats) → DefaultWrong a j → ⊥) →
       (length (a .formats) ≡ formatCount s → ⊥) →
-      Broken t s 38 0
+      FirstBroken t s 38 0

@@ -13,17 +13,19 @@ use Rattle.rules.specs.First.{First}
 use Rattle.rules.specs.Walk.{Outcome, done, stop, walk}
 use Rattle.rules.specs.declared.Verdict.{Verdict}
 use Rattle.rules.specs.declared.Verdict.the-variants.{Accepted, Refused}
-use Rattle.rules.proofs.Numbered.{none-up, none-first, first-up, first-low, up-first, up-above}
+use Rattle.rules.specs.Numbered.{firstRow, Given, NoneOf}
+use Rattle.rules.proofs.Rows.{row-first, row-none, none-row, given-row, given-number}
 use Rattle.rules.proofs.Firsts.{first-map, first-unique}
 use Rattle.rules.proofs.Walks.{walk-done, walk-stop}
 use Rattle.entities.specs.declared.Table.{Table}
-use Rattle.streaming_rules.specs.Rules.{headFlags, headRule}
+use Rattle.streaming_rules.specs.Rules.{headRows}
 use Rattle.streaming_rules.specs.declared.Format.{Format}
-use Rattle.streaming.specs.Place.{firstPlace}
-use Rattle.streaming.specs.Block.{Seen, formatCount, countUnder, countBroken, defaultBroken, lateBy, late, refusedBy, acceptedWith, answer, afterWalk, walked, afterHead, streamingOf}
-use Rattle.streaming.specs.Reading.{BlockBreaks, blockCourse, formatIn, CountWrong, DefaultWrong, Walked, Sound, Broken, of-block, of-descriptor, of-count, of-default, of-number}
+use Rattle.streaming_rules.proofs.Fine.{head-numbered}
+use Rattle.rules.specs.Place.{firstPlace}
+use Rattle.streaming.specs.Answer.{Seen, formatCount, countUnder, countBroken, defaultBroken, lateBy, late, refusedBy, acceptedWith, answer, afterWalk, walked, afterHead, streamingOf}
+use Rattle.streaming.specs.Broken.{BlockRight, blockCourse, formatIn, CountWrong, DefaultWrong, Walked, Sound, FirstBroken, by-block, by-descriptor, by-36, by-37, by-38}
 use Rattle.streaming.specs.declared.Streaming.{Streaming}
-use Rattle.streaming.proofs.Places.{Says, first-place}
+use Rattle.rules.proofs.Places.{Says, first-place}
 use Rattle.streaming.proofs.Going.{steady}
 
 apart : (k o : ℕ) → Accepted ≡ Refused k o → ⊥
@@ -119,70 +121,60 @@ module _ (s : List ℕ) (a : Seen) where
 -- what reading comes to
 pub data Ends (t : Table) (s : List ℕ) : Streaming → Type 0 where
   taken : (a : Seen) → Sound t s a → Ends t s (acceptedWith s a)
-  given-back : (k o : ℕ) → Broken t s k o → Ends t s (refusedBy k o)
+  given-back : (k o : ℕ) → FirstBroken t s k o → Ends t s (refusedBy k o)
 
 module _ (t : Table) (s : List ℕ) where
-  head-none : headRule (t .count) s ≡ 0 → (k : ℕ) → BlockBreaks t s k → ⊥
-  unfolding headRule
-  head-none h = none-up 20 (headFlags (t .count) s) (omega arith) h
+  head-none : firstRow (headRows (t .count) s) ≡ 0 → BlockRight t s
+  head-none h = row-none (headRows (t .count) s) (head-numbered (t .count) s) h
 
-  none-head : ((k : ℕ) → BlockBreaks t s k → ⊥) → headRule (t .count) s ≡ 0
-  unfolding headRule
-  none-head h = none-first 20 (headFlags (t .count) s) h
-
-  head-first : (k : ℕ) → headRule (t .count) s ≡ suc k → Broken t s (suc k) 0
-  unfolding headRule
-  head-first k h = of-block (suc k) (first-up 20 (headFlags (t .count) s) k h) (λ j. first-low 20 (headFlags (t .count) s) k j h)
-
-  past-head : headRule (t .count) s ≡ 0 → streamingOf t s ≡ afterWalk s (walk (blockCourse t s))
+  past-head : BlockRight t s → streamingOf t s ≡ afterWalk s (walk (blockCourse t s))
   unfolding streamingOf afterHead
-  past-head h = rw h
+  past-head h = rw (none-row (headRows (t .count) s) h)
 
-  at-head : (k : ℕ) → headRule (t .count) s ≡ suc k → streamingOf t s ≡ refusedBy (suc k) 0
+  at-head : (k : ℕ) → firstRow (headRows (t .count) s) ≡ suc k → streamingOf t s ≡ refusedBy (suc k) 0
   unfolding streamingOf afterHead
   at-head k h = rw h
 
   after-done : (a : Seen) → Walked t s a → (v : Verdict) → After s a v → Ends t s (answer v s a)
-  after-done a w v (at-count i l f) = given-back 36 (formatIn a i .offset) (of-count a w i l f)
-  after-done a w v (at-default c i l f) = given-back 37 (formatIn a i .offset) (of-default a w c i l f)
-  after-done a w v (at-number c d e) = given-back 38 0 (of-number a w c d e)
+  after-done a w v (at-count i l f) = given-back 36 (formatIn a i .offset) (by-36 a w i l f)
+  after-done a w v (at-default c i l f) = given-back 37 (formatIn a i .offset) (by-37 a w c i l f)
+  after-done a w v (at-number c d e) = given-back 38 0 (by-38 a w c d e)
   after-done a w v (well c d e) = taken a (record { walked = w; counts = c; defaults = d; number = e })
 
-  after-all : ((k : ℕ) → BlockBreaks t s k → ⊥) → (x : Outcome Seen) → walk (blockCourse t s) ≡ x → Ends t s (afterWalk s x)
+  after-all : BlockRight t s → (x : Outcome Seen) → walk (blockCourse t s) ≡ x → Ends t s (afterWalk s x)
   unfolding afterWalk
   after-all b (done a) e =
       let p = walk-done (blockCourse t s) (steady _ s) a .0 e in
       after-done a (record { block = b; each = p .1; there = p .0 }) (late s a) (late-is s a)
-  after-all b (stop k o) e = given-back k o (of-descriptor k o b (walk-stop (blockCourse t s) (steady _ s) k o .0 e))
+  after-all b (stop k o) e = given-back k o (by-descriptor k o b (walk-stop (blockCourse t s) (steady _ s) k o .0 e))
 
   -- every block comes to one or the other
   pub reads : Ends t s (streamingOf t s)
-  reads = go (headRule (t .count) s) refl
+  reads = go (firstRow (headRows (t .count) s)) refl
     where
-      go : (k : ℕ) → headRule (t .count) s ≡ k → Ends t s (streamingOf t s)
-      go zero h = rw (past-head h) (after-all (head-none h) (walk (blockCourse t s)) refl)
-      go (suc k) h = rw (at-head k h) (given-back (suc k) 0 (head-first k h))
+      go : (k : ℕ) → firstRow (headRows (t .count) s) ≡ k → Ends t s (streamingOf t s)
+      go zero h = let n = head-none h in rw (past-head n) (after-all n (walk (blockCourse t s)) refl)
+      go (suc k) h = rw (at-head k h) (given-back (suc k) 0 (by-block (suc k) (row-first (headRows (t .count) s) k .0 h)))
 
   -- ---- the other way round
   done-by : (a : Seen) → Walked t s a → (v : Verdict) → After s a v → streamingOf t s ≡ answer v s a
   unfolding afterWalk
-  done-by a w v r = past-head (none-head (w .block)) ∙ (rw (walk-done (blockCourse t s) (steady _ s) a .1 (w .there, w .each), late-given s a r))
+  done-by a w v r = past-head (w .block) ∙ (rw (walk-done (blockCourse t s) (steady _ s) a .1 (w .there, w .each), late-given s a r))
 
   pub tables : (a : Seen) → Sound t s a → streamingOf t s ≡ acceptedWith s a
   tables a w = done-by a (w .walked) Accepted (well (w .counts) (w .defaults) (w .number))
 
-  head-given : (k : ℕ) → BlockBreaks t s k → ((j : ℕ) → j < k → BlockBreaks t s j → ⊥) → streamingOf t s ≡ refusedBy k 0
-  unfolding headRule
-  head-given zero h l = absurd (omega (arith, up-above 20 (headFlags (t .count) s) zero h))
-  head-given (suc k) h l = at-head k (up-first 20 (headFlags (t .count) s) (suc k) h l)
+  head-given : (k : ℕ) → Given (headRows (t .count) s) k → streamingOf t s ≡ refusedBy k 0
+  head-given zero g = absurd (omega (arith, given-number g (head-numbered (t .count) s)))
+  head-given (suc k) g = at-head k (given-row g)
 
-  pub all-zero : {k o : ℕ} → Broken t s k o → streamingOf t s ≡ refusedBy k o
+  pub all-zero : {k o : ℕ} → FirstBroken t s k o → streamingOf t s ≡ refusedBy k o
   unfolding afterWalk
-  all-zero (of-block k h l) = head-given k h l
-  all-zero (of-descriptor k o b f) = past-head (none-head b) ∙ (rw (walk-stop (blockCourse t s) (steady _ s) k o .1 f))
-  all-zero (of-count a w i l f) = done-by a w (Refused 36 (formatIn a i .offset)) (at-count i l f)
-  all-zero (of-default a w c i l f) = done-by a w (Refused 37 (formatIn a i .offset)) (at-default c i l f)
-  all-zero (of-number a w c d e) = done-by a w (Refused 38 0) (at-number c d e)
+  all-zero (by-block k g) = head-given k g
+  all-zero (by-descriptor k o b f) = past-head b ∙ (rw (walk-stop (blockCourse t s) (steady _ s) k o .1 f))
+  all-zero (by-36 a w i l f) = done-by a w (Refused 36 (formatIn a i .offset)) (at-count i l f)
+  all-zero (by-37 a w c i l f) = done-by a w (Refused 37 (formatIn a i .offset)) (at-default c i l f)
+  all-zero (by-38 a w c d e) = done-by a w (Refused 38 0) (at-number c d e)
 
   -- ---- EXACTLY WHEN
   -- accepted exactly when no rule is broken
@@ -195,10 +187,10 @@ module _ (t : Table) (s : List ℕ) where
       to x (given-back k o w) e = absurd (apart k o (sym e))
 
   -- refused by (k, o) exactly when k is the first broken rule, at the first place that breaks it
-  pub refused : (k o : ℕ) → (streamingOf t s .verdict ≡ Refused k o) ↔ Broken t s k o
+  pub refused : (k o : ℕ) → (streamingOf t s .verdict ≡ Refused k o) ↔ FirstBroken t s k o
   unfolding acceptedWith refusedBy
   refused k o = (to (streamingOf t s) reads, λ w. ap (λ (x : Streaming). x .verdict) (all-zero w))
     where
-      to : (x : Streaming) → Ends t s x → x .verdict ≡ Refused k o → Broken t s k o
+      to : (x : Streaming) → Ends t s x → x .verdict ≡ Refused k o → FirstBroken t s k o
       to x (taken a w) e = absurd (apart k o e)
       to x (given-back j p w) e = let q : j ≡ k = cc in let r : p ≡ o = cc in rw (← q, ← r) w

@@ -5,9 +5,9 @@ use mathlib.Core.Bool.{Bool, true, false, true≢false}
 use native.Mathlib.Omega.{arith}
 use native.Mathlib.Decide.{decLe}
 use native.Mathlib.Numerals.{add-one}
 use Rattle.rules.specs.Pick.{pick}
 use Rattle.rules.specs.First.{First}
-use Rattle.streaming.specs.Place.{placeFrom, firstPlace}
+use Rattle.rules.specs.Place.{placeFrom, firstPlace}
 
 -- the search from place i on answers as the whole search does
 pub record Seeking (test : ℕ → Bool) (n i : ℕ) : Type 0 where

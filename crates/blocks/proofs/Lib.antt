@@ -1,0 +1,3 @@
+-- The laws that the readers cite.
+pub mod Right
+pub mod Tests

@@ -1,0 +1,19 @@
+use Rattle.streaming_rules.specs.Descriptors.{layoutOf}
+use Rattle.rules.specs.Pick.{pick}
+use Rattle.streaming_rules.proofs.Subtypes.{no-layout}
+use Rattle.streaming_rules.proofs.layout_of.Statement.{statement}
+use Rattle.streaming_rules.proofs.layout_of.Tie as tie
+
+returns : tie.Need-returns
+unfolding layoutOf pick
+returns c = rw (c .match .keys1)
+
+returns-2 : tie.Need-returns-2
+unfolding layoutOf pick
+returns-2 c = rw (c .match .keys2)
+
+returns-3 : tie.Need-returns-3
+returns-3 c = no-layout _ (c .match .rest .0 .1) (c .match .rest .1)
+
+pub layout-of-spec : {M : Type 1} → statement M
+layout-of-spec = tie.close (tie.spec returns returns-2 returns-3)
