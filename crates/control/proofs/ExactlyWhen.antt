@@ -1,6 +1,6 @@
 -- A block is accepted exactly when no rule is broken; refused by k at o exactly when k is the first broken rule in the table's order, at the first place that
 -- breaks it. An accepted table lists the block's entities, and every source names one that is no output terminal.
-use Prim.Native.Nat.{ℕ, zero, suc, _<_}
+use Prim.Native.Nat.{ℕ, _<_}
 use mathlib.Core.Path.{_≡_, refl, sym, ap, _∙_}
 use mathlib.Core.List.{List}
 use mathlib.Core.Logic.{_↔_}

@@ -4,8 +4,7 @@ use mathlib.Core.Path.{_≡_, refl, sym, ap, _∙_}
 use mathlib.Core.List.{List, [], _∷_, _++_, append-nil}
 use mathlib.Core.Bool.{Bool, true, false}
 use mathlib.Core.Logic.{⊎-elim}
-use lib.ListN.{length, length-append, List·getD-append}
-use lib.Seq.{getD-append-add}
+use lib.ListN.{length, length-append}
 use lib.Dec.{eqb}
 use borrow.Author.Tests.{eqb-false}
 use native.Mathlib.Omega.{arith}
@@ -13,6 +12,7 @@ use Rattle.le.specs.Le.{byte}
 use Rattle.rules.specs.Pick.{pick}
 use Rattle.rules.specs.Walk.{Reached, first, next, Clean}
 use Rattle.rules.proofs.Firsts.{lt-or-ge}
+use Rattle.rules.proofs.Growing.{at-old, at-new, each-more}
 use Rattle.rules.proofs.Rows.{or-first, or-second}
 use Rattle.entities.specs.Table.{noEntity, entityAt}
 use Rattle.entities.specs.declared.Entity.{Entity}
@@ -30,19 +30,6 @@ unused [] x h i hi q = omega arith
 unused (e ∷ l) x h zero hi q = eqb-false (e .id) x (or-first (eqb (e .id) x) (usedBefore l x) h) q
 unused (e ∷ l) x h (suc i) hi q = unused l x (or-second (eqb (e .id) x) (usedBefore l x) h) i (omega arith) q
 
--- what holds of each entity of a list, and of one more
-module _ (l : List Entity) (e : Entity) where
-  at-old : (i : ℕ) → i < length l → entityAt (l ++ (e ∷ [])) i ≡ entityAt l i
-  at-old i h = List·getD-append l (e ∷ []) noEntity i h
-
-  at-new : (i : ℕ) → length l ≤ i → i < length (l ++ (e ∷ [])) → entityAt (l ++ (e ∷ [])) i ≡ e
-  at-new i h k =
-      let z : i ≡ length l + 0 = omega (arith, simp length-append at k) in
-      ap (entityAt (l ++ (e ∷ []))) z ∙ getD-append-add l (e ∷ []) 0 noEntity
-
-  each-more : (P : Entity → Type 0) → ((i : ℕ) → i < length l → P (entityAt l i)) → P e → (i : ℕ) → i < length (l ++ (e ∷ [])) → P (entityAt (l ++ (e ∷ [])) i)
-  each-more P h p i k = ⊎-elim (λ a. rw (at-old i a) (h i a)) (λ a. rw (at-new i a k) p) (lt-or-ge i (length l))
-
 abbrev pub Distinct : List Entity → Type 0
 Distinct l = (i j : ℕ) → i < length l → j < length l → entityAt l i .id ≡ entityAt l j .id → i ≡ j
 
@@ -50,10 +37,10 @@ distinct-more : (l : List Entity) (e : Entity) → Distinct l → ((i : ℕ) →
 distinct-more l e d n i j hi hj q = ⊎-elim (λ a. ⊎-elim (both a) (λ b. absurd (n i a (old i a ∙ q ∙ new j b hj))) (lt-or-ge j (length l))) (λ a. ⊎-elim (λ b. absurd (n j b (old j b ∙ sym q ∙ new i a hi))) (last a) (lt-or-ge j (length l))) (lt-or-ge i (length l))
   where
     old : (k : ℕ) → k < length l → entityAt l k .id ≡ entityAt (l ++ (e ∷ [])) k .id
-    old k h = ap (λ (x : Entity). x .id) (sym (at-old l e k h))
+    old k h = ap (λ (x : Entity). x .id) (sym (at-old noEntity l e k h))
 
     new : (k : ℕ) → length l ≤ k → k < length (l ++ (e ∷ [])) → entityAt (l ++ (e ∷ [])) k .id ≡ e .id
-    new k h b = ap (λ (x : Entity). x .id) (at-new l e k h b)
+    new k h b = ap (λ (x : Entity). x .id) (at-new noEntity l e k h b)
 
     both : i < length l → j < length l → i ≡ j
     both a b = d i j a b (old i a ∙ q ∙ sym (old j b))
@@ -83,7 +70,7 @@ module _ (s : List ℕ) (clean : Clean (course s)) where
   ids-nonzero first = λ i h e. omega arith
   ids-nonzero (next {a = l} {o = o} r h p q) =
       by-step (λ (m : List Entity). (i : ℕ) → i < length m → entityAt m i .id ≡ 0 → ⊥) l o (ids-nonzero r)
-      (λ e. each-more l (entityOf s o) (λ (x : Entity). x .id ≡ 0 → ⊥) (ids-nonzero r) (eqb-false (byte s o 3) 0 (fine-at r h .nonzero e)))
+      (λ e. each-more noEntity l (entityOf s o) (λ i before (x : Entity). x .id ≡ 0 → ⊥) (ids-nonzero r) (eqb-false (byte s o 3) 0 (fine-at r h .nonzero e)))
 
   -- the entity is what its descriptor says, and the descriptor has its kind's shape
   pub record Stands (e : Entity) : Type 0 where
@@ -94,7 +81,7 @@ module _ (s : List ℕ) (clean : Clean (course s)) where
   each-stands first = λ i h. absurd (omega arith)
   each-stands (next {a = l} {o = o} r h p q) =
       by-step (λ (m : List Entity). (i : ℕ) → i < length m → Stands (entityAt m i)) l o (each-stands r)
-      (λ e. each-more l (entityOf s o) Stands (each-stands r) (record { same = refl; shaped = fine-at r h .shaped }))
+      (λ e. each-more noEntity l (entityOf s o) (λ i before. Stands) (each-stands r) (record { same = refl; shaped = fine-at r h .shaped }))
 
   -- so its sources lie within its descriptor, and that within the block
   pub sources-inside : {l : List Entity} {o : ℕ} → Reached (course s) l o → (i : ℕ) → i < length l

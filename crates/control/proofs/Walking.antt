@@ -1,12 +1,12 @@
 -- The walk's invariant, and how it starts, goes on and ends.
-use Prim.Native.Nat.{ℕ, zero, suc, _+_, _-_, _≤_, _<_}
+use Prim.Native.Nat.{ℕ, _+_, _-_, _≤_, _<_}
 use mathlib.Core.Path.{_≡_, refl, sym, ap, _∙_}
 use mathlib.Core.List.{List, [], _∷_, _++_, append-nil}
-use mathlib.Core.Bool.{Bool, true, false, _||_, or-assoc, or-false, true≢false}
+use mathlib.Core.Bool.{Bool, true, false, _||_, or-assoc, or-false}
 use lib.ListN.{length, set, replicate, length-append}
 use lib.Seq.{take-at}
-use lib.Dec.{ltb, eqb}
-use borrow.Author.Tests.{not-false, leb-false, ltb-false}
+use lib.Dec.{eqb}
+use borrow.Author.Tests.{not-false, leb-false}
 use native.Mathlib.Omega.{arith}
 use Rattle.le.specs.Le.{byte, le32At}
 use Rattle.rules.specs.Pick.{pick}

@@ -1,7 +1,6 @@
 // Reads the class-specific descriptors of a VideoControl interface: rules 1 to 15, and the entity table.
 ghost use mathlib.Core.Path.{_≡_};
-ghost use Prim.Native.Nat.{_≤_, _<_};
-ghost use lib.ListN.{length};
+ghost use Prim.Native.Nat.{_<_};
 ghost use Rattle.rules.specs.Numbered.{NoneOf};
 ghost use Rattle.control_rules.specs.Rules.{headRows};
 ghost use Rattle.control.specs.Answer.{ControlIs, refusedBy};

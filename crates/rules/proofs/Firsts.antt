@@ -1,10 +1,9 @@
 -- There is one first place, and what a search that goes up one place at a time has of it.
-use Prim.Native.Nat.{ℕ, suc, _≤_, _<_, _+_}
-use mathlib.Core.Path.{_≡_, refl, subst}
+use Prim.Native.Nat.{ℕ, _≤_, _<_}
+use mathlib.Core.Path.{_≡_, subst}
 use mathlib.Core.Logic.{_⊎_, inl, inr, ⊎-elim}
 use native.Mathlib.Omega.{arith}
 use native.Mathlib.Decide.{decLt}
-use borrow.Author.Count.{below-more}
 use Rattle.rules.specs.First.{First}
 
 pub lt-or-ge : (a b : ℕ) → (a < b) ⊎ (b ≤ a)

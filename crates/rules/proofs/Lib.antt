@@ -5,4 +5,6 @@ pub mod Ladder
 pub mod Firsts
 pub mod Places
 pub mod Padded
+pub mod Growing
 pub mod Walks
+pub mod Passing

@@ -1,16 +1,13 @@
 -- A walk ends with all that the descriptors give exactly when none breaks a rule, and stops at (k, o) exactly when rule k is the first that is broken
 -- at the first descriptor that breaks one.
-use Prim.Native.Nat.{ℕ, zero, suc, _+_, _-_, _≤_, _<_}
-use mathlib.Core.Path.{_≡_, refl, sym, ap, _∙_}
-use mathlib.Core.List.{List}
-use mathlib.Core.Bool.{Bool, true, false}
+use Prim.Native.Nat.{ℕ, zero, suc, _+_, _≤_, _<_}
+use mathlib.Core.Path.{_≡_, refl, sym, _∙_}
 use mathlib.Core.Logic.{_⊎_, inl, inr, ⊎-elim, _↔_}
 use native.Mathlib.Omega.{arith}
 use native.Mathlib.Decide.{decLt}
-use lib.Dec.{ltb}
 use borrow.Author.Tests.{lt-ltb, le-ltb}
-use Rattle.rules.specs.Numbered.{Row, Given, NoneOf}
-use Rattle.rules.specs.Walk.{Course, Reached, first, next, Clean, FirstBreak, Outcome, done, stop, brokenAt, decide, walkFrom, walk}
+use Rattle.rules.specs.Numbered.{NoneOf}
+use Rattle.rules.specs.Walk.{Course, Reached, first, next, Clean, FirstBreak, Outcome, done, stop, brokenAt, walkFrom, walk}
 use Rattle.rules.proofs.Rows.{Numbered, row-first, row-none, none-row, given-none, given-row, given-number}
 
 -- what a course must have: no rule has number 0, and a descriptor that breaks none has a length and lies within the block

@@ -13,7 +13,7 @@ use Rattle.rules.specs.First.{First}
 use Rattle.rules.specs.Walk.{Outcome, done, stop, walk}
 use Rattle.rules.specs.declared.Verdict.{Verdict}
 use Rattle.rules.specs.declared.Verdict.the-variants.{Accepted, Refused}
-use Rattle.rules.specs.Numbered.{firstRow, Given, NoneOf}
+use Rattle.rules.specs.Numbered.{firstRow, Given}
 use Rattle.rules.proofs.Rows.{row-first, row-none, none-row, given-row, given-number}
 use Rattle.rules.proofs.Firsts.{first-map, first-unique}
 use Rattle.rules.proofs.Walks.{walk-done, walk-stop}

@@ -1,6 +1,6 @@
 -- The walk's loop: its invariant, and how it starts, goes on and ends.
 use Prim.Native.Nat.{ℕ, suc, _+_, _-_, _≤_, _<_}
-use mathlib.Core.Path.{_≡_, refl, sym, ap, _∙_}
+use mathlib.Core.Path.{_≡_, refl, sym, _∙_}
 use mathlib.Core.List.{List, [], _∷_, _++_, append-nil}
 use mathlib.Core.Bool.{Bool, true, false}
 use lib.ListN.{length, getD, set, replicate, length-append, length-set, getD-replicate}
@@ -12,14 +12,14 @@ use Rattle.le.specs.Le.{byte}
 use Rattle.rules.specs.Pick.{pick}
 use Rattle.rules.specs.Pad.{pad}
 use Rattle.rules.specs.Numbered.{firstRow}
-use Rattle.rules.specs.Walk.{walk, brokenAt}
+use Rattle.rules.specs.Walk.{brokenAt}
 use Rattle.rules.specs.declared.Verdict.{Verdict}
 use Rattle.rules.specs.declared.Verdict.the-variants.{Accepted, Refused}
 use Rattle.rules.proofs.Padded.{pad-set, pad-at}
 use Rattle.rules.proofs.Rows.{row-none}
 use Rattle.rules.proofs.Walks.{Walking, Steady, starts, stops, ends, goes}
 use Rattle.streaming_rules.specs.Descriptors.{lenAt, kindAt, isFormat, isFrame, formatOf, layoutOf, noFormat, noFrame, formatAt, frameAt}
-use Rattle.streaming_rules.specs.Rules.{formatsMost, framesMost, rows}
+use Rattle.streaming_rules.specs.Rules.{rows}
 use Rattle.streaming_rules.specs.declared.Kind.{Kind}
 use Rattle.streaming_rules.specs.declared.Sofar.{Sofar}
 use Rattle.streaming_rules.specs.declared.Format.{Format}
@@ -41,15 +41,15 @@ steady linked s =
 
 -- ---- what a descriptor adds
 module _ (s : List ℕ) (a : Seen) (o : ℕ) where
-  after-format : isFormat (kindAt s o) ≡ true → after s a o ≡ record { formats = a .formats ++ (formatAt (formatOf (kindAt s o)) s o ∷ []); frames = a .frames }
+  pub after-format : isFormat (kindAt s o) ≡ true → after s a o ≡ record { formats = a .formats ++ (formatAt (formatOf (kindAt s o)) s o ∷ []); frames = a .frames }
   unfolding after pick
   after-format q = rw (q, no-frame-format (kindAt s o) q, append-nil)
 
-  after-frame : isFormat (kindAt s o) ≡ false → isFrame (kindAt s o) ≡ true → after s a o ≡ record { formats = a .formats; frames = a .frames ++ (frameAt (formatOf (kindAt s o)) (length (a .formats)) s o ∷ []) }
+  pub after-frame : isFormat (kindAt s o) ≡ false → isFrame (kindAt s o) ≡ true → after s a o ≡ record { formats = a .formats; frames = a .frames ++ (frameAt (formatOf (kindAt s o)) (length (a .formats)) s o ∷ []) }
   unfolding after pick
   after-frame p q = rw (p, q, append-nil)
 
-  after-other : isFormat (kindAt s o) ≡ false → isFrame (kindAt s o) ≡ false → after s a o ≡ a
+  pub after-other : isFormat (kindAt s o) ≡ false → isFrame (kindAt s o) ≡ false → after s a o ≡ a
   unfolding after pick
   after-other p q = rw (p, q, append-nil (a .formats), append-nil (a .frames))
 

@@ -1,17 +1,15 @@
 -- The frames of an accepted block: there are at most 64, and each lies within the block with its intervals.
-use Prim.Native.Nat.{ℕ, _+_, _-_, _≤_, _<_}
+use Prim.Native.Nat.{ℕ, _+_, _≤_, _<_}
 use mathlib.Core.Path.{_≡_, refl, sym, ap, _∙_}
 use mathlib.Core.List.{List, [], _∷_, _++_, append-nil}
 use mathlib.Core.Bool.{Bool, true, false}
-use lib.ListN.{length, getD, length-append, List·getD-append}
-use lib.Seq.{getD-append-add}
+use lib.ListN.{length, getD, length-append}
 use native.Mathlib.Omega.{arith}
-use native.Mathlib.Decide.{decLt}
-use Rattle.le.specs.Le.{byte}
 use Rattle.rules.specs.Pick.{pick}
 use Rattle.rules.specs.Walk.{Reached, first, next, Clean}
 use Rattle.rules.specs.declared.Verdict.the-variants.{Accepted}
 use Rattle.rules.proofs.Padded.{pad-at}
+use Rattle.rules.proofs.Growing.{each-more}
 use Rattle.entities.specs.declared.Table.{Table}
 use Rattle.streaming_rules.specs.Descriptors.{kindAt, isFrame, formatOf, noFrame, frameAt, frameLengthAt}
 use Rattle.streaming_rules.specs.declared.Frame.{Frame}
@@ -29,16 +27,8 @@ record Held (s : List ℕ) (l : List Frame) : Type 0 where
   inside : (i : ℕ) → i < length l → Within s (getD l i noFrame .offset)
 
 held-more : (s : List ℕ) (l : List Frame) (x : Frame) → length l < 64 → Within s (x .offset) → Held s l → Held s (l ++ (x ∷ []))
-held-more s l x n w h = record { few = simp length-append (omega arith); inside = inside }
-  where
-    at : (i : ℕ) → i < length (l ++ (x ∷ [])) → Dec (i < length l) → Within s (getD (l ++ (x ∷ [])) i noFrame .offset)
-    at i k (yes m) = rw (List·getD-append l (x ∷ []) noFrame i m) (h .inside i m)
-    at i k (no m) =
-        let e : i ≡ length l + 0 = omega (arith, simp length-append at k) in
-        rw (e, getD-append-add l (x ∷ []) 0 noFrame) w
-
-    inside : (i : ℕ) → i < length (l ++ (x ∷ [])) → Within s (getD (l ++ (x ∷ [])) i noFrame .offset)
-    inside i k = at i k (decLt i (length l))
+held-more s l x n w h =
+    record { few = simp length-append (omega arith); inside = each-more noFrame l x (λ i before (y : Frame). Within s (y .offset)) (h .inside) w }
 
 frame-offset : (f n : ℕ) (s : List ℕ) (o : ℕ) → frameAt f n s o .offset ≡ o
 unfolding frameAt

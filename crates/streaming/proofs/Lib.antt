@@ -5,4 +5,5 @@ pub mod Heads
 pub mod ExactlyWhen
 pub mod Unique
 pub mod Inside
+pub mod Listed
 pub mod Samples

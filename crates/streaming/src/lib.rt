@@ -1,8 +1,8 @@
 // Reads the class-specific descriptors of a VideoStreaming interface (20 to 38).
 ghost use mathlib.Core.Path.{_≡_};
 ghost use Prim.Native.Nat.{_+_, _≤_, _<_};
-ghost use lib.ListN.{length, getD};
-ghost use Rattle.streaming_rules.specs.Descriptors.{noFormat, noFrame};
+ghost use lib.ListN.{getD};
+ghost use Rattle.streaming_rules.specs.Descriptors.{noFormat};
 ghost use Rattle.rules.specs.Place.{firstPlace};
 ghost use Rattle.streaming.specs.Answer.{isOutput, linkedTo, countBroken, defaultBroken, lateBy, refusedBy, noCounts, streamingOf};
 use entities::Entity;

@@ -1,6 +1,6 @@
 use native.Mathlib.Omega.{arith}
 use Rattle.streaming_rules.specs.Descriptors.{formatAt, formatOf}
-use Rattle.streaming_rules.proofs.Subtypes.{Fits, fits, its-layout, default-in, guided-in}
+use Rattle.streaming_rules.proofs.Subtypes.{fits, its-layout, default-in, guided-in}
 use borrow.Author.Needs.{needs}
 use Rattle.streaming_rules.proofs.format_at.Statement.{statement}
 use Rattle.streaming_rules.proofs.format_at.Tie as tie

@@ -1,6 +1,5 @@
 use native.Mathlib.Omega.{arith}
 use Rattle.rules.specs.Pick.{picks}
-use borrow.Author.Needs.{needs}
 use Rattle.streaming_rules.proofs.guid_at.Statement.{statement}
 use Rattle.streaming_rules.proofs.guid_at.Tie as tie
 

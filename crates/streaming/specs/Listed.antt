@@ -1,0 +1,68 @@
+-- What an accepted streaming block says, in document 01's words: of its formats and frames in block order, each with the descriptor that it was read from.
+-- `t` is the entity table, `s` the block, `a` its formats and frames.
+use Prim.Native.Nat.{ℕ, _+_, _-_, _≤_, _<_}
+use mathlib.Core.Path.{_≡_}
+use mathlib.Core.List.{List}
+use mathlib.Core.Bool.{true}
+use lib.ListN.{length, getD, take}
+use Rattle.le.specs.Le.{byte}
+use Rattle.rules.specs.Walk.{Reached}
+use Rattle.entities.specs.declared.Table.{Table}
+use Rattle.intervals.specs.Intervals.{Offered}
+use Rattle.streaming_rules.specs.Descriptors.{kindAt, isFormat, isFrame, noFormat, noFrame, formatAt, frameAt, intervalsAt}
+use Rattle.streaming_rules.specs.declared.Kind.the-variants.{Formats, Frames}
+use Rattle.streaming_rules.specs.declared.Format.{Format}
+use Rattle.streaming_rules.specs.declared.Frame.{Frame}
+use Rattle.streaming.specs.Answer.{Seen, countUnder, formatCount}
+use Rattle.streaming.specs.Broken.{blockCourse, formatIn}
+
+abbrev pub frameIn : Seen → ℕ → Frame
+frameIn a i = getD (a .frames) i noFrame
+
+-- a descriptor of the block starts at o
+pub record Starts (t : Table) (s : List ℕ) (o : ℕ) : Type 0 where
+  pub seen : Seen
+  pub there : Reached (blockCourse t s) seen o
+  pub inside : o < length s
+
+-- the format x at place i, with those before it
+pub record FormatStands (t : Table) (s : List ℕ) (i : ℕ) (before : List Format) (x : Format) : Type 0 where
+  -- it is what the format's descriptor at its offset says
+  pub starts : Starts t s (x .offset)
+  pub kind : kindAt s (x .offset) ≡ Formats (x .kind)
+  pub same : x ≡ formatAt (x .kind) s (x .offset)
+  -- formats are numbered 1, 2, .. in order
+  pub number : byte s (x .offset) 3 ≡ i + 1
+  pub order : (j : ℕ) → j < length before → getD before j noFormat .offset < x .offset
+
+-- the format of a number, from 1, of a list
+abbrev pub numbered : List Format → ℕ → Format
+numbered formats n = getD formats (n - 1) noFormat
+
+-- the frame x, with the block's formats and the frames before it
+pub record FrameStands (t : Table) (s : List ℕ) (formats : List Format) (before : List Frame) (x : Frame) : Type 0 where
+  -- it is what the frame's descriptor at its offset says
+  pub starts : Starts t s (x .offset)
+  pub same : x ≡ frameAt (numbered formats (x .format) .kind) (x .format) s (x .offset)
+  -- it stands under a format of its kind: its format is one of the block's, stands before it, and every later format stands behind it
+  pub low : 1 ≤ x .format
+  pub high : x .format ≤ length formats
+  pub kind : kindAt s (x .offset) ≡ Frames (numbered formats (x .format) .kind)
+  pub under : numbered formats (x .format) .offset < x .offset
+  pub between : (j : ℕ) → x .format ≤ j → j < length formats → x .offset < getD formats j noFormat .offset
+  -- the frames after each format are numbered 1, 2, .. in order
+  pub number : byte s (x .offset) 3 ≡ countUnder (x .format) before + 1
+  pub order : (j : ℕ) → j < length before → getD before j noFrame .offset < x .offset
+  -- its default interval is one that it offers
+  pub default : Offered s (x .offset + intervalsAt) (x .k) (x .interval)
+
+pub record Listed (t : Table) (s : List ℕ) (a : Seen) : Type 0 where
+  pub formats : (i : ℕ) → i < length (a .formats) → FormatStands t s i (take i (a .formats)) (formatIn a i)
+  pub frames : (i : ℕ) → i < length (a .frames) → FrameStands t s (a .formats) (take i (a .frames)) (frameIn a i)
+  -- and no format or frame of the block is left out
+  pub each-format : (o : ℕ) → Starts t s o → isFormat (kindAt s o) ≡ true → (i : ℕ) × (i < length (a .formats)) × (formatIn a i .offset ≡ o)
+  pub each-frame : (o : ℕ) → Starts t s o → isFrame (kindAt s o) ≡ true → (i : ℕ) × (i < length (a .frames)) × (frameIn a i .offset ≡ o)
+  -- each frame count is the number of the format's frames, each default is 1 to the count, and the header has the number of formats
+  pub counts : (i : ℕ) → i < length (a .formats) → formatIn a i .frames ≡ countUnder (i + 1) (a .frames)
+  pub defaults : (i : ℕ) → i < length (a .formats) → (1 ≤ formatIn a i .default) × (formatIn a i .default ≤ formatIn a i .frames)
+  pub number : length (a .formats) ≡ formatCount s
