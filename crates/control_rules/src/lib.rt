@@ -9,7 +9,7 @@ ghost use Rattle.le.specs.Le.{byte};
 ghost use Rattle.rules.specs.Numbered.{firstRow};
 ghost use Rattle.marks.specs.Marks.{marked};
 ghost use Rattle.control_rules.specs.Descriptors.{kindOf, isEntity, terminalOf, Shaped};
-ghost use Rattle.control_rules.specs.Rules.{headRows, rows, entityRows, revisionRight, pinCount, pinsRight, entityOf};
+ghost use Rattle.control_rules.specs.Rules.{limits, headRows, rows, entityRows, revisionRight, pinCount, pinsRight, entityOf};
 use blocks::Limits;
 use entities::ENTITIES_MOST;
 use entities::Entity;
@@ -62,7 +62,7 @@ pub fn rule_at(s: &[u8], at: usize, count: usize, marks: &Marks) -> u8
 
 // Inner: the descriptor at `at` is that of an entity, and lies in the block.
 pub fn entity_at(s: &[u8], at: usize) -> Entity
-    requires { ⌜ (at ≤ 4096) × Shaped (kindOf (byte (now s) at 2)) (now s) at ⌝ }
+    requires { ⌜ (at ≤ limits .most) × Shaped (kindOf (byte (now s) at 2)) (now s) at ⌝ }
     requires { ⌜ isEntity (kindOf (byte (now s) at 2)) ≡ true ⌝ }
     ensures { λ r. ⌜ r ≡ entityOf (now (s .entry)) at ⌝ }
 {

@@ -1,20 +1,15 @@
 -- The first flag that is up: it is broken, and none below it is; and the answer 0 where every flag is down.
-use Prim.Native.Nat.{ℕ, suc, _+_, _≤_, _<_}
+use Prim.Native.Nat.{ℕ, suc, _≤_, _<_}
 use mathlib.Core.Path.{_≡_, refl, sym}
 use mathlib.Core.List.{List, [], _∷_}
 use mathlib.Core.Bool.{Bool, true, false, true≢false}
-use mathlib.Core.Logic.{inl, inr, ⊎-elim, _↔_}
-use lib.ListN.{length}
+use mathlib.Core.Logic.{inl, inr, ⊎-elim}
 use native.Mathlib.Omega.{arith}
 use Rattle.rules.specs.Numbered.{firstFrom, Up, Down}
 
 pub up-above : (b : ℕ) (fs : List Bool) (k : ℕ) → Up b fs k → b ≤ k
 up-above b [] k u = absurd u
 up-above b (f ∷ fs) k u = ⊎-elim (λ p. omega (arith, p .0)) (λ r. omega (arith, up-above (suc b) fs k r)) u
-
-pub up-below : (b : ℕ) (fs : List Bool) (k : ℕ) → Up b fs k → k < b + length fs
-up-below b [] k u = absurd u
-up-below b (f ∷ fs) k u = ⊎-elim (λ p. omega (arith, p .0)) (λ r. omega (arith, up-below (suc b) fs k r)) u
 
 -- 0 is given where nothing is broken
 pub none-up : (b : ℕ) (fs : List Bool) → 0 < b → firstFrom b fs ≡ 0 → (k : ℕ) → Up b fs k → ⊥
@@ -35,12 +30,6 @@ first-zero b [] l h = tt
 first-zero b (true ∷ fs) l h = absurd (omega arith)
 first-zero b (false ∷ fs) l h = (refl, first-zero (suc b) fs (omega arith) h)
 
-pub zero-first : (b : ℕ) (fs : List Bool) → Down fs → firstFrom b fs ≡ 0
-unfolding firstFrom
-zero-first b [] d = refl
-zero-first b (true ∷ fs) d = absurd (true≢false (d .0))
-zero-first b (false ∷ fs) d = zero-first (suc b) fs (d .1)
-
 -- the number given is that of a broken rule, and of the lowest
 pub first-up : (b : ℕ) (fs : List Bool) (k : ℕ) → firstFrom b fs ≡ suc k → Up b fs (suc k)
 unfolding firstFrom
@@ -60,13 +49,6 @@ unfolding firstFrom
 up-first b [] k u l = absurd u
 up-first b (true ∷ fs) k u l = ⊎-elim (λ p. sym (p .0)) (λ r. absurd (l b (omega (arith, up-above (suc b) fs k r)) (inl (refl, refl)))) u
 up-first b (false ∷ fs) k u l = ⊎-elim (λ p. absurd (true≢false (sym (p .1)))) (λ r. up-first (suc b) fs k r (λ j h v. l j h (inr v))) u
-
--- EXACTLY WHEN: no number, where no rule is broken; number k, where k is the first that is
-pub given-none : (b : ℕ) (fs : List Bool) → 0 < b → (firstFrom b fs ≡ 0) ↔ ((k : ℕ) → Up b fs k → ⊥)
-given-none b fs l = (none-up b fs l, none-first b fs)
-
-pub given-first : (b : ℕ) (fs : List Bool) (k : ℕ) → (firstFrom b fs ≡ suc k) ↔ (Up b fs (suc k) × ((j : ℕ) → j < suc k → Up b fs j → ⊥))
-given-first b fs k = (λ e. (first-up b fs k e, λ j. first-low b fs k j e), λ p. up-first b fs (suc k) (p .0) (p .1))
 
 -- ---- one test of a ladder: what the next flag says of the number
 pub first-here : (b : ℕ) (f : Bool) (fs : List Bool) → f ≡ true → b ≡ firstFrom b (f ∷ fs)

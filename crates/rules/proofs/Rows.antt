@@ -75,6 +75,10 @@ row-none (r ∷ rs) p e = go (r .broken) refl (row-none rs (p .1))
 pub row-whole : (rows : List Row) → Numbered rows → (firstRow rows ≡ 0) ↔ NoneOf rows
 row-whole rows p = (row-none rows p, none-row rows)
 
+-- number k is given exactly where it is the first broken row's, and that is not 0
+pub given-exactly : (rows : List Row) → Numbered rows → (k : ℕ) → Given rows k ↔ ((firstRow rows ≡ k) × (0 < k))
+given-exactly rows p k = (λ g. (given-row g, given-number g p), λ e. row-gives rows k (sym (e .0)) (λ z. omega (arith, e .1)))
+
 -- rows checked before others
 pub row-before : (rs qs : List Row) (k : ℕ) → firstRow rs ≡ suc k → firstRow (rs ++ qs) ≡ suc k
 row-before [] qs k e = absurd (omega arith)

@@ -6,15 +6,15 @@ ghost use mathlib.Core.Bool.{_&&_, not};
 ghost use Prim.Native.Nat.{_+_, _≤_};
 ghost use lib.Dec.{eqb};
 ghost use Rattle.rules.specs.Pick.{pick};
-ghost use Rattle.entities.specs.Table.{used};
+ghost use Rattle.entities.specs.Table.{entitiesMost, used};
 ghost use Rattle.sources.specs.Sources.{Judged};
 use entities::Table;
 use rules::Verdict;
 
-// Inner: the table is that of a block that was walked, so it says at most 32.
+// Inner: the table is that of a block that was walked, so it says no more than it has places.
 // 13, then 14, then 15, each at the first entity in block order that breaks it.
 pub fn judge(s: &[u8], t: Table) -> Verdict
-    requires { ⌜ t .count ≤ 32 ⌝ }
+    requires { ⌜ t .count ≤ entitiesMost ⌝ }
     ensures { λ r. ⌜ Judged (now (s .entry)) (used t) r ⌝ }
 {
     let n = t.count;
@@ -54,7 +54,7 @@ pub fn judge(s: &[u8], t: Table) -> Verdict
 
 // The first place of those up to and with i that breaks a rule, or i + 1: `first` is that of those before i.
 fn first_of(first: usize, i: usize, broken: bool) -> usize
-    requires { ⌜ i ≤ 32 ⌝ }
+    requires { ⌜ i ≤ entitiesMost ⌝ }
     ensures { λ r. ⌜ r ≡ pick (eqb first i && not broken) (i + 1) first ⌝ }
 {
     if first != i {

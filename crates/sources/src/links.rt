@@ -4,7 +4,7 @@ ghost use mathlib.Core.Bool.{true};
 ghost use mathlib.Core.Logic.{_↔_};
 ghost use Prim.Native.Nat.{ℕ, _<_, _≤_};
 ghost use Rattle.graph.specs.Rows.{Bit};
-ghost use Rattle.entities.specs.Table.{used, entityAt};
+ghost use Rattle.entities.specs.Table.{entitiesMost, used, entityAt};
 ghost use Rattle.entities.specs.declared.Found.the-variants.{At, Nothing};
 ghost use Rattle.control_rules.specs.Descriptors.{kindOf, sourceCount, sourcePlace};
 ghost use Rattle.sources.specs.Links.{LinksOf};
@@ -21,9 +21,9 @@ pub struct Links {
     pub row: u32,
 }
 
-// Inner: the table says at most 32.
+// Inner: the table says no more than it has places.
 pub fn gather(s: &[u8], t: Table, e: Entity) -> Links
-    requires { ⌜ t .count ≤ 32 ⌝ }
+    requires { ⌜ t .count ≤ entitiesMost ⌝ }
     ensures { λ r. ⌜ LinksOf (now (s .entry)) (used t) e (r .lost) (r .output) (r .row) ⌝ }
 {
     let kind = e.kind;
@@ -54,7 +54,7 @@ fn names_nothing(f: Found) -> bool
 }
 
 fn names_output(t: Table, f: Found) -> bool
-    requires { ⌜ ((j : ℕ) → f ≡ At j → j < t .count) × (t .count ≤ 32) ⌝ }
+    requires { ⌜ ((j : ℕ) → f ≡ At j → j < t .count) × (t .count ≤ entitiesMost) ⌝ }
     ensures { λ r. ⌜ (r ≡ true) ↔ ((j : ℕ) × (f ≡ At j) × (entityAt (used t) j .kind ≡ 3)) ⌝ }
 {
     match f {
@@ -67,7 +67,7 @@ fn names_output(t: Table, f: Found) -> bool
 }
 
 fn place_bit(f: Found) -> u32
-    requires { ⌜ ((j : ℕ) → f ≡ At j → j < 32) ⌝ }
+    requires { ⌜ ((j : ℕ) → f ≡ At j → j < entitiesMost) ⌝ }
     ensures { λ r. ⌜ ((j : ℕ) → Bit r j ↔ (f ≡ At j)) ⌝ }
 {
     match f {

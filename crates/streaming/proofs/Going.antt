@@ -19,7 +19,7 @@ use Rattle.rules.proofs.Padded.{pad-set, pad-at}
 use Rattle.rules.proofs.Rows.{row-none}
 use Rattle.rules.proofs.Walks.{Walking, Steady, starts, stops, ends, goes}
 use Rattle.streaming_rules.specs.Descriptors.{lenAt, kindAt, isFormat, isFrame, formatOf, layoutOf, noFormat, noFrame, formatAt, frameAt}
-use Rattle.streaming_rules.specs.Rules.{rows}
+use Rattle.streaming_rules.specs.Rules.{formatsMost, framesMost, rows}
 use Rattle.streaming_rules.specs.declared.Kind.{Kind}
 use Rattle.streaming_rules.specs.declared.Sofar.{Sofar}
 use Rattle.streaming_rules.specs.declared.Format.{Format}
@@ -86,17 +86,17 @@ counted-more counts f v l x w e n h j k = rw (count-more j l x, e) (go (eqb f j)
 pub record Going (linked : Bool) (s : List ℕ) (formats : List Format) (frames : List Frame) (counts : List ℕ) (f n : ℕ) (last : Format) (at : ℕ) : Type 0 where
   pub seen : Seen
   pub walking : Walking (course linked s) seen at
-  pub formats-kept : formats ≡ pad 8 noFormat (seen .formats)
+  pub formats-kept : formats ≡ pad formatsMost noFormat (seen .formats)
   pub formats-counted : f ≡ length (seen .formats)
-  pub formats-few : f ≤ 8
-  pub frames-kept : frames ≡ pad 64 noFrame (seen .frames)
+  pub formats-few : f ≤ formatsMost
+  pub frames-kept : frames ≡ pad framesMost noFrame (seen .frames)
   pub frames-counted : n ≡ length (seen .frames)
-  pub frames-few : n ≤ 64
+  pub frames-few : n ≤ framesMost
   pub last-is : last ≡ lastOf (seen .formats)
   pub size : length counts ≡ 9
   pub counted : (j : ℕ) → j < 9 → getD counts j 0 ≡ countUnder j (seen .frames)
 
-pub going-starts : (linked : Bool) (s : List ℕ) → Going linked s (replicate 8 noFormat) (replicate 64 noFrame) noCounts 0 0 noFormat 0
+pub going-starts : (linked : Bool) (s : List ℕ) → Going linked s (replicate formatsMost noFormat) (replicate framesMost noFrame) noCounts 0 0 noFormat 0
 unfolding countUnder
 going-starts linked s =
     record {
@@ -150,12 +150,12 @@ module _ (linked : Bool) (s : List ℕ) (formats : List Format) (frames : List F
 
     pub going-format : (x : Format) → isFormat (kindAt s o) ≡ true → x ≡ formatAt (formatOf (kindAt s o)) s o → Going linked s (set formats f x) frames counts (f + 1) n x (o + lenAt s o)
     going-format x q p =
-        let few : f < 8 = fine-here .fewer q in
+        let few : f < formatsMost = fine-here .fewer q in
         let l : List Format = w .seen .formats in
         record {
           seen = record { formats = l ++ (x ∷ []); frames = w .seen .frames };
           walking = rw (after-format s (w .seen) o q, ← p) at on;
-          formats-kept = rw (w .formats-kept, w .formats-counted) (pad-set 8 noFormat l x (omega (arith, w .formats-counted)));
+          formats-kept = rw (w .formats-kept, w .formats-counted) (pad-set formatsMost noFormat l x (omega (arith, w .formats-counted)));
           formats-counted = simp length-append (omega (arith, w .formats-counted));
           formats-few = omega arith;
           frames-kept = w .frames-kept;
@@ -168,7 +168,7 @@ module _ (linked : Bool) (s : List ℕ) (formats : List Format) (frames : List F
 
     pub going-frame : (x : Frame) → isFormat (kindAt s o) ≡ false → isFrame (kindAt s o) ≡ true → x ≡ frameAt (formatOf (kindAt s o)) f s o → Going linked s formats (set frames n x) (set counts f (byte s o 3)) f (n + 1) last (o + lenAt s o)
     going-frame x p q r =
-        let few : n < 64 = fine-here .few q in
+        let few : n < framesMost = fine-here .few q in
         let l : List Frame = w .seen .frames in
         record {
           seen = record { formats = w .seen .formats; frames = l ++ (x ∷ []) };
@@ -176,7 +176,7 @@ module _ (linked : Bool) (s : List ℕ) (formats : List Format) (frames : List F
           formats-kept = w .formats-kept;
           formats-counted = w .formats-counted;
           formats-few = w .formats-few;
-          frames-kept = rw (w .frames-kept, w .frames-counted) (pad-set 64 noFrame l x (omega (arith, w .frames-counted)));
+          frames-kept = rw (w .frames-kept, w .frames-counted) (pad-set framesMost noFrame l x (omega (arith, w .frames-counted)));
           frames-counted = simp length-append (omega (arith, w .frames-counted));
           frames-few = omega arith;
           last-is = w .last-is;
@@ -205,7 +205,7 @@ module _ (linked : Bool) (s : List ℕ) (formats : List Format) (frames : List F
     v-is : v ≡ late s (w .seen)
     v-is =
         e ∙ late-same (λ i. getD formats i noFormat) (λ i. getD (w .seen .formats) i noFormat) (λ i. getD counts (i + 1) 0) (λ i. countUnder (i + 1) (w .seen .frames)) f (byte s 0 3)
-        (λ i. rw (w .formats-kept) (pad-at 8 noFormat (w .seen .formats) i))
+        (λ i. rw (w .formats-kept) (pad-at formatsMost noFormat (w .seen .formats) i))
         (λ i k. let m = w .formats-few in w .counted (i + 1) (omega arith))
         ∙ (rw (w .formats-counted))
 

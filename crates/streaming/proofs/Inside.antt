@@ -12,6 +12,7 @@ use Rattle.rules.proofs.Padded.{pad-at}
 use Rattle.rules.proofs.Growing.{each-more}
 use Rattle.entities.specs.declared.Table.{Table}
 use Rattle.streaming_rules.specs.Descriptors.{kindAt, isFrame, formatOf, noFrame, frameAt, frameLengthAt}
+use Rattle.streaming_rules.specs.Rules.{framesMost}
 use Rattle.streaming_rules.specs.declared.Frame.{Frame}
 use Rattle.streaming_rules.proofs.Fine.{Fine, fine, frame-inside}
 use Rattle.streaming.specs.Answer.{Seen, sofar, after, course, acceptedWith, streamingOf}
@@ -23,10 +24,10 @@ abbrev pub Within : List ℕ → ℕ → Type 0
 Within s o = o + frameLengthAt (formatOf (kindAt s o)) s o ≤ length s
 
 record Held (s : List ℕ) (l : List Frame) : Type 0 where
-  few : length l ≤ 64
+  few : length l ≤ framesMost
   inside : (i : ℕ) → i < length l → Within s (getD l i noFrame .offset)
 
-held-more : (s : List ℕ) (l : List Frame) (x : Frame) → length l < 64 → Within s (x .offset) → Held s l → Held s (l ++ (x ∷ []))
+held-more : (s : List ℕ) (l : List Frame) (x : Frame) → length l < framesMost → Within s (x .offset) → Held s l → Held s (l ++ (x ∷ []))
 held-more s l x n w h =
     record { few = simp length-append (omega arith); inside = each-more noFrame l x (λ i before (y : Frame). Within s (y .offset)) (h .inside) w }
 
@@ -53,12 +54,12 @@ module _ (linked : Bool) (s : List ℕ) (clean : Clean (course linked s)) where
   held (next {a = a} {o = o} r h p q) = step a o (fine-at a o r h) (held r)
 
 pub record FramesHeld (s : List ℕ) (x : Streaming) : Type 0 where
-  pub few : x .«frame_count» ≤ 64
+  pub few : x .«frame_count» ≤ framesMost
   pub inside : (i : ℕ) → i < x .«frame_count» → Within s (getD (x .frames) i noFrame .offset)
 
 held-with : (s : List ℕ) (a : Seen) → Held s (a .frames) → FramesHeld s (acceptedWith s a)
 unfolding acceptedWith
-held-with s a h = record { few = h .few; inside = λ i k. rw (pad-at 64 noFrame (a .frames) i) (h .inside i k) }
+held-with s a h = record { few = h .few; inside = λ i k. rw (pad-at framesMost noFrame (a .frames) i) (h .inside i k) }
 
 pub frames-held : (t : Table) (s : List ℕ) (x : Streaming) → x ≡ streamingOf t s → x .verdict ≡ Accepted → FramesHeld s x
 frames-held t s x e v =

@@ -3,6 +3,7 @@ ghost use mathlib.Core.Path.{_≡_};
 ghost use Prim.Native.Nat.{_+_, _≤_, _<_};
 ghost use lib.ListN.{getD};
 ghost use Rattle.streaming_rules.specs.Descriptors.{noFormat};
+ghost use Rattle.streaming_rules.specs.Rules.{formatsMost};
 ghost use Rattle.rules.specs.Place.{firstPlace};
 ghost use Rattle.streaming.specs.Answer.{isOutput, linkedTo, countBroken, defaultBroken, lateBy, refusedBy, noCounts, streamingOf};
 use entities::Entity;
@@ -50,7 +51,7 @@ fn is_linked(table: Table, link: u8) -> bool
 
 // The first of the n formats that breaks 36; n where none does.
 fn first_count(formats: [Format; FORMATS_MOST], n: usize, counts: &Counts) -> usize
-    requires { ⌜ n ≤ 8 ⌝ }
+    requires { ⌜ n ≤ formatsMost ⌝ }
     ensures { λ r. ⌜ r ≡ firstPlace (λ i. countBroken (getD formats i noFormat) (getD (now (counts .entry)) (i + 1) 0)) n ⌝ }
 {
     let mut i: usize = 0;
@@ -76,7 +77,7 @@ fn default_broken(f: Format) -> bool
 
 // The first of the n formats that breaks 37; n where none does.
 fn first_default(formats: [Format; FORMATS_MOST], n: usize) -> usize
-    requires { ⌜ n ≤ 8 ⌝ }
+    requires { ⌜ n ≤ formatsMost ⌝ }
     ensures { λ r. ⌜ r ≡ firstPlace (λ i. defaultBroken (getD formats i noFormat)) n ⌝ }
 {
     let mut i: usize = 0;
@@ -91,7 +92,7 @@ fn first_default(formats: [Format; FORMATS_MOST], n: usize) -> usize
 
 // 36 to 38, after the walk: number by number, each at the first format that breaks it.
 fn late_verdict(formats: [Format; FORMATS_MOST], n: usize, counts: &Counts, p: u8) -> Verdict
-    requires { ⌜ n ≤ 8 ⌝ }
+    requires { ⌜ n ≤ formatsMost ⌝ }
     ensures { λ r. ⌜ r ≡ lateBy (λ i. getD formats i noFormat) (λ i. getD (now (counts .entry)) (i + 1) 0) n p ⌝ }
 {
     let i = first_count(formats, n, counts);

@@ -8,7 +8,7 @@ ghost use Rattle.le.specs.Le.{byte, le32At};
 ghost use Rattle.rules.specs.Pick.{pick};
 ghost use Rattle.rules.specs.Numbered.{firstRow};
 ghost use Rattle.streaming_rules.specs.Descriptors.{kindOf, kindAt, lenAt, shape, layoutOf, frameLengthAt, sortOf, guidAt, noFormat, noFrame, formatAt, frameAt, isFormat, isFrame, formatOf};
-ghost use Rattle.streaming_rules.specs.Rules.{headRows, isUnread, misplaced, offersUnder, offersAt, defaultOffered, kindRows, rows};
+ghost use Rattle.streaming_rules.specs.Rules.{formatsMost, limits, headRows, isUnread, misplaced, offersUnder, offersAt, defaultOffered, kindRows, rows};
 use blocks::Limits;
 use entities::ENTITIES_MOST;
 
@@ -261,7 +261,7 @@ fn header_rule(s: &[u8], at: usize, a: Sofar) -> u8
 
 // 31 and 35, of a format.
 fn format_rule(s: &[u8], at: usize, format: u8, a: Sofar) -> u8
-    requires { ⌜ (at + layoutOf format .length ≤ length (now s)) × (a .formats ≤ 8) ⌝ }
+    requires { ⌜ (at + layoutOf format .length ≤ length (now s)) × (a .formats ≤ formatsMost) ⌝ }
     ensures { λ r. ⌜ r ≡ firstRow (kindRows (Kind.Formats format) (now (s .entry)) at a) ⌝ }
 {
     if le::wide(s[at + 3]) != a.formats + 1 {
@@ -338,7 +338,7 @@ fn frame_rule(s: &[u8], at: usize, format: u8, a: Sofar) -> u8
 // 29 to 35, by the kind; 0 where none is broken.
 fn kind_rule(s: &[u8], at: usize, kind: Kind, a: Sofar) -> u8
     requires { ⌜ (shape kind (now s) at ≡ true) × (at + lenAt (now s) at ≤ length (now s)) ⌝ }
-    requires { ⌜ a .formats ≤ 8 ⌝ }
+    requires { ⌜ a .formats ≤ formatsMost ⌝ }
     ensures { λ r. ⌜ r ≡ firstRow (kindRows kind (now (s .entry)) at a) ⌝ }
 {
     match kind {
@@ -352,7 +352,7 @@ fn kind_rule(s: &[u8], at: usize, kind: Kind, a: Sofar) -> u8
 
 // Inner: the first of 25 to 35 that the descriptor at `at` breaks; 0 where none is broken.
 pub fn rule_at(s: &[u8], at: usize, a: Sofar) -> u8
-    requires { ⌜ (at < length (now s)) × (a .formats ≤ 8) ⌝ }
+    requires { ⌜ (at < length (now s)) × (a .formats ≤ formatsMost) ⌝ }
     ensures { λ r. ⌜ r ≡ firstRow (rows (now (s .entry)) at a) ⌝ }
 {
     if blocks::length_broken(s, at) {
@@ -438,7 +438,7 @@ fn bits_at(s: &[u8], at: usize, guided: bool) -> u8
 
 // Inner: what a format's descriptor gives.
 pub fn format_at(s: &[u8], at: usize, kind: Kind) -> Format
-    requires { ⌜ (at + layoutOf (formatOf kind) .length ≤ length (now s)) × (length (now s) ≤ 16384) ⌝ }
+    requires { ⌜ (at + layoutOf (formatOf kind) .length ≤ length (now s)) × (length (now s) ≤ limits .most) ⌝ }
     ensures { λ r. ⌜ r ≡ formatAt (formatOf kind) (now (s .entry)) at ⌝ }
 {
     let format = format_of(kind);
@@ -469,8 +469,8 @@ fn size_at(s: &[u8], at: usize, sized: bool) -> u32
 
 // Inner: what a frame's descriptor gives, under format `number`.
 pub fn frame_at(s: &[u8], at: usize, kind: Kind, number: usize) -> Frame
-    requires { ⌜ (at + 26 ≤ length (now s)) × (length (now s) ≤ 16384) ⌝ }
-    requires { ⌜ number ≤ 8 ⌝ }
+    requires { ⌜ (at + 26 ≤ length (now s)) × (length (now s) ≤ limits .most) ⌝ }
+    requires { ⌜ number ≤ formatsMost ⌝ }
     ensures { λ r. ⌜ r ≡ frameAt (formatOf kind) number (now (s .entry)) at ⌝ }
 {
     let format = format_of(kind);
