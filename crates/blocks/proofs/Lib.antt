@@ -1,3 +1,4 @@
 -- The laws that the readers cite.
 pub mod Right
 pub mod Tests
+pub mod Unique
