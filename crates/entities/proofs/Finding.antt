@@ -3,16 +3,16 @@ use Prim.Native.Nat.{ℕ, zero, suc, _+_, _≤_, _<_}
 use mathlib.Core.Path.{_≡_, refl, sym, ap, _∙_}
 use mathlib.Core.Bool.{Bool, true, false}
 use mathlib.Core.List.{List, [], _∷_, map}
-use lib.Dec.{eqb}
-use lib.ListN.{length, drop, getD, length-map, length-take, length-drop}
+use lib.Dec.{leb, eqb}
+use lib.ListN.{length, take, drop, getD, length-map, length-take, length-drop}
 use lib.Seq.{drop-cons, getD-take}
 use native.Mathlib.Numerals.{add-one}
 use native.Mathlib.Omega.{arith}
-use borrow.Author.Tests.{eq-eqb, ne-eqb, eqb-true, eqb-false}
+use borrow.Author.Tests.{eq-eqb, ne-eqb, eqb-true, eqb-false, leb-true, leb-false}
 use Rattle.rules.specs.Pick.{pick}
 use Rattle.rules.specs.First.{First}
 use Rattle.rules.proofs.Firsts.{first-unique}
-use Rattle.entities.specs.Table.{entityAt, used, findFrom, foundIn}
+use Rattle.entities.specs.Table.{entityAt, used, findFrom, foundAmong, foundIn}
 use Rattle.entities.specs.declared.Entity.{Entity}
 use Rattle.entities.specs.declared.Table.{Table}
 use Rattle.entities.specs.declared.Found.{Found}
@@ -88,25 +88,31 @@ present l id r h w = go (findFrom 0 l id) refl
     go Nothing e = absurd ((rw e at (found-first l id)) .before r h (w .here h))
     go (At j) e = ap At (first-unique (Carries l id) (length l) r j w (rw e at (found-first l id)))
 
--- ---- the scan of all the places, used and unused
-module _ (t : Table) (id r : ℕ) (size : length (t .entities) ≡ 32) (w : First (Carries (t .entities) id) (length (t .entities)) r) where
-  used-carries : (i : ℕ) → i < length (used t) → Carries (used t) id i → Carries (t .entities) id i
-  used-carries i h e = let k : i < t .count = omega (arith, simp length-take at h) in rw getD-take at e
+-- ---- the scan of all the places, used and unused: what is found among the first k
+module _ (l : List Entity) (k id r : ℕ) (w : First (Carries l id) (length l) r) where
+  used-carries : (i : ℕ) → i < length (take k l) → Carries (take k l) id i → Carries l id i
+  used-carries i h e = let j : i < k = omega (arith, simp length-take at h) in rw getD-take at e
 
-  pub lent-none : t .count ≤ r → Nothing ≡ foundIn t id
-  lent-none h = absent (used t) id (λ i k e. w .before i (omega (arith, simp length-take at k)) (used-carries i k e))
+  lent-none : (min : length (take k l) ≤ r) → Nothing ≡ foundAmong l k id
+  lent-none m = absent (take k l) id (λ i h e. w .before i (omega arith) (used-carries i h e))
 
-  pub lent-more : 32 ≤ r → Nothing ≡ foundIn t id
-  lent-more h = absent (used t) id (λ i k e. w .before i (omega (arith, simp length-take at k)) (used-carries i k e))
-
-  pub lent-at : r < t .count → r < 32 → At r ≡ foundIn t id
+  lent-at : r < length l → r < k → At r ≡ foundAmong l k id
   lent-at h b =
-      present (used t) id r (simp length-take (omega arith))
+      present (take k l) id r (simp length-take (omega arith))
       (record {
         within = simp length-take (omega arith);
-        before = λ i k e. w .before i k (used-carries i (simp length-take (omega arith)) e);
-        here = λ k. rw getD-take (w .here (omega arith));
+        before = λ i j e. w .before i j (used-carries i (simp length-take (omega arith)) e);
+        here = λ j. rw getD-take (w .here h);
       })
+
+  pub lent-found : pick (leb (length l) r) Nothing (pick (leb k r) Nothing (At r)) ≡ foundAmong l k id
+  unfolding pick
+  lent-found = go (leb (length l) r) refl (leb k r) refl
+    where
+      go : (x : Bool) → leb (length l) r ≡ x → (y : Bool) → leb k r ≡ y → pick x Nothing (pick y Nothing (At r)) ≡ foundAmong l k id
+      go true p y q = lent-none (simp length-take (omega (arith, leb-true (length l) r p)))
+      go false p true q = lent-none (simp length-take (omega (arith, leb-true k r q)))
+      go false p false q = lent-at (leb-false (length l) r p) (leb-false k r q)
 
 -- ---- the search in a table, place by place
 pub length-of : (X Y : Type 0) (f : X → Y) (l : List X) (n : ℕ) → length (map f l) ≡ n → length l ≡ n

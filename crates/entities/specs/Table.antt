@@ -11,7 +11,7 @@ use Rattle.entities.specs.declared.Table.{Table}
 use Rattle.entities.specs.declared.Found.{Found}
 use Rattle.entities.specs.declared.Found.the-variants.{At, Nothing}
 
--- the most entities of a block, and the places of its table
+-- ours: the most entities of a block, and the places of its table
 abbrev pub entitiesMost : ℕ
 entitiesMost = 32
 
@@ -20,7 +20,7 @@ abbrev pub noEntity : Entity
 noEntity = record { id = 0; kind = 0; terminal = 0; offset = 0 }
 
 abbrev pub noTable : Table
-noTable = record { count = 0; entities = replicate 32 noEntity; clock = 0 }
+noTable = record { count = 0; entities = replicate entitiesMost noEntity; clock = 0 }
 
 -- the entity at a place of a list
 abbrev pub entityAt : List Entity → ℕ → Entity
@@ -39,6 +39,9 @@ findFrom i (e ∷ l) id = pick (eqb (e .id) id) (At i) (findFrom (suc i) l id)
 abbrev pub Finds : List Entity → ℕ → ℕ → Type 0
 Finds l id r = First (λ i. entityAt l i .id ≡ id) (length l) r
 
--- finding an ID: the first used place whose entity carries it
+-- FINDING AN ID: the first used place whose entity carries it, where the first n places are used
+abbrev pub foundAmong : List Entity → ℕ → ℕ → Found
+foundAmong l n id = findFrom 0 (take n l) id
+
 abbrev pub foundIn : Table → ℕ → Found
-foundIn t id = findFrom 0 (used t) id
+foundIn t id = foundAmong (t .entities) (t .count) id

@@ -1,7 +1,12 @@
 // The entity table of a control block: terminals and units in block order, unused places zero.
 ghost use mathlib.Core.Path.{_≡_};
-ghost use lib.Dec.{eqb};
-ghost use Rattle.entities.specs.Table.{foundIn, noTable, Finds};
+ghost use lib.Dec.{leb, eqb};
+ghost use Rattle.rules.specs.Pick.{pick};
+ghost use Rattle.entities.specs.declared.Found.the-variants.{At, Nothing};
+ghost use Rattle.entities.specs.Table.{foundIn, foundAmong, noTable, Finds};
+
+// Ours: a table has so many places.
+pub const ENTITIES_MOST: usize = 32;
 
 // The most entities of a block, and the places of its table.
 pub const ENTITIES_MOST: usize = 32;
@@ -17,7 +22,7 @@ pub struct Entity {
 // The first `count` places are used. A table is input too: it may hold anything.
 pub struct Table {
     pub count: usize,
-    pub entities: [Entity; 32],
+    pub entities: [Entity; ENTITIES_MOST],
     pub clock: u32,
 }
 
@@ -36,7 +41,7 @@ pub fn no_table() -> Table
         terminal: 0,
         offset: 0,
     };
-    let entities = [none; 32];
+    let entities = [none; ENTITIES_MOST];
     Table {
         count: 0,
         entities,
@@ -50,7 +55,7 @@ pub fn find(t: Table, id: u8) -> Found
 {
     let n = t.count;
     let mut i: usize = 0;
-    while i < 32 {
+    while i < ENTITIES_MOST {
         if n <= i {
             return Found::Nothing;
         }
@@ -63,31 +68,28 @@ pub fn find(t: Table, id: u8) -> Found
     Found::Nothing
 }
 
-// The same, by the thin scan over the lent places.
-pub fn find_lent(t: Table, id: u8) -> Found
-    ensures { λ r. ⌜ r ≡ foundIn t id ⌝ }
+// The same among the first `count` of the lent places, by the thin scan.
+pub fn find_lent(entities: &[Entity], count: usize, id: u8) -> Found
+    ensures { λ r. ⌜ r ≡ foundAmong (now (entities .entry)) count id ⌝ }
 {
-    let n = t.count;
-    let entities = t.entities;
-    let i = scan_all(entities, id);
-    if 32 <= i {
+    used_place(scan(entities, id), entities.len(), count)
+}
+
+// What a scan of so many places found, if it is one of the first `count`.
+fn used_place(i: usize, places: usize, count: usize) -> Found
+    ensures { λ r. ⌜ r ≡ pick (leb places i) Nothing (pick (leb count i) Nothing (At i)) ⌝ }
+{
+    if places <= i {
         return Found::Nothing;
     }
-    if n <= i {
+    if count <= i {
         return Found::Nothing;
     }
     Found::At(i)
 }
 
-// The places are lent, and come back.
-fn scan_all(entities: [Entity; 32], id: u8) -> usize
-    ensures { λ r. ⌜ Finds entities id r ⌝ }
-{
-    scan(&entities, id)
-}
-
 // The first of the lent places whose entity carries the ID, or their number.
-pub fn scan(entities: &[Entity], id: u8) -> usize
+fn scan(entities: &[Entity], id: u8) -> usize
     ensures { λ r. ⌜ Finds (now (entities .entry)) id r ⌝ }
 {
     let mut i: usize = 0;
