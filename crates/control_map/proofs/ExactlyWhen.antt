@@ -5,26 +5,31 @@ use mathlib.Core.Path.{_≡_, refl, sym, _∙_, ap}
 use mathlib.Core.List.{List}
 use mathlib.Core.Logic.{_↔_}
 use lib.ListN.{length}
-use borrow.Author.Tests.{ne-eqb}
 use native.Mathlib.Omega.{arith}
 use Rattle.le.specs.Le.{byte}
-use Rattle.rules.specs.Pick.{pick}
 use Rattle.entities.specs.Table.{entityAt}
 use Rattle.entities.specs.declared.Entity.{Entity}
-use Rattle.control_rules.specs.Descriptors.{kindOf, kindAt, lenAt, terminalOf, controlsPlace, camera}
+use Rattle.control_rules.specs.Descriptors.{input, kindOf, kindAt, lenAt, terminalOf, camera, ControlsAt, ControlsAt.camera-terminal, ControlsAt.processing-unit}
 use Rattle.control_rules.proofs.Within.{controls-within}
 use Rattle.control.specs.Answer.{refusedBy, ControlIs}
 use Rattle.control.specs.Broken.{FirstBroken, FirstBroken.by-block, FirstBroken.by-descriptor, FirstBroken.by-13, FirstBroken.by-14, FirstBroken.by-15}
 use Rattle.control.proofs.Listed.{ids-nonzero, each-stands}
 use Rattle.control.proofs.ExactlyWhen.{accepted, refused, from-first, head-few, rows-few}
-use Rattle.control_map.specs.Map.{placeOf, AcceptedWith, Mapped, controlsOf, MapIs, MapIs.own, MapIs.given, MapIs.sixteen}
+use Rattle.control_map.specs.Map.{HasControls, AcceptedWith, Mapped, controlsAt, MapIs, MapIs.own, MapIs.given, MapIs.sixteen}
 use Rattle.control_map.specs.declared.Map.{Map}
 use Rattle.control_map.specs.declared.Map.the-variants.{Controls, Refused}
-use Rattle.control_map.proofs.Mapping.{clean, mapped-once, place-else}
+use Rattle.control_map.proofs.Mapping.{clean, mapped-once, place-else, place-is, apart}
 use Rattle.control_map.proofs.Unique.{controls-unique}
 
-apart : (a b c k o : ℕ) → Controls a b c ≡ Refused k o → ⊥
-apart a b c k o e = let z : _≡_ {A = ℕ} 0 1 = cc in omega arith
+split-apart : (a b c k o : ℕ) → Controls a b c ≡ Refused k o → ⊥
+split-apart a b c k o e = let z : _≡_ {A = ℕ} 0 1 = cc in omega arith
+
+-- an input terminal with controls is a camera; nothing but input terminals and processing units has any
+of-camera : {t n : ℕ} → ControlsAt input t n → t ≡ camera
+of-camera (camera-terminal t e) = e
+
+only-these : (t x : ℕ) → (x ≡ 2 → ⊥) → (x ≡ 5 → ⊥) → (n : ℕ) → ControlsAt (kindOf x) t n → ⊥
+only-these t x a b n h = apart n (place-else t x a b ∙ place-is h)
 
 module _ (s : List ℕ) (id : ℕ) where
   -- a control block's own numbers end at 15
@@ -40,7 +45,7 @@ module _ (s : List ℕ) (id : ℕ) where
 
   to-own : {r : Map} → MapIs s id r → (k o : ℕ) → k < 16 → r ≡ Refused k o → FirstBroken s k o
   to-own (own j p c) k o l e = let x : j ≡ k = cc in let y : p ≡ o = cc in rw (← x, ← y) (own-first j p c)
-  to-own (given l a i m) k o h e = absurd (apart _ _ _ k o e)
+  to-own (given l a i n m) k o h e = absurd (split-apart _ _ _ k o e)
   to-own (sixteen l a n) k o h e = absurd (let z : 16 ≡ k = cc in omega arith)
 
   -- THE BLOCK'S OWN REFUSAL, with its number and offset
@@ -51,11 +56,11 @@ module _ (s : List ℕ) (id : ℕ) where
   pub record Unmapped : Type 0 where
     pub seen : List Entity
     pub with : AcceptedWith s seen
-    pub none : (i : ℕ) → Mapped seen id i → ⊥
+    pub none : (i place : ℕ) → Mapped seen id i place → ⊥
 
   to-sixteen : {r : Map} → MapIs s id r → r ≡ Refused 16 0 → Unmapped
   to-sixteen (own j p c) e = absurd (let x : j ≡ 16 = cc in omega (arith, own-number (own-first j p c)))
-  to-sixteen (given l a i m) e = absurd (apart _ _ _ 16 0 e)
+  to-sixteen (given l a i n m) e = absurd (split-apart _ _ _ 16 0 e)
   to-sixteen (sixteen l a n) e = record { seen = l; with = a; none = n }
 
   pub sixteen-given : (r : Map) → MapIs s id r → (r ≡ Refused 16 0) ↔ Unmapped
@@ -65,63 +70,61 @@ module _ (s : List ℕ) (id : ℕ) where
   pub record MappedAt (r : Map) : Type 0 where
     pub seen : List Entity
     pub with : AcceptedWith s seen
+    pub entity : ℕ
     pub place : ℕ
-    pub mapped : Mapped seen id place
-    pub bytes : r ≡ controlsOf s (entityAt seen place)
+    pub mapped : Mapped seen id entity place
+    pub bytes : r ≡ controlsAt s (entityAt seen entity .offset) place
 
   to-bytes : {r : Map} → MapIs s id r → (a b c : ℕ) → r ≡ Controls a b c → MappedAt (Controls a b c)
-  to-bytes (own j p q) a b c e = absurd (apart a b c j p (sym e))
-  to-bytes (given l w i m) a b c e = record { seen = l; with = w; place = i; mapped = m; bytes = sym e }
-  to-bytes (sixteen l w n) a b c e = absurd (apart a b c 16 0 (sym e))
+  to-bytes (own j p q) a b c e = absurd (split-apart a b c j p (sym e))
+  to-bytes (given l w i n m) a b c e = record { seen = l; with = w; entity = i; place = n; mapped = m; bytes = sym e }
+  to-bytes (sixteen l w n) a b c e = absurd (split-apart a b c 16 0 (sym e))
 
   pub bytes-given : (r : Map) → MapIs s id r → (a b c : ℕ) → (r ≡ Controls a b c) ↔ MappedAt (Controls a b c)
-  bytes-given r m a b c = (to-bytes m a b c, λ u. controls-unique s id m (given (u .seen) (u .with) (u .place) (u .mapped)) ∙ sym (u .bytes))
+  bytes-given r m a b c = (to-bytes m a b c, λ u. controls-unique s id m (given (u .seen) (u .with) (u .entity) (u .place) (u .mapped)) ∙ sym (u .bytes))
 
   -- ---- an entity of the ID, in an accepted block
   module _ (r : Map) (m : MapIs s id r) (l : List Entity) (a : AcceptedWith s l) (i : ℕ) (inside : i < length l) (named : entityAt l i .id ≡ id) where
-    mapped : 0 < placeOf (entityAt l i) → r ≡ controlsOf s (entityAt l i)
-    mapped p = controls-unique s id m (given l a i (record { inside = inside; named = named; some = p }))
+    mapped : (n : ℕ) → HasControls (entityAt l i) n → r ≡ controlsAt s (entityAt l i .offset) n
+    mapped n h = controls-unique s id m (given l a i n (record { inside = inside; named = named; has = h }))
 
     -- a camera terminal's controls are its bytes 15 to 17; a processing unit's are its bytes 8 to 10
     pub camera-bytes : entityAt l i .kind ≡ 2 → entityAt l i .terminal ≡ camera
         → r ≡ Controls (byte s (entityAt l i .offset) 15) (byte s (entityAt l i .offset) 16) (byte s (entityAt l i .offset) 17)
-    unfolding controlsPlace kindOf pick
-    camera-bytes k t =
-        let p : placeOf (entityAt l i) ≡ 15 = rw (k, t) in
-        rw p at (mapped (omega arith))
+    unfolding kindOf
+    camera-bytes k t = mapped 15 (rw k (camera-terminal (entityAt l i .terminal) t))
 
     pub processing-bytes : entityAt l i .kind ≡ 5
         → r ≡ Controls (byte s (entityAt l i .offset) 8) (byte s (entityAt l i .offset) 9) (byte s (entityAt l i .offset) 10)
-    unfolding controlsPlace kindOf
-    processing-bytes k =
-        let p : placeOf (entityAt l i) ≡ 8 = rw k in
-        rw p at (mapped (omega arith))
+    unfolding kindOf
+    processing-bytes k = mapped 8 (rw k (processing-unit (entityAt l i .terminal)))
 
     -- any other entity's ID is 16: an encoding unit's, an output terminal's, that of an input terminal that is no camera
-    unmapped : placeOf (entityAt l i) ≡ 0 → r ≡ Refused 16 0
+    unmapped : ((n : ℕ) → HasControls (entityAt l i) n → ⊥) → r ≡ Refused 16 0
     unmapped z =
         sixteen-given r m .1
-        (record { seen = l; with = a; none = λ j q. let e : j ≡ i = mapped-once s l a id j i q named inside in let h = rw e at (q .some) in omega arith })
+        (record { seen = l; with = a; none = λ j n q. let e : j ≡ i = mapped-once s l a id j n i q named inside in z n (rw e at (q .has)) })
 
     pub other-kind : (entityAt l i .kind ≡ 2 → ⊥) → (entityAt l i .kind ≡ 5 → ⊥) → r ≡ Refused 16 0
-    other-kind x y = unmapped (sym (place-else (entityAt l i .terminal) (entityAt l i .kind) x y))
+    other-kind x y = unmapped (only-these (entityAt l i .terminal) (entityAt l i .kind) x y)
 
     pub other-terminal : entityAt l i .kind ≡ 2 → (entityAt l i .terminal ≡ camera → ⊥) → r ≡ Refused 16 0
-    unfolding controlsPlace kindOf pick
-    other-terminal k t = unmapped (rw (k, ne-eqb (entityAt l i .terminal) camera t))
+    unfolding kindOf
+    other-terminal k t = unmapped (λ n h. t (of-camera (rw k at h)))
 
 -- ID 0 is no entity's
 pub zero-sixteen : (s : List ℕ) (r : Map) → MapIs s 0 r → (l : List Entity) → AcceptedWith s l → r ≡ Refused 16 0
 zero-sixteen s r m l a =
     sixteen-given s 0 r m .1
-    (record { seen = l; with = a; none = λ j q. ids-nonzero s (clean s l a) (a .entities) j (q .inside) (q .named) })
+    (record { seen = l; with = a; none = λ j n q. ids-nonzero s (clean s l a) (a .entities) j (q .inside) (q .named) })
 
 -- the three bytes lie within the entity's descriptor, and that within the block
-pub controls-inside : (s : List ℕ) (l : List Entity) → AcceptedWith s l → (i : ℕ) → i < length l
-    → (placeOf (entityAt l i) + 3 ≤ lenAt s (entityAt l i .offset)) × (entityAt l i .offset + lenAt s (entityAt l i .offset) ≤ length s)
-controls-inside s l a i h =
+pub controls-inside : (s : List ℕ) (l : List Entity) → AcceptedWith s l → (i n : ℕ) → i < length l → HasControls (entityAt l i) n
+    → (n + 3 ≤ lenAt s (entityAt l i .offset)) × (entityAt l i .offset + lenAt s (entityAt l i .offset) ≤ length s)
+controls-inside s l a i n h c =
     let w = each-stands s (clean s l a) (a .entities) i h in
     let e = entityAt l i in
     let k : e .kind ≡ byte s (e .offset) 2 = ap (λ (x : Entity). x .kind) (w .same) in
     let t : e .terminal ≡ terminalOf (kindAt s (e .offset)) s (e .offset) = ap (λ (x : Entity). x .terminal) (w .same) in
-    (rw (k, t) (controls-within (kindAt s (e .offset)) s (e .offset) (w .shaped)), w .shaped .inside)
+    let c′ : ControlsAt (kindAt s (e .offset)) (e .terminal) n = rw k at c in
+    (controls-within c′ s (e .offset) (w .shaped) t, w .shaped .inside)

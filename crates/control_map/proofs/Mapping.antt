@@ -1,12 +1,12 @@
 -- What finding an ID in an accepted block's table says of its controls.
-use Prim.Native.Nat.{ℕ, zero, suc, _-_, _≤_, _<_}
-use mathlib.Core.Path.{_≡_, refl, sym, _∙_}
+use Prim.Native.Nat.{ℕ, _-_, _≤_, _<_}
+use mathlib.Core.Path.{_≡_, refl, sym, ap, _∙_}
 use mathlib.Core.List.{List}
 use mathlib.Core.Bool.{Bool, true, false}
 use lib.ListN.{length, replicate, length-take}
 use lib.Seq.{take-at}
 use lib.Dec.{eqb}
-use borrow.Author.Tests.{eqb-true, eqb-false}
+use borrow.Author.Tests.{eqb-true, eq-eqb}
 use native.Mathlib.Omega.{arith}
 use Rattle.rules.specs.Pick.{pick}
 use Rattle.rules.specs.First.{First}
@@ -21,13 +21,16 @@ use Rattle.entities.specs.declared.Found.{Found}
 use Rattle.entities.specs.declared.Found.the-variants.{At, Nothing}
 use Rattle.entities.proofs.Finding.{Carries, found-first, found-within}
 use Rattle.entities.proofs.Finding as finding
-use Rattle.control_rules.specs.Descriptors.{kindOf, controlsPlace}
+use Rattle.control_rules.specs.Descriptors.{Kind, header, input, output, selector, processing, extension, encoding, unknown, camera, kindOf, ControlsAt, ControlsAt.camera-terminal, ControlsAt.processing-unit}
 use Rattle.control_rules.proofs.Shortest.{by-kind}
 use Rattle.control.specs.Answer.{course, tableOf, acceptedWith, ControlIs}
 use Rattle.control.specs.declared.Control.{Control}
 use Rattle.control.proofs.Listed.{Distinct, ids-differ}
 use Rattle.control.proofs.ExactlyWhen.{accepted, lists, zero-table}
-use Rattle.control_map.specs.Map.{placeOf, AcceptedWith, Mapped, controlsOf, MapIs, MapIs.own, MapIs.given, MapIs.sixteen}
+use Rattle.control_map.specs.Map.{HasControls, AcceptedWith, Mapped, controlsAt, MapIs, MapIs.own, MapIs.given, MapIs.sixteen}
+use Rattle.control_map.specs.Inner.{placeBy, placeOf, mapBy}
+use Rattle.control_map.specs.declared.Place.{Place}
+use Rattle.control_map.specs.declared.Place.the-variants as places
 use Rattle.control_map.specs.declared.Map.{Map}
 use Rattle.control_map.specs.declared.Map.the-variants.{Refused}
 
@@ -38,9 +41,49 @@ clean s l a = accepted s (acceptedWith s l) (a .accepted) .0 refl .descriptors
 pub distinct : (s : List ℕ) (l : List Entity) → AcceptedWith s l → Distinct l
 distinct s l a = ids-differ s (clean s l a) (a .entities)
 
+-- ---- the place of the controls, computed, is where they stand
+pub apart : (n : ℕ) → places.Nowhere ≡ places.At n → ⊥
+apart n e = let z : _≡_ {A = ℕ} 0 1 = cc in omega arith
+
+same-place : (m n : ℕ) → places.At m ≡ places.At n → m ≡ n
+same-place m n e = cc
+
+pub place-is : {k : Kind} {t n : ℕ} → ControlsAt k t n → placeBy k t ≡ places.At n
+unfolding placeBy pick
+place-is (camera-terminal t e) = rw (eq-eqb t camera e)
+place-is (processing-unit t) = refl
+
+stands : (k : Kind) (t n : ℕ) → placeBy k t ≡ places.At n → ControlsAt k t n
+unfolding placeBy pick
+stands header t n e = absurd (apart n e)
+stands input t n e = go (eqb t camera) refl e
+  where
+    go : (b : Bool) → eqb t camera ≡ b → pick b (places.At 15) places.Nowhere ≡ places.At n → ControlsAt input t n
+    go true q h = rw (← same-place 15 n h) (camera-terminal t (eqb-true t camera q))
+    go false q h = absurd (apart n h)
+stands output t n e = absurd (apart n e)
+stands selector t n e = absurd (apart n e)
+stands processing t n e = rw (← same-place 8 n e) (processing-unit t)
+stands extension t n e = absurd (apart n e)
+stands encoding t n e = absurd (apart n e)
+stands unknown t n e = absurd (apart n e)
+
+pub has-place : (e : Entity) (n : ℕ) → HasControls e n → placeOf e ≡ places.At n
+has-place e n h = place-is h
+
+pub one-place : (e : Entity) (m n : ℕ) → HasControls e m → HasControls e n → m ≡ n
+one-place e m n a b = same-place m n (sym (has-place e m a) ∙ has-place e n b)
+
+-- ---- by the place
+pub by-nowhere : (s : List ℕ) (e : Entity) (p : Place) → p ≡ placeOf e → p ≡ places.Nowhere → Refused 16 0 ≡ mapBy s e (placeOf e)
+by-nowhere s e p q h = ap (mapBy s e) (sym h ∙ q)
+
+pub by-at : (s : List ℕ) (e : Entity) (p : Place) (n : ℕ) (r : Map) → p ≡ placeOf e → p ≡ places.At n → r ≡ controlsAt s (e .offset) n → r ≡ mapBy s e (placeOf e)
+by-at s e p n r q h w = w ∙ ap (mapBy s e) (sym h ∙ q)
+
 -- two mapped entities of one ID are one
-pub mapped-once : (s : List ℕ) (l : List Entity) → AcceptedWith s l → (id i j : ℕ) → Mapped l id i → entityAt l j .id ≡ id → j < length l → i ≡ j
-mapped-once s l a id i j m e h = distinct s l a i j (m .inside) h (m .named ∙ sym e)
+pub mapped-once : (s : List ℕ) (l : List Entity) → AcceptedWith s l → (id i n j : ℕ) → Mapped l id i n → entityAt l j .id ≡ id → j < length l → i ≡ j
+mapped-once s l a id i n j m e h = distinct s l a i j (m .inside) h (m .named ∙ sym e)
 
 -- ---- the table that the code holds
 used-of : (s : List ℕ) (t : Table) (l : List Entity) → t ≡ tableOf s l → used t ≡ l
@@ -75,12 +118,11 @@ module _ (s : List ℕ) (t : Table) (c : ControlIs s (record { verdict = Accepte
     map-nothing r n q =
         let l = the-list .0 in
         let w : First (Carries l id) (length l) (finding.placeOf (length l) Nothing) = rw (here, n) at (found-first l id) in
-        rw q (sixteen l (the-list .1) (λ i m. w .before i (m .inside) (m .named)))
+        rw q (sixteen l (the-list .1) (λ i n m. w .before i (m .inside) (m .named)))
 
     module _ (i : ℕ) (a : f ≡ At i) where
-      pub map-at : (r : Map) → r ≡ pick (eqb (placeOf (entityAt (t .entities) i)) 0) (Refused 16 0) (controlsOf s (entityAt (t .entities) i)) → MapIs s id r
-      unfolding pick
-      map-at r q = rw (q, at-place i) (go (eqb (placeOf x) 0) refl)
+      pub map-at : (r : Map) → r ≡ mapBy s (entityAt (t .entities) i) (placeOf (entityAt (t .entities) i)) → MapIs s id r
+      map-at r q = rw (q, at-place i) (go (placeOf x) refl)
         where
           l : List Entity
           l = the-list .0
@@ -94,17 +136,12 @@ module _ (s : List ℕ) (t : Table) (c : ControlIs s (record { verdict = Accepte
           w : First (Carries l id) (length l) i
           w = rw (here, a) at (found-first l id)
 
-          go : (b : Bool) → eqb (placeOf x) 0 ≡ b → MapIs s id (pick b (Refused 16 0) (controlsOf s x))
-          go true z =
+          go : (p : Place) → placeOf x ≡ p → MapIs s id (mapBy s x p)
+          go places.Nowhere z =
               sixteen l (the-list .1)
-              (λ j m. let y : j ≡ i = mapped-once s l (the-list .1) id j i m (w .here inside) inside in
-              let k = rw y at (m .some) in
-              omega (arith, eqb-true (placeOf x) 0 z))
-          go false z = given l (the-list .1) i (record { inside = inside; named = w .here inside; some = let n = eqb-false (placeOf x) 0 z in pos (placeOf x) n })
-            where
-              pos : (n : ℕ) → (n ≡ 0 → ⊥) → 0 < n
-              pos zero k = absurd (k refl)
-              pos (suc n) k = omega arith
+              (λ j n m. let y : j ≡ i = mapped-once s l (the-list .1) id j n i m (w .here inside) inside in
+              apart n (sym z ∙ has-place x n (rw y at (m .has))))
+          go (places.At n) z = given l (the-list .1) i n (record { inside = inside; named = w .here inside; has = stands (kindOf (x .kind)) (x .terminal) n z })
 
 -- ---- by the block's verdict
 pub map-own : (s : List ℕ) (id : ℕ) (c : Control) → ControlIs s c → (k o : ℕ) → c .verdict ≡ verdicts.Refused k o → MapIs s id (Refused k o)
@@ -116,8 +153,8 @@ pub accepted-table : (s : List ℕ) (c : Control) → ControlIs s c → c .verdi
 accepted-table s c r e = rw (← e) r
 
 -- ---- what the default of the match says
-pub place-else : (t x : ℕ) → (x ≡ 2 → ⊥) → (x ≡ 5 → ⊥) → 0 ≡ controlsPlace (kindOf x) t
-unfolding controlsPlace
+pub place-else : (t x : ℕ) → (x ≡ 2 → ⊥) → (x ≡ 5 → ⊥) → places.Nowhere ≡ placeBy (kindOf x) t
+unfolding placeBy
 place-else t =
-    by-kind (λ x k. (x ≡ 2 → ⊥) → (x ≡ 5 → ⊥) → 0 ≡ controlsPlace k t)
+    by-kind (λ x k. (x ≡ 2 → ⊥) → (x ≡ 5 → ⊥) → places.Nowhere ≡ placeBy k t)
     (λ a b. refl) (λ a b. absurd (a refl)) (λ a b. refl) (λ a b. refl) (λ a b. absurd (b refl)) (λ a b. refl) (λ a b. refl) (λ a b. refl) (λ n l a b. refl)

@@ -1,14 +1,13 @@
 // The control-map reader: the three control bytes of a camera terminal or a processing unit.
 ghost use mathlib.Core.Path.{_≡_};
-ghost use Prim.Native.Nat.{_<_};
 ghost use Rattle.rules.specs.declared.Verdict.the-variants.{Accepted};
-ghost use Rattle.control_rules.specs.Descriptors.{kindOf, controlsPlace, camera};
+ghost use Rattle.entities.specs.Table.{foundAmong};
+ghost use Rattle.control_rules.specs.Descriptors.{kindOf};
 ghost use Rattle.control.specs.Answer.{ControlIs};
-ghost use Rattle.control_map.specs.Map.{MapIs, placeOf, controlsOf};
-ghost use Rattle.rules.specs.Pick.{pick};
-ghost use lib.Dec.{eqb};
-ghost use Rattle.control_map.specs.declared.Map.the-variants.{Refused};
+ghost use Rattle.control_map.specs.Map.{MapIs, controlsAt};
+ghost use Rattle.control_map.specs.Inner.{cameraPlace, placeBy, placeOf, mapBy};
 use control_rules::CAMERA;
+use entities::ENTITIES_MOST;
 use entities::Entity;
 use entities::Found;
 use entities::Table;
@@ -18,6 +17,12 @@ pub enum Map {
     Controls(u8, u8, u8),
     // The block's own refusal, or 16 at 0.
     Refused { number: u8, offset: usize },
+}
+
+// Where an entity's controls stand in its descriptor.
+enum Place {
+    At(u8),
+    Nowhere,
 }
 
 // Reads the block, and the controls of the camera terminal or processing unit that has the ID.
@@ -38,7 +43,8 @@ fn find_controls(s: &[u8], table: Table, id: u8) -> Map
     requires { ⌜ ControlIs (now s) (record { verdict = Accepted; table = table }) ⌝ }
     ensures { λ r. ⌜ MapIs (now (s .entry)) id r ⌝ }
 {
-    match entities::find_lent(table, id) {
+    let entities = table.entities;
+    match find_place(entities, table.count, id) {
         Found::Nothing => Map::Refused {
             number: 16,
             offset: 0,
@@ -50,41 +56,55 @@ fn find_controls(s: &[u8], table: Table, id: u8) -> Map
     }
 }
 
-// The three bytes, where the entity has controls; else 16.
-fn controls_of(s: &[u8], e: Entity) -> Map
-    ensures { λ r. ⌜ r ≡ pick (eqb (placeOf e) 0) (Refused 16 0) (controlsOf (now (s .entry)) e) ⌝ }
+// The table's places are lent to the scan.
+fn find_place(entities: [Entity; ENTITIES_MOST], count: usize, id: u8) -> Found
+    ensures { λ r. ⌜ r ≡ foundAmong entities count id ⌝ }
 {
-    let place = controls_place(e.kind, e.terminal);
-    if place == 0 {
-        return Map::Refused {
+    entities::find_lent(&entities, count, id)
+}
+
+// The three bytes of a camera terminal or a processing unit; else 16.
+fn controls_of(s: &[u8], e: Entity) -> Map
+    ensures { λ r. ⌜ r ≡ mapBy (now (s .entry)) e (placeOf e) ⌝ }
+{
+    match controls_place(e.kind, e.terminal) {
+        Place::Nowhere => Map::Refused {
             number: 16,
             offset: 0,
-        };
+        },
+        Place::At(place) => controls_at(s, e.offset, place),
     }
-    let at = e.offset as usize;
+}
+
+// The three bytes from a place of the descriptor on.
+fn controls_at(s: &[u8], offset: u16, place: u8) -> Map
+    ensures { λ r. ⌜ r ≡ controlsAt (now (s .entry)) offset place ⌝ }
+{
+    let at = offset as usize;
+    let n = le::wide(place);
     Map::Controls(
-        le::byte_at(s, at + place),
-        le::byte_at(s, at + (place + 1)),
-        le::byte_at(s, at + (place + 2)),
+        le::byte_at(s, at + n),
+        le::byte_at(s, at + (n + 1)),
+        le::byte_at(s, at + (n + 2)),
     )
 }
 
-// Where the controls stand in the descriptor, by the subtype; 0 where there are none.
-fn controls_place(kind: u8, terminal: u16) -> usize
-    ensures { λ r. ⌜ (r ≡ controlsPlace (kindOf kind) terminal) × (r < 16) ⌝ }
+// Where the controls stand in the descriptor, by the subtype.
+fn controls_place(kind: u8, terminal: u16) -> Place
+    ensures { λ r. ⌜ r ≡ placeBy (kindOf kind) terminal ⌝ }
 {
     match kind {
         2 => camera_place(terminal),
-        5 => 8,
-        _ => 0,
+        5 => Place::At(8),
+        _ => Place::Nowhere,
     }
 }
 
-fn camera_place(terminal: u16) -> usize
-    ensures { λ r. ⌜ (r ≡ pick (eqb terminal camera) 15 0) × (r < 16) ⌝ }
+fn camera_place(terminal: u16) -> Place
+    ensures { λ r. ⌜ r ≡ cameraPlace terminal ⌝ }
 {
     if terminal == CAMERA {
-        return 15;
+        return Place::At(15);
     }
-    0
+    Place::Nowhere
 }

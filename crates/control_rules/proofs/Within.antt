@@ -1,16 +1,16 @@
 -- The fields that are read of a descriptor that has its kind's shape lie within it.
 use Prim.Native.Nat.{ℕ, _+_, _≤_}
-use mathlib.Core.Path.{_≡_, refl}
+use mathlib.Core.Path.{_≡_, sym, _∙_}
 use mathlib.Core.List.{List}
-use mathlib.Core.Bool.{Bool, true, false}
+use mathlib.Core.Bool.{true}
 use lib.ListN.{getD}
 use lib.Dec.{leb, eqb}
-use borrow.Author.Tests.{leb-true, eqb-true}
+use borrow.Author.Tests.{leb-true, eqb-true, eq-eqb}
 use native.Mathlib.Omega.{arith}
 use Rattle.le.specs.Le.{byte, le16At}
 use Rattle.rules.specs.Pick.{pick}
 use Rattle.rules.proofs.Rows.{and-first, and-second}
-use Rattle.control_rules.specs.Descriptors.{Kind, header, input, output, selector, processing, extension, encoding, unknown, lenAt, camera, shape, fixedAt, countedAt, inputAt, extensionAt, terminalOf, sourceCount, sourcePlace, controlsPlace, Shaped}
+use Rattle.control_rules.specs.Descriptors.{Kind, header, input, output, selector, processing, extension, encoding, unknown, lenAt, camera, shape, fixedAt, countedAt, inputAt, extensionAt, terminalOf, sourceCount, sourcePlace, ControlsAt, ControlsAt.camera-terminal, ControlsAt.processing-unit, Shaped}
 
 fixed-long : (s : List ℕ) (o size k : ℕ) → fixedAt s o size k ≡ true → lenAt s o ≡ size
 unfolding fixedAt
@@ -28,20 +28,10 @@ sources-within extension s o w = omega (arith, eqb-true (lenAt s o) (24 + byte s
 sources-within encoding s o w = omega (arith, fixed-long s o 13 6 (w .right))
 sources-within unknown s o w = omega arith
 
--- a camera's descriptor has 18 bytes
-camera-long : (s : List ℕ) (o : ℕ) → inputAt s o ≡ true → (b : Bool) → eqb (le16At s (o + 4)) camera ≡ b → pick b 15 0 + 3 ≤ lenAt s o
-unfolding inputAt pick
-camera-long s o h true e = omega (arith, fixed-long s o 18 14 (rw e at (and-second (leb 8 (lenAt s o)) _ h)))
-camera-long s o h false e = omega (arith, leb-true 8 (lenAt s o) (and-first (leb 8 (lenAt s o)) _ h))
-
--- the three controls of a camera or a processing unit
-pub controls-within : (k : Kind) (s : List ℕ) (o : ℕ) → Shaped k s o → controlsPlace k (terminalOf k s o) + 3 ≤ lenAt s o
-unfolding shape controlsPlace terminalOf
-controls-within header s o w = w .long
-controls-within input s o w = camera-long s o (w .right) (eqb (le16At s (o + 4)) camera) refl
-controls-within output s o w = w .long
-controls-within selector s o w = w .long
-controls-within processing s o w = omega (arith, fixed-long s o 13 7 (w .right))
-controls-within extension s o w = w .long
-controls-within encoding s o w = w .long
-controls-within unknown s o w = w .long
+-- the three controls of a camera terminal or a processing unit
+pub controls-within : {k : Kind} {t n : ℕ} → ControlsAt k t n → (s : List ℕ) (o : ℕ) → Shaped k s o → t ≡ terminalOf k s o → n + 3 ≤ lenAt s o
+unfolding shape inputAt pick terminalOf
+controls-within (camera-terminal t e) s o w q =
+    let h : fixedAt s o 18 14 ≡ true = rw (eq-eqb (le16At s (o + 4)) camera (sym q ∙ e)) at (and-second (leb 8 (lenAt s o)) _ (w .right)) in
+    omega (arith, fixed-long s o 18 14 h)
+controls-within (processing-unit t) s o w q = omega (arith, fixed-long s o 13 7 (w .right))

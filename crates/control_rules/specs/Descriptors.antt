@@ -102,16 +102,10 @@ sourcePlace extension = 22
 sourcePlace encoding = 4
 sourcePlace unknown = 0
 
--- ---- controls: where the three bytes stand, by the kind and the terminal type; 0 where there are none
-unfoldable pub controlsPlace : Kind → ℕ → ℕ
-controlsPlace header t = 0
-controlsPlace input t = pick (eqb t camera) 15 0
-controlsPlace output t = 0
-controlsPlace selector t = 0
-controlsPlace processing t = 8
-controlsPlace extension t = 0
-controlsPlace encoding t = 0
-controlsPlace unknown t = 0
+-- ---- controls: a camera terminal's stand at 15, a processing unit's at 8, by the kind and the terminal type. Nothing else has any.
+pub data ControlsAt : Kind → ℕ → ℕ → Type 0 where
+  camera-terminal : (t : ℕ) → t ≡ camera → ControlsAt input t 15
+  processing-unit : (t : ℕ) → ControlsAt processing t 8
 
 -- ---- a descriptor that lies in the block and has its kind's length and control size
 pub record Shaped (k : Kind) (s : List ℕ) (o : ℕ) : Type 0 where

@@ -5,10 +5,7 @@ ghost use Rattle.rules.specs.Pick.{pick};
 ghost use Rattle.entities.specs.declared.Found.the-variants.{At, Nothing};
 ghost use Rattle.entities.specs.Table.{foundIn, foundAmong, noTable, Finds};
 
-// Ours: a table has so many places.
-pub const ENTITIES_MOST: usize = 32;
-
-// The most entities of a block, and the places of its table.
+// Ours: the most entities of a block, and the places of its table.
 pub const ENTITIES_MOST: usize = 32;
 
 // A terminal or a unit: its ID, its subtype number, its terminal type or 0, and where its descriptor stands.
