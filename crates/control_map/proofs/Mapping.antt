@@ -27,7 +27,7 @@ use Rattle.control.specs.Answer.{course, tableOf, acceptedWith, ControlIs}
 use Rattle.control.specs.declared.Control.{Control}
 use Rattle.control.proofs.Listed.{Distinct, ids-differ}
 use Rattle.control.proofs.ExactlyWhen.{accepted, lists, zero-table}
-use Rattle.control_map.specs.Map.{HasControls, AcceptedWith, Mapped, controlsAt, MapIs, MapIs.own, MapIs.given, MapIs.sixteen}
+use Rattle.control_map.specs.Answer.{HasControls, AcceptedWith, Mapped, controlsAt, MapIs, MapIs.own, MapIs.given, MapIs.sixteen}
 use Rattle.control_map.specs.Inner.{placeBy, placeOf, mapBy}
 use Rattle.control_map.specs.declared.Place.{Place}
 use Rattle.control_map.specs.declared.Place.the-variants as places

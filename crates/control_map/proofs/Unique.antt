@@ -9,7 +9,7 @@ use Rattle.control.specs.Answer.{refusedBy, acceptedWith, ControlIs}
 use Rattle.control.specs.declared.Control.{Control}
 use Rattle.control.proofs.Unique.{verdict-apart, read-unique}
 use Rattle.control.proofs.ExactlyWhen.{one-list}
-use Rattle.control_map.specs.Map.{AcceptedWith, Mapped, controlsAt, MapIs, MapIs.own, MapIs.given, MapIs.sixteen}
+use Rattle.control_map.specs.Answer.{AcceptedWith, Mapped, controlsAt, MapIs, MapIs.own, MapIs.given, MapIs.sixteen}
 use Rattle.control_map.specs.declared.Map.{Map}
 use Rattle.control_map.specs.declared.Map.the-variants.{Refused}
 use Rattle.control_map.proofs.Mapping.{clean, mapped-once, one-place}

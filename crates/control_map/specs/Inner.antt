@@ -5,7 +5,7 @@ use lib.Dec.{eqb}
 use Rattle.rules.specs.Pick.{pick}
 use Rattle.entities.specs.declared.Entity.{Entity}
 use Rattle.control_rules.specs.Descriptors.{Kind, header, input, output, selector, processing, extension, encoding, unknown, kindOf, camera}
-use Rattle.control_map.specs.Map.{controlsAt}
+use Rattle.control_map.specs.Answer.{controlsAt}
 use Rattle.control_map.specs.declared.Place.{Place}
 use Rattle.control_map.specs.declared.Place.the-variants.{At, Nowhere}
 use Rattle.control_map.specs.declared.Map.{Map}

@@ -4,7 +4,7 @@ ghost use Rattle.rules.specs.declared.Verdict.the-variants.{Accepted};
 ghost use Rattle.entities.specs.Table.{foundAmong};
 ghost use Rattle.control_rules.specs.Descriptors.{kindOf};
 ghost use Rattle.control.specs.Answer.{ControlIs};
-ghost use Rattle.control_map.specs.Map.{MapIs, controlsAt};
+ghost use Rattle.control_map.specs.Answer.{MapIs, controlsAt};
 ghost use Rattle.control_map.specs.Inner.{cameraPlace, placeBy, placeOf, mapBy};
 use control_rules::CAMERA;
 use entities::ENTITIES_MOST;

@@ -2,5 +2,5 @@ pub mod Tests
 pub mod Each
 pub mod Checking
 pub mod RoundTrip
-pub mod Exactly
+pub mod ExactlyWhen
 pub mod Unique

@@ -5,7 +5,7 @@ use mathlib.Core.List.{List}
 use Rattle.rules.specs.declared.Verdict.{Verdict}
 use Rattle.entities.specs.declared.Table.{Table}
 use Rattle.probe.specs.Fields.{probeOf, roomVerdict, written}
-use Rattle.probe.specs.Check.{checkOf}
+use Rattle.probe.specs.Answer.{checkOf}
 use Rattle.probe.specs.declared.Probe.{Probe}
 use Rattle.probe.specs.declared.Fields.{Fields}
 

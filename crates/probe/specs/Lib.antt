@@ -1,3 +1,3 @@
 pub mod Fields
-pub mod Check
-pub mod Agreement
+pub mod Answer
+pub mod Broken

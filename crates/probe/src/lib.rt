@@ -3,10 +3,10 @@ ghost use mathlib.Core.Path.{_≡_};
 ghost use Prim.Native.Nat.{_+_, _*_, _/_, _%_, _≤_, _<_};
 ghost use lib.ListN.{length, getD};
 ghost use Rattle.probe.specs.Fields.{fieldsOf, bytesOf, noFields, probeOf, roomVerdict, written};
-ghost use Rattle.rules.specs.Numbered.{firstFrom};
+ghost use Rattle.rules.specs.Numbered.{firstRow};
 ghost use Rattle.streaming_rules.specs.Descriptors.{kindAt, formatOf, frameLengthAt};
 ghost use Rattle.le.specs.Le.{byte};
-ghost use Rattle.probe.specs.Check.{formatMissing, hasNumber, frameFlags, given, checkOf};
+ghost use Rattle.probe.specs.Answer.{formatMissing, hasNumber, frameRows, given, checkOf};
 use entities::Table;
 use rules::Verdict;
 use streaming_rules::Frame;
@@ -272,7 +272,7 @@ fn has_number(block: &[u8], format: u8, number: u8, f: Frame) -> bool
 // 44 to 46, with the frame whose descriptor stands at `at`.
 fn check_frame(block: &[u8], at: usize, probe: &[u8]) -> Verdict
     requires { ⌜ (at + frameLengthAt (formatOf (kindAt (now block) at)) (now block) at ≤ length (now block)) × (length (now probe) ≡ 48) ⌝ }
-    ensures { λ r. ⌜ r ≡ given (firstFrom 44 (frameFlags (now (block .entry)) at (fieldsOf (now (probe .entry))))) ⌝ }
+    ensures { λ r. ⌜ r ≡ given (firstRow (frameRows (now (block .entry)) at (fieldsOf (now (probe .entry))))) ⌝ }
 {
     let offered = streaming_rules::offers_at(block, at, le::le32(probe, 4));
     if !offered {

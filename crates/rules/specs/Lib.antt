@@ -1,5 +1,6 @@
 pub mod Pick
 pub mod Numbered
+pub mod Asked
 pub mod First
 pub mod Place
 pub mod Chain

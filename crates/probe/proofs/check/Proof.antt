@@ -2,7 +2,7 @@ use denote.Ref.{now}
 use Rattle.probe.proofs.Checking.{check-41, check-own, check-42, check-43, check-on, number-room}
 use Rattle.rules.proofs.Places.{Seeking, seek, found-here, not-here, none-here}
 use Rattle.streaming.proofs.Inside.{FramesHeld, frames-held}
-use Rattle.probe.specs.Check.{hasNumber, frameIn}
+use Rattle.probe.specs.Answer.{hasNumber, frameIn}
 use native.Mathlib.Omega.{arith}
 use Prim.Native.Nat.{_-_}
 use mathlib.Core.Path.{refl, sym, _∙_}

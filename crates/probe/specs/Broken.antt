@@ -1,10 +1,11 @@
 -- When a check says yes, and by which number it refuses otherwise, in the words of document 01.
 use Prim.Native.Nat.{ℕ, _+_, _≤_, _<_}
 use mathlib.Core.Path.{_≡_}
-use mathlib.Core.List.{List}
+use mathlib.Core.List.{List, [], _∷_}
 use lib.ListN.{length, getD}
 use Rattle.le.specs.Le.{byte}
 use Rattle.rules.specs.First.{First}
+use Rattle.rules.specs.Asked.{Rule, rule, AllKept, FirstFails}
 use Rattle.entities.specs.declared.Table.{Table}
 use Rattle.intervals.specs.Intervals.{Offered}
 use Rattle.sizes.specs.Sizes.{frameMost, payloadLeast, payloadMost}
@@ -30,63 +31,33 @@ FrameGiven s a p i = (getD (a .frames) i noFrame .format ≡ p .format) × (byte
 abbrev pub IntervalGiven : List ℕ → ℕ → Probe → Type 0
 IntervalGiven s o p = Offered s (o + intervalsAt) (kAt (formatOf (kindAt s o)) s o) (p .interval)
 
--- 45 and 46
-abbrev pub FrameSizeGood : Probe → Type 0
-FrameSizeGood p = (1 ≤ p .«frame_size») × (p .«frame_size» ≤ frameMost)
+-- the frame that the block names: the first of that format and that number
+abbrev pub FrameNamed : List ℕ → Seen → Probe → ℕ → Type 0
+FrameNamed s a p i = (i < length (a .frames)) × First (FrameGiven s a p) (length (a .frames)) i
 
-abbrev pub PayloadSizeGood : Probe → Type 0
-PayloadSizeGood p = (payloadLeast ≤ p .«payload_size») × (p .«payload_size» ≤ payloadMost)
+-- WHAT 42 TO 46 ASK of the fields p, against a block s that was accepted with these formats and frames
+abbrev pub checkRules : List ℕ → Seen → Probe → List Rule
+checkRules s a p =
+    rule 42 (FormatGiven a p)
+    ∷ rule 43 ((i : ℕ) × FrameNamed s a p i)
+    ∷ rule 44 ((i : ℕ) → FrameNamed s a p i → IntervalGiven s (offsetIn a i) p)
+    ∷ rule 45 ((1 ≤ p .«frame_size») × (p .«frame_size» ≤ frameMost))
+    ∷ rule 46 ((payloadLeast ≤ p .«payload_size») × (p .«payload_size» ≤ payloadMost))
+    ∷ []
 
 -- the probe block has 48 bytes, and no rule of the streaming block is broken
 pub record Read (t : Table) (s b : List ℕ) (a : Seen) : Type 0 where
   pub whole : length b ≡ probeLength
   pub sound : Sound t s a
 
--- every one of 41, the block's own rules and 42 to 46 holds
+-- every one of 41, the block's own rules and 42 to 46 is kept
 pub record Yes (t : Table) (s b : List ℕ) : Type 0 where
   pub seen : Seen
   pub read : Read t s b seen
-  pub format : FormatGiven seen (fieldsOf b)
-  pub place : ℕ
-  pub within : place < length (seen .frames)
-  pub frame : First (FrameGiven s seen (fieldsOf b)) (length (seen .frames)) place
-  pub interval : IntervalGiven s (offsetIn seen place) (fieldsOf b)
-  pub frame-size : FrameSizeGood (fieldsOf b)
-  pub payload-size : PayloadSizeGood (fieldsOf b)
+  pub kept : AllKept (checkRules s seen (fieldsOf b))
 
--- the first that does not hold
+-- the first that is not
 pub data No (t : Table) (s b : List ℕ) : ℕ → ℕ → Type 0 where
   of-length : (length b ≡ probeLength → ⊥) → No t s b 41 0
   of-block : (k o : ℕ) → length b ≡ probeLength → FirstBroken t s k o → No t s b k o
-  of-format : (a : Seen) → Read t s b a → (FormatGiven a (fieldsOf b) → ⊥) → No t s b 42 0
-  of-frame : (a : Seen) → Read t s b a → FormatGiven a (fieldsOf b) → ((i : ℕ) → i < length (a .frames) → FrameGiven s a (fieldsOf b) i → ⊥) → No t s b 43 0
-  of-interval :
-      (a : Seen) →
-      Read t s b a →
-      FormatGiven a (fieldsOf b) →
-      (i : ℕ) →
-      i < length (a .frames) →
-      First (FrameGiven s a (fieldsOf b)) (length (a .frames)) i →
-      (IntervalGiven s (offsetIn a i) (fieldsOf b) → ⊥) →
-      No t s b 44 0
-  of-frame-size :
-      (a : Seen) →
-      Read t s b a →
-      FormatGiven a (fieldsOf b) →
-      (i : ℕ) →
-      i < length (a .frames) →
-      First (FrameGiven s a (fieldsOf b)) (length (a .frames)) i →
-      IntervalGiven s (offsetIn a i) (fieldsOf b) →
-      (FrameSizeGood (fieldsOf b) → ⊥) →
-      No t s b 45 0
-  of-payload-size :
-      (a : Seen) →
-      Read t s b a →
-      FormatGiven a (fieldsOf b) →
-      (i : ℕ) →
-      i < length (a .frames) →
-      First (FrameGiven s a (fieldsOf b)) (length (a .frames)) i →
-      IntervalGiven s (offsetIn a i) (fieldsOf b) →
-      FrameSizeGood (fieldsOf b) →
-      (PayloadSizeGood (fieldsOf b) → ⊥) →
-      No t s b 46 0
+  of-rule : (a : Seen) → Read t s b a → (k : ℕ) → FirstFails (checkRules s a (fieldsOf b)) k → No t s b k 0

@@ -6,7 +6,7 @@ use lib.ListN.{length, getD}
 use lib.Dec.{ltb, leb, eqb}
 use Rattle.le.specs.Le.{byte}
 use Rattle.rules.specs.Pick.{pick}
-use Rattle.rules.specs.Numbered.{firstFrom}
+use Rattle.rules.specs.Numbered.{Row, row, firstRow}
 use Rattle.rules.specs.declared.Verdict.{Verdict}
 use Rattle.rules.specs.declared.Verdict.the-variants.{Accepted, Refused}
 use Rattle.entities.specs.declared.Table.{Table}
@@ -37,23 +37,20 @@ abbrev pub framePlace : List ℕ → List Frame → ℕ → ℕ → ℕ → ℕ
 framePlace s l n format number = firstPlace (λ i. hasNumber s format number (frameIn l i)) n
 
 -- 44 to 46, with the frame whose descriptor stands at o
-unfoldable pub frameFlags : List ℕ → ℕ → Probe → List Bool
-frameFlags s o p =
-    -- 44, 45, 46
-    not (offersAt s o (p .interval))
-    ∷ frameSizeBroken (p .«frame_size»)
-    ∷ payloadSizeBroken (p .«payload_size»)
+unfoldable pub frameRows : List ℕ → ℕ → Probe → List Row
+frameRows s o p =
+    row 44 (not (offersAt s o (p .interval)))
+    ∷ row 45 (frameSizeBroken (p .«frame_size»))
+    ∷ row 46 (payloadSizeBroken (p .«payload_size»))
     ∷ []
 
 -- 42 to 46, of a block that was accepted
-unfoldable pub checkFlags : List ℕ → Streaming → Probe → List Bool
-checkFlags s a p =
+unfoldable pub checkRows : List ℕ → Streaming → Probe → List Row
+checkRows s a p =
     let i = framePlace s (a .frames) (a .«frame_count») (p .format) (p .frame) in
-    -- 42, 43
-    formatMissing (p .format) (a .«format_count»)
-    ∷ leb (a .«frame_count») i
-    -- 44 to 46
-    ∷ frameFlags s (frameIn (a .frames) i .offset) p
+    row 42 (formatMissing (p .format) (a .«format_count»))
+    ∷ row 43 (leb (a .«frame_count») i)
+    ∷ frameRows s (frameIn (a .frames) i .offset) p
 
 -- no number: yes
 unfoldable pub given : ℕ → Verdict
@@ -61,7 +58,7 @@ given zero = Accepted
 given (suc k) = Refused (suc k) 0
 
 unfoldable pub checkBy : Verdict → List ℕ → Streaming → Probe → Verdict
-checkBy Accepted s a p = given (firstFrom 42 (checkFlags s a p))
+checkBy Accepted s a p = given (firstRow (checkRows s a p))
 checkBy (Refused k o) s a p = Refused k o
 
 unfoldable pub checkOf : Table → List ℕ → List ℕ → Verdict
