@@ -14,7 +14,7 @@ use Rattle.control_rules.proofs.Within.{controls-within}
 use Rattle.control.specs.Answer.{refusedBy, ControlIs}
 use Rattle.control.specs.Broken.{FirstBroken, FirstBroken.by-block, FirstBroken.by-descriptor, FirstBroken.by-13, FirstBroken.by-14, FirstBroken.by-15}
 use Rattle.control.proofs.Listed.{ids-nonzero, each-stands}
-use Rattle.control.proofs.ExactlyWhen.{accepted, refused, from-first, head-few, rows-few}
+use Rattle.control.proofs.ExactlyWhen.{refused, from-first, head-few, rows-few}
 use Rattle.control_map.specs.Answer.{HasControls, AcceptedWith, Mapped, controlsAt, MapIs, MapIs.own, MapIs.given, MapIs.sixteen}
 use Rattle.control_map.specs.declared.Map.{Map}
 use Rattle.control_map.specs.declared.Map.the-variants.{Controls, Refused}

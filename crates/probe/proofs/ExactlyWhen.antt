@@ -3,10 +3,10 @@ use Prim.Native.Nat.{ℕ, zero, suc, _+_, _≤_, _<_}
 use mathlib.Core.Path.{_≡_, refl, sym, ap, _∙_}
 use mathlib.Core.List.{List, [], _∷_}
 use mathlib.Core.Bool.{Bool, true, false, not, _&&_, _||_, true≢false}
-use mathlib.Core.Logic.{_↔_, ⊎-elim}
+use mathlib.Core.Logic.{_↔_}
 use lib.ListN.{length, getD}
 use lib.Dec.{ltb, leb, eqb}
-use borrow.Author.Tests.{eq-eqb, ne-eqb, le-ltb, lt-leb, le-leb, eqb-true, eqb-false, ltb-false, leb-true, leb-false}
+use borrow.Author.Tests.{eq-eqb, ne-eqb, le-ltb, eqb-true, eqb-false, ltb-false, leb-true, leb-false}
 use native.Mathlib.Omega.{arith}
 use Rattle.le.specs.Le.{byte}
 use Rattle.rules.specs.Pick.{pick}
@@ -17,7 +17,7 @@ use Rattle.rules.specs.Asked.{AllKept, FirstFails}
 use Rattle.rules.specs.declared.Verdict.{Verdict}
 use Rattle.rules.specs.declared.Verdict.the-variants.{Accepted, Refused}
 use Rattle.rules.proofs.Rows.{or-first, or-second}
-use Rattle.rules.proofs.Firsts.{first-map, first-unique, lt-or-ge}
+use Rattle.rules.proofs.Firsts.{first-map, first-unique}
 use Rattle.rules.proofs.Padded.{pad-at}
 use Rattle.rules.proofs.Asked.{Tells, Tell, Numbered, Comes as ComesBy, Comes.kept, Comes.fails, comes as comes-by, rows-kept, rows-fail, fails-above}
 use Rattle.entities.specs.declared.Table.{Table}
@@ -33,7 +33,7 @@ use Rattle.streaming.specs.declared.Streaming.{Streaming}
 use Rattle.rules.proofs.Places.{Says, first-place}
 use Rattle.streaming.proofs.ExactlyWhen.{Ends, taken, given-back, reads, tables, all-zero}
 use Rattle.probe.specs.Fields.{probeLength, fieldsOf}
-use Rattle.probe.specs.Answer.{frameIn, formatMissing, hasNumber, framePlace, frameRows, checkRows, given, checkBy, checkOf}
+use Rattle.probe.specs.Answer.{frameIn, formatMissing, hasNumber, framePlace, frameRows, checkRows, given, checkOf}
 use Rattle.probe.specs.Broken.{offsetIn, FrameGiven, IntervalGiven, FrameNamed, checkRules, Read, Yes, No, of-length, of-block, of-rule}
 use Rattle.probe.specs.declared.Probe.{Probe}
 use Rattle.probe.proofs.Checking.{check-41, check-own}
@@ -155,7 +155,7 @@ data Comes (t : Table) (s b : List ℕ) : Verdict → Type 0 where
 module _ (t : Table) (s b : List ℕ) where
   module _ (a : Seen) (w : Read t s b a) where
     check-is : checkOf t s b ≡ given (firstRow (five s a (fieldsOf b)))
-    unfolding checkOf pick checkBy acceptedWith
+    unfolding checkOf pick acceptedWith
     check-is = rw (eq-eqb (length b) probeLength (w .whole), tables t s a (w .sound), with-verdict s a) (ap (λ (ws : List Row). given (firstRow ws)) (rows-are s a (fieldsOf b)))
 
     read-comes : Comes t s b (given (firstRow (five s a (fieldsOf b))))

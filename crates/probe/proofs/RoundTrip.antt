@@ -13,7 +13,7 @@ use native.Mathlib.Nat.{mod-eq-of-lt, div-eq-of-lt, div-add-mod', add-mul-div-ri
 use native.Mathlib.Numerals.{add-one}
 use Rattle.rules.specs.Pick.{pick}
 use Rattle.rules.specs.declared.Verdict.the-variants.{Accepted, Refused}
-use Rattle.probe.specs.Fields.{probeLength, bytesAt, fieldsOf, bytesOf, probeOf, roomVerdict, written}
+use Rattle.probe.specs.Fields.{probeLength, bytesAt, fieldsOf, bytesOf, probeOf, roomVerdict, written, WritesBack, ReadsBack}
 use Rattle.probe.specs.declared.Probe.{Probe}
 use Rattle.probe.proofs.Tests.{bytes-length, read-whole}
 
@@ -33,7 +33,7 @@ pub record Held (p : Probe) : Type 0 where
   pub layout : length (p .layout) ≡ 8
 
 -- every element is a byte: what the type of a slice says
-abbrev pub Bytes : List ℕ → Type 0
+abbrev Bytes : List ℕ → Type 0
 Bytes s = (i : ℕ) → getD s i 0 < 256
 
 -- ---- numbers and their bytes
@@ -129,13 +129,20 @@ module _ (p : Probe) (room : List ℕ) where
       go false q = rw (whole-is (ltb-false (length room) probeLength q)) (drop-at (bytesOf p) (drop probeLength room) probeLength (bytes-length p))
 
   -- reading the first 48 bytes of what was written gives the fields back
-  pub read-written : Held p → probeLength ≤ length room → probeOf (take probeLength (written p room)) ≡ record { verdict = Accepted; probe = p }
+  read-written : Held p → probeLength ≤ length room → probeOf (take probeLength (written p room)) ≡ record { verdict = Accepted; probe = p }
   read-written h l = rw (whole-is l, take-at (bytesOf p) (drop probeLength room) probeLength (bytes-length p)) (sym (read-whole (bytesOf p) p (bytes-length p) (sym back)))
     where
       back : fieldsOf (bytesOf p) ≡ p
       back = ap fieldsOf (sym (append-nil (bytesOf p))) ∙ fields-back p [] h
 
--- writing what was read gives the 48 bytes back, and leaves the rest
-pub write-read : (s room : List ℕ) → Bytes s → length s ≡ probeLength → probeLength ≤ length room → written (probeOf s .probe) room ≡ s ++ drop probeLength room
-write-read s room b e l =
-    rw (← read-whole s (fieldsOf s) e refl) (whole-is (fieldsOf s) room l ∙ ap (λ (x : List ℕ). x ++ drop probeLength room) (bytes-back s b ∙ bytes-all s 48 e))
+-- ---- what `write` promises of a room that is too short, and of one that is not
+pub short-back : (p : Probe) (room : List ℕ) → length room < probeLength → ReadsBack p room
+short-back p room h l = absurd (omega arith)
+
+pub whole-back : (p : Probe) (room now : List ℕ) → Held p → probeLength ≤ length room → now ≡ written p room → ReadsBack p now
+whole-back p room now h l e k = rw e (read-written p room h l)
+
+-- ---- what `read` promises: writing what was read gives the 48 bytes back, and leaves the rest
+pub writes-back : (s : List ℕ) (p : Probe) → Bytes s → p ≡ fieldsOf s → WritesBack p s
+writes-back s p b e l room h =
+    rw e (whole-is (fieldsOf s) room h ∙ ap (λ (x : List ℕ). x ++ drop probeLength room) (bytes-back s b ∙ bytes-all s 48 l))

@@ -7,6 +7,7 @@ use lib.Dec.{ltb, leb, eqb}
 use Rattle.le.specs.Le.{byte}
 use Rattle.rules.specs.Pick.{pick}
 use Rattle.rules.specs.Numbered.{Row, row, firstRow}
+use Rattle.rules.specs.Verdicts.{_andThen_}
 use Rattle.rules.specs.declared.Verdict.{Verdict}
 use Rattle.rules.specs.declared.Verdict.the-variants.{Accepted, Refused}
 use Rattle.entities.specs.declared.Table.{Table}
@@ -57,10 +58,10 @@ unfoldable pub given : ℕ → Verdict
 given zero = Accepted
 given (suc k) = Refused (suc k) 0
 
-unfoldable pub checkBy : Verdict → List ℕ → Streaming → Probe → Verdict
-checkBy Accepted s a p = given (firstRow (checkRows s a p))
-checkBy (Refused k o) s a p = Refused k o
+-- 41: the probe block has not 48 bytes
+abbrev pub lengthVerdict : List ℕ → Verdict
+lengthVerdict b = pick (eqb (length b) probeLength) Accepted (Refused 41 0)
 
+-- 41, then the streaming block's own refusal, then 42 to 46
 unfoldable pub checkOf : Table → List ℕ → List ℕ → Verdict
-checkOf t s b =
-    pick (eqb (length b) probeLength) (checkBy (streamingOf t s .verdict) s (streamingOf t s) (fieldsOf b)) (Refused 41 0)
+checkOf t s b = lengthVerdict b andThen streamingOf t s .verdict andThen given (firstRow (checkRows s (streamingOf t s) (fieldsOf b)))

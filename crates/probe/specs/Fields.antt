@@ -1,7 +1,8 @@
 -- The 48 bytes of a probe block, field by field, and what reading and writing them does.
-use Prim.Native.Nat.{ℕ, zero, suc, _+_, _/_, _%_}
+use Prim.Native.Nat.{ℕ, zero, suc, _+_, _/_, _%_, _≤_}
+use mathlib.Core.Path.{_≡_}
 use mathlib.Core.List.{List, [], _∷_, _++_}
-use lib.ListN.{length, getD, drop, replicate}
+use lib.ListN.{length, getD, take, drop, replicate}
 use lib.Dec.{ltb, eqb}
 use Rattle.le.specs.Le.{le16At, le32At}
 use Rattle.rules.specs.Pick.{pick}
@@ -107,3 +108,13 @@ roomVerdict room = pick (ltb (length room) probeLength) (Refused 41 0) Accepted
 
 unfoldable pub written : Probe → List ℕ → List ℕ
 written p room = pick (ltb (length room) probeLength) room (bytesOf p ++ drop probeLength room)
+
+-- THE ROUND TRIP. Every field is a number of its type and every byte is under 256, so that these hold of all that is read and written: they stand in the
+-- promises of `read` and `write`, where the types tell it.
+-- writing what was read gives the 48 bytes back, and leaves the rest
+abbrev pub WritesBack : Probe → List ℕ → Type 0
+WritesBack p s = length s ≡ probeLength → (room : List ℕ) → probeLength ≤ length room → written p room ≡ s ++ drop probeLength room
+
+-- reading the first 48 bytes of what was written gives the fields back
+abbrev pub ReadsBack : Probe → List ℕ → Type 0
+ReadsBack p room = probeLength ≤ length room → probeOf (take probeLength room) ≡ record { verdict = Accepted; probe = p }

@@ -2,7 +2,7 @@
 ghost use mathlib.Core.Path.{_≡_};
 ghost use Prim.Native.Nat.{_+_, _*_, _/_, _%_, _≤_, _<_};
 ghost use lib.ListN.{length, getD};
-ghost use Rattle.probe.specs.Fields.{fieldsOf, bytesOf, noFields, probeOf, roomVerdict, written};
+ghost use Rattle.probe.specs.Fields.{fieldsOf, bytesOf, noFields, probeOf, roomVerdict, written, WritesBack, ReadsBack};
 ghost use Rattle.rules.specs.Numbered.{firstRow};
 ghost use Rattle.streaming_rules.specs.Descriptors.{kindAt, formatOf, frameLengthAt};
 ghost use Rattle.le.specs.Le.{byte};
@@ -120,7 +120,7 @@ fn no_fields() -> Probe
 
 // Reads a probe block: 41 unless it has exactly 48 bytes.
 pub fn read(block: &[u8]) -> Fields
-    ensures { λ r. ⌜ r ≡ probeOf (now (block .entry)) ⌝ }
+    ensures { λ r. ⌜ (r ≡ probeOf (now (block .entry))) × WritesBack (r .probe) (now (block .entry)) ⌝ }
 {
     if block.len() == LENGTH {
         let probe = fields_of(block);
@@ -235,6 +235,7 @@ fn bytes_of(p: Probe) -> [u8; LENGTH]
 // Writes the first 48 bytes of the room and no other; 41 where it has under 48 bytes, and then no byte changes.
 pub fn write(p: Probe, room: &mut [u8]) -> Verdict
     ensures { λ r. ⌜ (r ≡ roomVerdict (now (room .entry))) × (now (room .exit) ≡ written p (now (room .entry))) ⌝ }
+    ensures { λ r. ⌜ ReadsBack p (now (room .exit)) ⌝ }
 {
     if room.len() < LENGTH {
         return Verdict::Refused {

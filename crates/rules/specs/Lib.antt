@@ -6,3 +6,4 @@ pub mod Place
 pub mod Chain
 pub mod Pad
 pub mod Walk
+pub mod Verdicts

@@ -1,4 +1,5 @@
 use Rattle.probe.proofs.Tests.{read-whole, read-wrong}
+use Rattle.probe.proofs.RoundTrip.{writes-back}
 use borrow.Author.Needs.{needs}
 use Rattle.probe.proofs.read.Statement.{statement}
 use Rattle.probe.proofs.read.Tie as tie
@@ -7,13 +8,13 @@ fields-of-requires : tie.Need-fields-of-requires
 fields-of-requires c κs = search needs
 
 returns : tie.Need-returns
-returns c = read-whole _ _ (c .before .if1 .taken) (c .fields-of .ensures)
+returns c = (read-whole _ _ (c .before .if1 .taken) (c .fields-of .ensures), writes-back _ _ (λ i. c .before .before .shared-slice-known .given i .fits) (c .fields-of .ensures))
 
 no-fields-requires : tie.Need-no-fields-requires
 no-fields-requires c κs = search needs
 
 returns-2 : tie.Need-returns-2
-returns-2 c = read-wrong _ _ (c .before .if1 .left) (c .no-fields .ensures)
+returns-2 c = (read-wrong _ _ (c .before .if1 .left) (c .no-fields .ensures), λ e. absurd (c .before .if1 .left e))
 
 pub read-spec : {M : Type 1} → statement M
 read-spec = tie.close (tie.spec fields-of-requires returns no-fields-requires returns-2)
