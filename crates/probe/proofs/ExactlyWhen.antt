@@ -129,12 +129,24 @@ module _ (s : List ℕ) (a : Seen) (p : Probe) where
 
   tell : Tell five (checkRules s a p)
   unfolding five
-  tell =
-      (refl, tells-42 (p .format) (length (a .formats)), λ k42.
-      (refl, tells-43, λ k43.
-      (refl, tells-44 k43, λ k44.
-      (refl, tells-45 (p .«frame_size»), λ k45.
-      (refl, tells-46 (p .«payload_size»), λ k46. tt)))))
+  tell = (
+    refl,
+    tells-42 (p .format) (length (a .formats)),
+    λ k42. (
+      refl,
+      tells-43,
+      λ k43. (
+        refl,
+        tells-44 k43,
+        λ k44. (
+          refl,
+          tells-45 (p .«frame_size»),
+          λ k45.
+              (refl, tells-46 (p .«payload_size»), λ k46. tt),
+        ),
+      ),
+    ),
+  )
 
   numbered : Numbered (checkRules s a p)
   numbered = (omega arith, (omega arith, (omega arith, (omega arith, (omega arith, tt)))))
