@@ -65,6 +65,10 @@ found-first l id = go (findFrom 0 l id) (sought l id 0)
     go r (hit j h f) = let z : 0 + j ≡ j = omega arith in rw z f
     go r (missed f) = f
 
+-- the same of both lookups: the first of the n used places, or none
+pub find-first : (l : List Entity) (n id : ℕ) → First (Carries (take n l) id) (length (take n l)) (placeOf (length (take n l)) (foundAmong l n id))
+find-first l n id = found-first (take n l) id
+
 -- a place that is found is one of the list's
 pub found-within : (l : List Entity) (id j : ℕ) → findFrom 0 l id ≡ At j → j < length l
 found-within l id j e = go (findFrom 0 l id) (sought l id 0) e
