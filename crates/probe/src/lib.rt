@@ -1,11 +1,10 @@
 // The probe and commit block of 48 bytes: reading, writing, and checking it against a streaming block (41 to 46).
 ghost use mathlib.Core.Path.{_≡_};
-ghost use Prim.Native.Nat.{_+_, _*_, _/_, _%_, _≤_, _<_};
-ghost use lib.ListN.{length, getD};
+ghost use Prim.Native.Nat.{_+_, _/_, _%_, _≤_, _<_};
+ghost use lib.ListN.{length};
 ghost use Rattle.probe.specs.Fields.{fieldsOf, bytesOf, noFields, probeOf, roomVerdict, written, WritesBack, ReadsBack};
 ghost use Rattle.rules.specs.Numbered.{firstRow};
 ghost use Rattle.streaming_rules.specs.Descriptors.{kindAt, formatOf, frameLengthAt};
-ghost use Rattle.le.specs.Le.{byte};
 ghost use Rattle.probe.specs.Answer.{formatMissing, hasNumber, frameRows, given, checkOf};
 use entities::Table;
 use rules::Verdict;
