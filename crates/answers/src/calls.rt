@@ -215,7 +215,7 @@ fn delivered(d: Delivery) {
 fn ledger(l: Ledger) {
     print::text(b"ledger");
     let mut i: usize = 0;
-    while i < 27 {
+    while i < Ledger::NUMBERS {
         print::field(l.numbers[i]);
         i += 1;
     }

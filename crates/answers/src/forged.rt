@@ -1,7 +1,7 @@
 // A session record as it stands in the input, and what take, lost and close say to it.
 //
 // The record: eight bytes frame size, eight bytes payload size, byte closed, four bytes taken, the phase, byte gap,
-// 27 numbers of eight bytes, the last stamp. A stamp: byte present and four bytes. The phase: byte 0 fresh, 2 past and byte FID, or
+// the ledger's numbers of eight bytes each, the last stamp. A stamp: byte present and four bytes. The phase: byte 0 fresh, 2 past and byte FID, or
 // any other and byte FID, byte fault (1 gap, 2 error, 3 clock, 4 long, 5 cut, 6 empty, any other none), eight bytes data so far, eight bytes fill, the stamp.
 use cases::input;
 use cases::print;
@@ -98,9 +98,9 @@ fn stamp() -> Stamp {
 }
 
 fn ledger() -> Ledger {
-    let mut numbers = [0u64; 27];
+    let mut numbers = [0u64; Ledger::NUMBERS];
     let mut i: usize = 0;
-    while i < 27 {
+    while i < Ledger::NUMBERS {
         numbers[i] = input::long();
         i += 1;
     }

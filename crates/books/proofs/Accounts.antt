@@ -28,17 +28,20 @@ use Rattle.frames.specs.Track.{underCount, underBytes, turnOf, closedOf}
 use Rattle.ledger.specs.declared.Account.{Account}
 use Rattle.ledger.specs.Entry.{Entry}
 use Rattle.ledger.specs.declared.Ledger.{Ledger}
-use Rattle.ledger.specs.Ledger.{placeOf, countAt, bytesAt, lostAt, idleAt, ticksAt, backwardAt, untimedAt, noLedger, shownOf}
+use Rattle.ledger.specs.Ledger.{noLedger, shownOf}
 use Rattle.session.specs.declared.Session.{Session}
 use Rattle.session.specs.Refusals.{ledgerOf}
 use Rattle.session.specs.Session.{fresh}
-use Rattle.books.specs.Rule.{Call, Event, idle, unreadable, missing, readable, events, isOpen, Item, entryOf, framesBy, loose, entries, lineFor, lineOf, bytesIn, oneIn, partIn, total, stampsOf, stamps, noStamp, untimed, forward, back, between}
+use Rattle.books.specs.Rule.{Call, Event, idle, unreadable, missing, readable, events, isOpen, Item, entryOf, framesBy, loose, entries, lostLine, idleLine, lineOf, bytesIn, oneIn, partIn, total, stampsOf, stamps, noStamp, untimed, forward, back, between}
 use Rattle.books.specs.Calls.{nextCall, run}
 use Rattle.books.specs.Demands.{Right, endedItems, fateItems}
 use Rattle.books.proofs.Made.{base, turnItems}
-use Rattle.books.proofs.Posts.{at, Sized, posts, posts-sized, since, stampIn, gain, place-law, step-law, place-lt, count-gain, bytes-gain, single-gain, total-append}
+use Rattle.books.proofs.Posts.{posts, posts-sized, since, stampIn, gain, place-law, step-law, count-gain, bytes-gain, single-gain, total-append}
 use Rattle.books.proofs.Taken.{Proper}
 use Rattle.books.proofs.History.{itemsBy, callItems, dataNext, items, dataRun, afoot, items-right, posted, run-posts, posted-total, posted-stamps, map-append, stamps-append}
+use Rattle.ledger.specs.Accounts.{accountCount, numberCount, underAt, accountFor, placeOf, countAt, bytesAt, lostAt, idleAt, ticksAt, backwardAt, untimedAt}
+use Rattle.ledger.proofs.Places.{at, Sized, place-lt, shown-other, shown-single, shown-count, shown-bytes}
+use Rattle.ledger.proofs.Rooms.{not-under-way}
 
 -- ---- a measure that is nothing but of a frame under way
 abbrev Settled : Entry → Type 0
@@ -92,21 +95,6 @@ module _ (m : Entry → ℕ) (none : (e : Entry) → Settled e → m e ≡ 0) wh
   loose-none (missing ∷ es) = rw (none Entry.Lost tt) (zero-add _ ∙ loose-none es)
   loose-none (readable h d ∷ es) = rw (none (Entry.Headers (h .len)) tt) (zero-add _ ∙ loose-none es)
 
--- ---- what the session shows
-shown-at : (l : Ledger) (ph : Phase) (p : ℕ) → (p ≡ 14 → ⊥) → (p ≡ 15 → ⊥) → at p (shownOf l ph) ≡ at p l
-unfolding shownOf
-shown-at l ph p a b = getD-set-other (set (l .numbers) 14 (underCount ph)) 15 p (underBytes ph) 0 b ∙ getD-set-other (l .numbers) 14 p (underCount ph) 0 a
-
-shown-count : (l : Ledger) (ph : Phase) → Sized l → at 14 (shownOf l ph) ≡ underCount ph
-unfolding shownOf
-shown-count l ph z =
-    getD-set-other (set (l .numbers) 14 (underCount ph)) 15 14 (underBytes ph) 0 (λ q. omega arith)
-    ∙ getD-set-same (l .numbers) 14 (underCount ph) 0 (omega arith)
-
-shown-bytes : (l : Ledger) (ph : Phase) → Sized l → at 15 (shownOf l ph) ≡ underBytes ph
-unfolding shownOf
-shown-bytes l ph z = getD-set-same (set (l .numbers) 14 (underCount ph)) 15 (underBytes ph) 0 (simp length-set (omega arith))
-
 -- ---- the rule's entries are those that were posted, and the frame under way
 module _ (o : Opening) (cs : List Call) (p : Proper cs) where
   abbrev end : Session
@@ -130,19 +118,19 @@ module _ (o : Opening) (cs : List Call) (p : Proper cs) where
   end-sized = rw (run-posts cs (fresh o) []) (posts-sized noLedger (posted (fresh o) [] cs) refl)
 
   -- a place where each entry gains by itself
-  place-end : (q : ℕ) (m : Entry → ℕ) → q < 27 → ((a : Stamp) (e : Entry) → gain q a e ≡ m e) → at q (end .ledger) ≡ total m (map entryOf made) + total m (loose (events o cs))
+  place-end : (q : ℕ) (m : Entry → ℕ) → q < numberCount → ((a : Stamp) (e : Entry) → gain q a e ≡ m e) → at q (end .ledger) ≡ total m (map entryOf made) + total m (loose (events o cs))
   place-end q m h g =
       ap (at q) (run-posts cs (fresh o) [])
       ∙ place-law q m g noLedger (posted (fresh o) [] cs) refl
-      ∙ ap (_+ total m (posted (fresh o) [] cs)) (getD-replicate 27 q 0 0 h)
+      ∙ ap (_+ total m (posted (fresh o) [] cs)) (getD-replicate numberCount q 0 0 h)
       ∙ zero-add _
       ∙ posted-total m o cs (fresh o) [] refl p
 
   -- the accounts but that of the frame under way
-  shown-place : (q : ℕ) (m : Entry → ℕ) → q < 27 → (q ≡ 14 → ⊥) → (q ≡ 15 → ⊥) → ((a : Stamp) (e : Entry) → gain q a e ≡ m e) → ((n : ℕ) → m (Entry.UnderWay n) ≡ 0)
+  shown-place : (q : ℕ) (m : Entry → ℕ) → q < numberCount → (q ≡ countAt underAt → ⊥) → (q ≡ bytesAt underAt → ⊥) → ((a : Stamp) (e : Entry) → gain q a e ≡ m e) → ((n : ℕ) → m (Entry.UnderWay n) ≡ 0)
       → at q (ledgerOf end) ≡ total m (entries o cs)
   shown-place q m h a b g z =
-      shown-at (end .ledger) (end .track .phase) q a b
+      shown-other (end .ledger) (end .track .phase) q a b
       ∙ place-end q m h g
       ∙ sym (entries-total m ∙ ap (λ (x : ℕ). total m (map entryOf made) + x + total m (loose (events o cs))) (none (end .track .phase) (dataRun (fresh o) [] cs)) ∙ ap (_+ total m (loose (events o cs))) (add-zero _))
     where
@@ -155,24 +143,19 @@ module _ (o : Opening) (cs : List Call) (p : Proper cs) where
   shown-way : (m : Entry → ℕ) (n : ℕ) → ((e : Entry) → Settled e → m e ≡ 0) → total m (map entryOf way) ≡ n → n ≡ total m (entries o cs)
   shown-way m n z e = sym (entries-total m ∙ omega (arith, items-none m z cs (fresh o) [], loose-none m z (events o cs), e))
 
-  counts-way : (ph : Phase) (D : List ℕ) → total (oneIn 7) (map entryOf (afoot ph D)) ≡ underCount ph
+  counts-way : (ph : Phase) (D : List ℕ) → total (oneIn underAt) (map entryOf (afoot ph D)) ≡ underCount ph
   counts-way Fresh D = refl
   counts-way (Past f) D = refl
   counts-way (Under x) D = refl
 
-  bytes-way : (ph : Phase) (D : List ℕ) → total (partIn 7) (map entryOf (afoot ph D)) ≡ underBytes ph
+  bytes-way : (ph : Phase) (D : List ℕ) → total (partIn underAt) (map entryOf (afoot ph D)) ≡ underBytes ph
   bytes-way Fresh D = refl
   bytes-way (Past f) D = refl
   bytes-way (Under x) D = add-zero _
 
-one-settled : (e : Entry) → Settled e → oneIn 7 e ≡ 0
+one-settled : (e : Entry) → Settled e → oneIn underAt e ≡ 0
 one-settled (Entry.Delivered d) h = refl
-one-settled (Entry.Dropped Gap n) h = refl
-one-settled (Entry.Dropped Error n) h = refl
-one-settled (Entry.Dropped Clock n) h = refl
-one-settled (Entry.Dropped Long n) h = refl
-one-settled (Entry.Dropped Cut n) h = refl
-one-settled (Entry.Dropped Empty n) h = refl
+one-settled (Entry.Dropped w n) h = rw (ne-eqb (placeOf (accountFor w)) underAt (not-under-way w))
 one-settled (Entry.UnderWay n) h = absurd h
 one-settled (Entry.Stray n) h = refl
 one-settled (Entry.Unreadable n) h = refl
@@ -180,14 +163,9 @@ one-settled (Entry.Headers n) h = refl
 one-settled Entry.Lost h = refl
 one-settled Entry.Idle h = refl
 
-part-settled : (e : Entry) → Settled e → partIn 7 e ≡ 0
+part-settled : (e : Entry) → Settled e → partIn underAt e ≡ 0
 part-settled (Entry.Delivered d) h = refl
-part-settled (Entry.Dropped Gap n) h = refl
-part-settled (Entry.Dropped Error n) h = refl
-part-settled (Entry.Dropped Clock n) h = refl
-part-settled (Entry.Dropped Long n) h = refl
-part-settled (Entry.Dropped Cut n) h = refl
-part-settled (Entry.Dropped Empty n) h = refl
+part-settled (Entry.Dropped w n) h = rw (ne-eqb (placeOf (accountFor w)) underAt (not-under-way w))
 part-settled (Entry.UnderWay n) h = absurd h
 part-settled (Entry.Stray n) h = refl
 part-settled (Entry.Unreadable n) h = refl
@@ -196,49 +174,36 @@ part-settled Entry.Lost h = refl
 part-settled Entry.Idle h = refl
 
 -- the account with the place k
-module _ (o : Opening) (cs : List Call) (p : Proper cs) (k : ℕ) (h : k < 11) where
+module _ (o : Opening) (cs : List Call) (p : Proper cs) (k : ℕ) (h : k < accountCount) where
   pub count-right : at (countAt k) (ledgerOf (end o cs p)) ≡ total (oneIn k) (entries o cs)
-  count-right = go (eqb 7 k) refl
+  count-right = go (eqb underAt k) refl
     where
-      go : (b : Bool) → eqb 7 k ≡ b → at (countAt k) (ledgerOf (end o cs p)) ≡ total (oneIn k) (entries o cs)
+      go : (b : Bool) → eqb underAt k ≡ b → at (countAt k) (ledgerOf (end o cs p)) ≡ total (oneIn k) (entries o cs)
       go true q =
-          rw (← eqb-true 7 k q) (shown-count (end o cs p .ledger) (end o cs p .track .phase) (end-sized o cs p)
-          ∙ shown-way o cs p (oneIn 7) _ one-settled (counts-way o cs p (end o cs p .track .phase) (dataRun (fresh o) [] cs)))
+          rw (← eqb-true underAt k q) (shown-count (end o cs p .ledger) (end o cs p .track .phase) (end-sized o cs p)
+          ∙ shown-way o cs p (oneIn underAt) _ one-settled (counts-way o cs p (end o cs p .track .phase) (dataRun (fresh o) [] cs)))
       go false q =
-          shown-place o cs p (countAt k) (oneIn k) (omega arith) (λ z. eqb-false 7 k q (omega arith)) (λ z. omega arith) (count-gain k h) (λ n. rw q)
+          shown-place o cs p (countAt k) (oneIn k) (omega arith) (λ z. eqb-false underAt k q (omega arith)) (λ z. omega arith) (count-gain k h) (λ n. rw q)
 
   pub bytes-right : at (bytesAt k) (ledgerOf (end o cs p)) ≡ total (partIn k) (entries o cs)
-  bytes-right = go (eqb 7 k) refl
+  bytes-right = go (eqb underAt k) refl
     where
-      go : (b : Bool) → eqb 7 k ≡ b → at (bytesAt k) (ledgerOf (end o cs p)) ≡ total (partIn k) (entries o cs)
+      go : (b : Bool) → eqb underAt k ≡ b → at (bytesAt k) (ledgerOf (end o cs p)) ≡ total (partIn k) (entries o cs)
       go true q =
-          rw (← eqb-true 7 k q) (shown-bytes (end o cs p .ledger) (end o cs p .track .phase) (end-sized o cs p)
-          ∙ shown-way o cs p (partIn 7) _ part-settled (bytes-way o cs p (end o cs p .track .phase) (dataRun (fresh o) [] cs)))
+          rw (← eqb-true underAt k q) (shown-bytes (end o cs p .ledger) (end o cs p .track .phase) (end-sized o cs p)
+          ∙ shown-way o cs p (partIn underAt) _ part-settled (bytes-way o cs p (end o cs p .track .phase) (dataRun (fresh o) [] cs)))
       go false q =
-          shown-place o cs p (bytesAt k) (partIn k) (omega arith) (λ z. omega arith) (λ z. eqb-false 7 k q (omega arith)) (bytes-gain k h) (λ n. rw q)
+          shown-place o cs p (bytesAt k) (partIn k) (omega arith) (λ z. omega arith) (λ z. eqb-false underAt k q (omega arith)) (bytes-gain k h) (λ n. rw q)
 
 -- ---- the other counts
-lost-line : (w : Reason) (n : ℕ) → 0 ≡ oneIn 11 (Entry.Dropped w n)
-lost-line Gap n = refl
-lost-line Error n = refl
-lost-line Clock n = refl
-lost-line Long n = refl
-lost-line Cut n = refl
-lost-line Empty n = refl
+past-line : (k : ℕ) → accountCount ≤ k → (w : Reason) (n : ℕ) → 0 ≡ oneIn k (Entry.Dropped w n)
+past-line k h w n = sym (rw (ne-eqb (placeOf (accountFor w)) k (λ z. omega (arith, place-lt (accountFor w)))))
 
-idle-line : (w : Reason) (n : ℕ) → 0 ≡ oneIn 12 (Entry.Dropped w n)
-idle-line Gap n = refl
-idle-line Error n = refl
-idle-line Clock n = refl
-idle-line Long n = refl
-idle-line Cut n = refl
-idle-line Empty n = refl
+lost-gain : (a : Stamp) (e : Entry) → gain lostAt a e ≡ oneIn lostLine e
+lost-gain = single-gain lostAt (omega arith) (λ a e. oneIn lostLine e) (λ a s n. refl) (λ a w n. past-line lostLine (omega arith) w n) (λ a n. refl) (λ a n. refl) (λ a n. refl) (λ a n. refl) (λ a. refl) (λ a. refl)
 
-lost-gain : (a : Stamp) (e : Entry) → gain lostAt a e ≡ oneIn 11 e
-lost-gain = single-gain lostAt (omega arith) (λ a e. oneIn 11 e) (λ a s n. refl) (λ a w n. lost-line w n) (λ a n. refl) (λ a n. refl) (λ a n. refl) (λ a n. refl) (λ a. refl) (λ a. refl)
-
-idle-gain : (a : Stamp) (e : Entry) → gain idleAt a e ≡ oneIn 12 e
-idle-gain = single-gain idleAt (omega arith) (λ a e. oneIn 12 e) (λ a s n. refl) (λ a w n. idle-line w n) (λ a n. refl) (λ a n. refl) (λ a n. refl) (λ a n. refl) (λ a. refl) (λ a. refl)
+idle-gain : (a : Stamp) (e : Entry) → gain idleAt a e ≡ oneIn idleLine e
+idle-gain = single-gain idleAt (omega arith) (λ a e. oneIn idleLine e) (λ a s n. refl) (λ a w n. past-line idleLine (omega arith) w n) (λ a n. refl) (λ a n. refl) (λ a n. refl) (λ a n. refl) (λ a. refl) (λ a. refl)
 
 untimed-gain : (a : Stamp) (e : Entry) → gain untimedAt a e ≡ untimed e
 untimed-gain = single-gain untimedAt (omega arith) (λ a e. untimed e) (λ a s n. zero-add _ ∙ zero-add _) (λ a w n. refl) (λ a n. refl) (λ a n. refl) (λ a n. refl) (λ a n. refl) (λ a. refl) (λ a. refl)
@@ -273,12 +238,12 @@ module _ (o : Opening) (cs : List Call) (p : Proper cs) where
       ∙ ap (stamps (map entryOf (made o cs p)) ++_) (afoot-stamped (end o cs p .track .phase) (dataRun (fresh o) [] cs))
       ∙ append-nil _
 
-  step-right : (q : ℕ) (f : ℕ → ℕ → ℕ) → q < 27 → 15 < q → ((a : Stamp) (e : Entry) → gain q a e ≡ since f a (stampIn e)) → at q (ledgerOf (end o cs p)) ≡ between f (stamps (entries o cs))
+  step-right : (q : ℕ) (f : ℕ → ℕ → ℕ) → q < numberCount → lostAt ≤ q → ((a : Stamp) (e : Entry) → gain q a e ≡ since f a (stampIn e)) → at q (ledgerOf (end o cs p)) ≡ between f (stamps (entries o cs))
   step-right q f h u g =
-      shown-at (end o cs p .ledger) (end o cs p .track .phase) q (λ z. omega arith) (λ z. omega arith)
+      shown-single (end o cs p .ledger) (end o cs p .track .phase) q u
       ∙ ap (at q) (run-posts cs (fresh o) [])
       ∙ step-law q f g noLedger (posted (fresh o) [] cs) refl
-      ∙ ap (_+ between f (stamps (posted (fresh o) [] cs))) (getD-replicate 27 q 0 0 h)
+      ∙ ap (_+ between f (stamps (posted (fresh o) [] cs))) (getD-replicate numberCount q 0 0 h)
       ∙ zero-add _
       ∙ ap (between f) (posted-stamps cs (fresh o) [] ∙ sym entries-stamps)
 
@@ -287,8 +252,8 @@ module _ (o : Opening) (cs : List Call) (p : Proper cs) where
   all-right = record {
     counts = λ a. count-right o cs p (placeOf a) (place-lt a);
     bytes = λ a. bytes-right o cs p (placeOf a) (place-lt a);
-    losses = shown-place o cs p lostAt (oneIn 11) (omega arith) (λ z. omega arith) (λ z. omega arith) lost-gain (λ n. refl);
-    idles = shown-place o cs p idleAt (oneIn 12) (omega arith) (λ z. omega arith) (λ z. omega arith) idle-gain (λ n. refl);
+    losses = shown-place o cs p lostAt (oneIn lostLine) (omega arith) (λ z. omega arith) (λ z. omega arith) lost-gain (λ n. refl);
+    idles = shown-place o cs p idleAt (oneIn idleLine) (omega arith) (λ z. omega arith) (λ z. omega arith) idle-gain (λ n. refl);
     ticks = step-right ticksAt forward (omega arith) (omega arith) ticks-gain;
     backward = step-right backwardAt back (omega arith) (omega arith) backward-gain;
     plain = shown-place o cs p untimedAt untimed (omega arith) (λ z. omega arith) (λ z. omega arith) untimed-gain (λ n. refl);

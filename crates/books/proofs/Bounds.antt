@@ -17,8 +17,10 @@ use Rattle.frames.specs.declared.Reason.{Reason}
 use Rattle.frames.specs.declared.Reason.the-variants.{Gap, Error, Clock, Long, Cut, Empty}
 use Rattle.frames.specs.declared.Fault.{Fault}
 use Rattle.frames.specs.declared.Fault.the-variants.{Sound, Bad}
+use Rattle.ledger.specs.declared.Account.{Account}
+use Rattle.ledger.specs.Accounts.{placeOf, accountFor}
 use Rattle.ledger.specs.Entry.{Entry}
-use Rattle.books.specs.Rule.{Call, Event, idle, unreadable, missing, readable, events, isOpen, Seen, readables, runs, frameOf, strayOf, complete, dataOf, firstStamp, fault, Item, verdict, settled, strays, judge, nothing, judged, framesOf, framesBy, loose, entryOf, entries, lineFor, lineOf, bytesIn, oneIn, partIn, total, stampList, stampsOf, stamps, noStamp, untimed, step, forward, back, between, received}
+use Rattle.books.specs.Rule.{Call, Event, idle, unreadable, missing, readable, events, isOpen, Seen, readables, runs, frameOf, strayOf, complete, dataOf, firstStamp, fault, Item, verdict, settled, strays, judge, nothing, judged, framesOf, framesBy, loose, entryOf, entries, lineOf, bytesIn, oneIn, partIn, total, stampList, stampsOf, stamps, noStamp, untimed, step, forward, back, between, received}
 use Rattle.books.proofs.Runs.{concat, runs-concat, Longest, runs-longest}
 use Rattle.books.proofs.Posts.{total-append}
 use Rattle.books.proofs.History.{map-append, stamps-append}
@@ -104,8 +106,11 @@ loose-length (unreadable n ∷ es) = ap suc (loose-length es)
 loose-length (missing ∷ es) = ap suc (loose-length es)
 loose-length (readable h d ∷ es) = ap suc (loose-length es)
 
--- ---- a frame's line is below 9, a loose entry's is not
-line-low : (w : Reason) → lineFor w < 9
+-- ---- a frame's line is below the first of a loose entry
+abbrev looseLine : ℕ
+looseLine = placeOf Account.Unreadable
+
+line-low : (w : Reason) → placeOf (accountFor w) < looseLine
 line-low Gap = omega arith
 line-low Error = omega arith
 line-low Clock = omega arith
@@ -113,11 +118,11 @@ line-low Long = omega arith
 line-low Cut = omega arith
 line-low Empty = omega arith
 
-verdict-low : (w c : Bool) (q : Fault) (s : Stamp) (n : ℕ) → lineOf (verdict w c q s n) < 9
+verdict-low : (w c : Bool) (q : Fault) (s : Stamp) (n : ℕ) → lineOf (verdict w c q s n) < looseLine
 verdict-low w true (Bad k) s n = line-low k
 verdict-low w true Sound s n = go (eqb n 0)
   where
-    go : (b : Bool) → lineOf (cond b (Entry.Dropped Empty n) (Entry.Delivered (record { len = n; stamp = s }))) < 9
+    go : (b : Bool) → lineOf (cond b (Entry.Dropped Empty n) (Entry.Delivered (record { len = n; stamp = s }))) < looseLine
     go true = omega arith
     go false = omega arith
 verdict-low true false q s n = omega arith
@@ -131,11 +136,11 @@ module _ (k : ℕ) where
   abbrev inItems : List Item → ℕ
   inItems xs = total (oneIn k) (map entryOf xs)
 
-  strays-none : 8 < k → (ts : List Seen) → inItems (strays ts) ≡ 0
+  strays-none : looseLine ≤ k → (ts : List Seen) → inItems (strays ts) ≡ 0
   strays-none h [] = refl
   strays-none h (t ∷ ts) = rw (one-none k (Entry.Stray (length (t .load))) (λ z. omega arith)) (zero-add _ ∙ strays-none h ts)
 
-  judged-none : 8 < k → (o : Opening) (p : Bool) (rs : List (List Seen)) → inItems (judged o p rs) ≡ 0
+  judged-none : looseLine ≤ k → (o : Opening) (p : Bool) (rs : List (List Seen)) → inItems (judged o p rs) ≡ 0
   judged-none h o p [] = refl
   judged-none h o p (r ∷ rs) =
       let f : List Seen = frameOf r in
@@ -145,7 +150,7 @@ module _ (k : ℕ) where
       ∙ total-append (oneIn k) (map entryOf (judge o (p && nothing rs) r)) (map entryOf (judged o p rs))
       ∙ omega (arith, one-none k v (λ z. omega arith), strays-none h (strayOf r), judged-none h o p rs)
 
-  loose-low : k < 9 → (es : List Event) → total (oneIn k) (loose es) ≡ 0
+  loose-low : k < looseLine → (es : List Event) → total (oneIn k) (loose es) ≡ 0
   loose-low h [] = refl
   loose-low h (idle ∷ es) = rw (one-none k Entry.Idle (λ z. omega arith)) (zero-add _ ∙ loose-low h es)
   loose-low h (unreadable n ∷ es) = rw (one-none k (Entry.Unreadable n) (λ z. omega arith)) (zero-add _ ∙ loose-low h es)
@@ -171,7 +176,7 @@ module _ (o : Opening) (cs : List Call) where
   count-bound k =
       ⊎-elim (λ h. omega (arith, split (oneIn k), loose-low k h (events o cs), in-frames (oneIn k) (one-le k)))
       (λ h. omega (arith, split (oneIn k), judged-none k (omega arith) o (isOpen cs) (runs (readables false (events o cs))), in-loose (oneIn k) (one-le k)))
-      (lt-or-ge k 9)
+      (lt-or-ge k looseLine)
 
   loose-timed : (es : List Event) → total untimed (loose es) ≡ 0
   loose-timed [] = refl

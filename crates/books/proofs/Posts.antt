@@ -19,70 +19,10 @@ use Rattle.ledger.specs.Entry.{Entry}
 use Rattle.ledger.specs.declared.Step.the-variants.{Forward, Backward}
 use Rattle.ledger.specs.declared.Ledger.{Ledger}
 use Rattle.ledger.specs.Step.{aheadOf}
-use Rattle.ledger.specs.Ledger.{placeOf, accountFor, countAt, bytesAt, lostAt, idleAt, ticksAt, backwardAt, untimedAt, plusOf, enteredOf, steppedOf, lastIs, timedBy, timedOf, postOf}
-use Rattle.books.specs.Rule.{lineFor, lineOf, bytesIn, oneIn, partIn, total, stampList, stampsOf, stamps, noStamp, untimed, step, forward, back, between}
-
-abbrev pub at : ℕ → Ledger → ℕ
-at p l = getD (l .numbers) p 0
-
-abbrev pub Sized : Ledger → Type 0
-Sized l = length (l .numbers) ≡ 27
-
--- ---- one place
-plus-sized : (l : Ledger) (i n : ℕ) → Sized l → Sized (plusOf l i n)
-unfolding plusOf
-plus-sized l i n e = simp length-set e
-
-plus-at : (l : Ledger) (i n p : ℕ) → Sized l → i < 27 → at p (plusOf l i n) ≡ at p l + cond (eqb i p) n 0
-unfolding plusOf
-plus-at l i n p e h = go (eqb i p) refl
-  where
-    go : (b : Bool) → eqb i p ≡ b → getD (set (l .numbers) i (getD (l .numbers) i 0 + n)) p 0 ≡ getD (l .numbers) p 0 + cond b n 0
-    go true q = rw (← eqb-true i p q) (getD-set-same (l .numbers) i (getD (l .numbers) i 0 + n) 0 (omega arith))
-    go false q = getD-set-other (l .numbers) i p (getD (l .numbers) i 0 + n) 0 (λ z. eqb-false i p q (sym z)) ∙ sym (add-zero _)
-
-plus-last : (l : Ledger) (i n : ℕ) → plusOf l i n .last ≡ l .last
-unfolding plusOf
-plus-last l i n = refl
-
--- ---- an account
-abbrev entryGain : ℕ → ℕ → ℕ → ℕ
-entryGain k n p = cond (eqb (2 * k) p) 1 0 + cond (eqb (2 * k + 1) p) n 0
-
-pub place-lt : (a : Account) → placeOf a < 11
-place-lt Account.Delivered = omega arith
-place-lt Account.Gap = omega arith
-place-lt Account.Error = omega arith
-place-lt Account.Clock = omega arith
-place-lt Account.Long = omega arith
-place-lt Account.Cut = omega arith
-place-lt Account.Empty = omega arith
-place-lt Account.UnderWay = omega arith
-place-lt Account.Stray = omega arith
-place-lt Account.Unreadable = omega arith
-place-lt Account.Headers = omega arith
-
-place-line : (w : Reason) → placeOf (accountFor w) ≡ lineFor w
-place-line Gap = refl
-place-line Error = refl
-place-line Clock = refl
-place-line Long = refl
-place-line Cut = refl
-place-line Empty = refl
-
-module _ (l : Ledger) (a : Account) (n : ℕ) where
-  entered-sized : Sized l → Sized (enteredOf l a n)
-  entered-sized e = plus-sized (plusOf l (countAt (placeOf a)) 1) (bytesAt (placeOf a)) n (plus-sized l (countAt (placeOf a)) 1 e)
-
-  entered-at : (p : ℕ) → Sized l → at p (enteredOf l a n) ≡ at p l + entryGain (placeOf a) n p
-  entered-at p e =
-      let k = place-lt a in
-      plus-at (plusOf l (countAt (placeOf a)) 1) (bytesAt (placeOf a)) n p (plus-sized l (countAt (placeOf a)) 1 e) (omega arith)
-      ∙ ap (_+ cond (eqb (2 * placeOf a + 1) p) n 0) (plus-at l (countAt (placeOf a)) 1 p e (omega arith))
-      ∙ add-assoc _ _ _
-
-  entered-last : enteredOf l a n .last ≡ l .last
-  entered-last = plus-last (plusOf l (countAt (placeOf a)) 1) (bytesAt (placeOf a)) n ∙ plus-last l (countAt (placeOf a)) 1
+use Rattle.ledger.specs.Ledger.{plusOf, enteredOf, steppedOf, lastIs, timedBy, timedOf, postOf}
+use Rattle.ledger.proofs.Places.{at, Sized, place-lt, plus-sized, plus-at, plus-last, entryGain, entered-sized, entered-at, entered-last, count-gains, bytes-gains, others-keep}
+use Rattle.books.specs.Rule.{lostLine, idleLine, lineOf, bytesIn, oneIn, partIn, total, stampList, stampsOf, stamps, noStamp, untimed, step, forward, back, between}
+use Rattle.ledger.specs.Accounts.{accountCount, placeOf, accountFor, countAt, bytesAt, lostAt, idleAt, ticksAt, backwardAt, untimedAt}
 
 -- ---- the time
 abbrev pub since : (ℕ → ℕ → ℕ) → Stamp → Stamp → ℕ
@@ -145,16 +85,16 @@ stampIn Entry.Lost = Absent
 stampIn Entry.Idle = Absent
 
 abbrev pub gain : ℕ → Stamp → Entry → ℕ
-gain p a (Entry.Delivered d) = entryGain 0 (d .len) p + timeGain a (d .stamp) p
-gain p a (Entry.Dropped w n) = entryGain (lineFor w) n p
-gain p a (Entry.UnderWay n) = entryGain 7 n p
-gain p a (Entry.Stray n) = entryGain 8 n p
-gain p a (Entry.Unreadable n) = entryGain 9 n p
-gain p a (Entry.Headers n) = entryGain 10 n p
+gain p a (Entry.Delivered d) = entryGain (placeOf Account.Delivered) (d .len) p + timeGain a (d .stamp) p
+gain p a (Entry.Dropped w n) = entryGain (placeOf (accountFor w)) n p
+gain p a (Entry.UnderWay n) = entryGain (placeOf Account.UnderWay) n p
+gain p a (Entry.Stray n) = entryGain (placeOf Account.Stray) n p
+gain p a (Entry.Unreadable n) = entryGain (placeOf Account.Unreadable) n p
+gain p a (Entry.Headers n) = entryGain (placeOf Account.Headers) n p
 gain p a Entry.Lost = cond (eqb lostAt p) 1 0
 gain p a Entry.Idle = cond (eqb idleAt p) 1 0
 
-delivered-at : (l : Ledger) (n : ℕ) (s : Stamp) (p : ℕ) → Sized l → at p (timedOf (enteredOf l Account.Delivered n) s) ≡ at p l + (entryGain 0 n p + timeGain (l .last) s p)
+delivered-at : (l : Ledger) (n : ℕ) (s : Stamp) (p : ℕ) → Sized l → at p (timedOf (enteredOf l Account.Delivered n) s) ≡ at p l + (entryGain (placeOf Account.Delivered) n p + timeGain (l .last) s p)
 unfolding timedOf
 delivered-at l n s p e =
     ap (λ (a : Stamp). at p (timedBy a (enteredOf l Account.Delivered n) s)) (entered-last l Account.Delivered n)
@@ -165,7 +105,7 @@ delivered-at l n s p e =
 pub post-at : (l : Ledger) (e : Entry) (p : ℕ) → Sized l → at p (postOf l e) ≡ at p l + gain p (l .last) e
 unfolding postOf
 post-at l (Entry.Delivered d) p z = delivered-at l (d .len) (d .stamp) p z
-post-at l (Entry.Dropped w n) p z = rw (← place-line w) (entered-at l (accountFor w) n p z)
+post-at l (Entry.Dropped w n) p z = entered-at l (accountFor w) n p z
 post-at l (Entry.UnderWay n) p z = entered-at l Account.UnderWay n p z
 post-at l (Entry.Stray n) p z = entered-at l Account.Stray n p z
 post-at l (Entry.Unreadable n) p z = entered-at l Account.Unreadable n p z
@@ -270,79 +210,47 @@ step-law p f g l (e ∷ es) z =
     ∙ ap (at p l +_) (entry-law f (l .last) e (stamps es))
 
 -- ---- the places of the document's accounts
-double : (a k : ℕ) → eqb (2 * a) (2 * k) ≡ eqb a k
-double a k = go (eqb a k) refl
-  where
-    go : (b : Bool) → eqb a k ≡ b → eqb (2 * a) (2 * k) ≡ b
-    go true q = eq-eqb (2 * a) (2 * k) (ap (λ (x : ℕ). 2 * x) (eqb-true a k q))
-    go false q = ne-eqb (2 * a) (2 * k) (λ z. eqb-false a k q (omega arith))
-
-double-one : (a k : ℕ) → eqb (2 * a + 1) (2 * k + 1) ≡ eqb a k
-double-one a k = go (eqb a k) refl
-  where
-    go : (b : Bool) → eqb a k ≡ b → eqb (2 * a + 1) (2 * k + 1) ≡ b
-    go true q = eq-eqb (2 * a + 1) (2 * k + 1) (ap (λ (x : ℕ). 2 * x + 1) (eqb-true a k q))
-    go false q = ne-eqb (2 * a + 1) (2 * k + 1) (λ z. eqb-false a k q (omega arith))
-
-even-gain : (a n k : ℕ) → entryGain a n (2 * k) ≡ cond (eqb a k) 1 0
-even-gain a n k = rw (double a k, ne-eqb (2 * a + 1) (2 * k) (λ z. omega arith)) (add-zero _)
-
-odd-gain : (a n k : ℕ) → entryGain a n (2 * k + 1) ≡ cond (eqb a k) n 0
-odd-gain a n k = rw (double-one a k, ne-eqb (2 * a) (2 * k + 1) (λ z. omega arith)) (zero-add _)
-
--- past the accounts an account's entry gains nothing
-high-gain : (a n p : ℕ) → a < 11 → 22 ≤ p → entryGain a n p ≡ 0
-high-gain a n p h k = rw (ne-eqb (2 * a) p (λ z. omega arith), ne-eqb (2 * a + 1) p (λ z. omega arith))
-
 -- below them the time gains nothing
-low-time : (a s : Stamp) (p : ℕ) → p < 24 → timeGain a s p ≡ 0
+low-time : (a s : Stamp) (p : ℕ) → p < ticksAt → timeGain a s p ≡ 0
 low-time a s p h = rw (ne-eqb ticksAt p (λ z. omega arith), ne-eqb backwardAt p (λ z. omega arith), ne-eqb untimedAt p (λ z. omega arith))
 
-line-lt : (w : Reason) → lineFor w < 11
-line-lt Gap = omega arith
-line-lt Error = omega arith
-line-lt Clock = omega arith
-line-lt Long = omega arith
-line-lt Cut = omega arith
-line-lt Empty = omega arith
-
-pub count-gain : (k : ℕ) → k < 11 → (a : Stamp) (e : Entry) → gain (countAt k) a e ≡ oneIn k e
-count-gain k h a (Entry.Delivered d) = rw (even-gain 0 (d .len) k, low-time a (d .stamp) (2 * k) (omega arith)) (add-zero _)
-count-gain k h a (Entry.Dropped w n) = even-gain (lineFor w) n k
-count-gain k h a (Entry.UnderWay n) = even-gain 7 n k
-count-gain k h a (Entry.Stray n) = even-gain 8 n k
-count-gain k h a (Entry.Unreadable n) = even-gain 9 n k
-count-gain k h a (Entry.Headers n) = even-gain 10 n k
-count-gain k h a Entry.Lost = rw (ne-eqb lostAt (2 * k) (λ z. omega arith), ne-eqb 11 k (λ z. omega arith))
-count-gain k h a Entry.Idle = rw (ne-eqb idleAt (2 * k) (λ z. omega arith), ne-eqb 12 k (λ z. omega arith))
+pub count-gain : (k : ℕ) → k < accountCount → (a : Stamp) (e : Entry) → gain (countAt k) a e ≡ oneIn k e
+count-gain k h a (Entry.Delivered d) = rw (count-gains (placeOf Account.Delivered) (d .len) k, low-time a (d .stamp) (2 * k) (omega arith)) (add-zero _)
+count-gain k h a (Entry.Dropped w n) = count-gains (placeOf (accountFor w)) n k
+count-gain k h a (Entry.UnderWay n) = count-gains (placeOf Account.UnderWay) n k
+count-gain k h a (Entry.Stray n) = count-gains (placeOf Account.Stray) n k
+count-gain k h a (Entry.Unreadable n) = count-gains (placeOf Account.Unreadable) n k
+count-gain k h a (Entry.Headers n) = count-gains (placeOf Account.Headers) n k
+count-gain k h a Entry.Lost = rw (ne-eqb lostAt (countAt k) (λ z. omega arith), ne-eqb lostLine k (λ z. omega arith))
+count-gain k h a Entry.Idle = rw (ne-eqb idleAt (2 * k) (λ z. omega arith), ne-eqb idleLine k (λ z. omega arith))
 
 zero-part : (b : Bool) → _≡_ {A = ℕ} 0 (cond b 0 0)
 zero-part true = refl
 zero-part false = refl
 
-pub bytes-gain : (k : ℕ) → k < 11 → (a : Stamp) (e : Entry) → gain (bytesAt k) a e ≡ partIn k e
-bytes-gain k h a (Entry.Delivered d) = rw (odd-gain 0 (d .len) k, low-time a (d .stamp) (2 * k + 1) (omega arith)) (add-zero _)
-bytes-gain k h a (Entry.Dropped w n) = odd-gain (lineFor w) n k
-bytes-gain k h a (Entry.UnderWay n) = odd-gain 7 n k
-bytes-gain k h a (Entry.Stray n) = odd-gain 8 n k
-bytes-gain k h a (Entry.Unreadable n) = odd-gain 9 n k
-bytes-gain k h a (Entry.Headers n) = odd-gain 10 n k
-bytes-gain k h a Entry.Lost = rw (ne-eqb lostAt (2 * k + 1) (λ z. omega arith)) (zero-part (eqb 11 k))
-bytes-gain k h a Entry.Idle = rw (ne-eqb idleAt (2 * k + 1) (λ z. omega arith)) (zero-part (eqb 12 k))
+pub bytes-gain : (k : ℕ) → k < accountCount → (a : Stamp) (e : Entry) → gain (bytesAt k) a e ≡ partIn k e
+bytes-gain k h a (Entry.Delivered d) = rw (bytes-gains (placeOf Account.Delivered) (d .len) k, low-time a (d .stamp) (2 * k + 1) (omega arith)) (add-zero _)
+bytes-gain k h a (Entry.Dropped w n) = bytes-gains (placeOf (accountFor w)) n k
+bytes-gain k h a (Entry.UnderWay n) = bytes-gains (placeOf Account.UnderWay) n k
+bytes-gain k h a (Entry.Stray n) = bytes-gains (placeOf Account.Stray) n k
+bytes-gain k h a (Entry.Unreadable n) = bytes-gains (placeOf Account.Unreadable) n k
+bytes-gain k h a (Entry.Headers n) = bytes-gains (placeOf Account.Headers) n k
+bytes-gain k h a Entry.Lost = rw (ne-eqb lostAt (2 * k + 1) (λ z. omega arith)) (zero-part (eqb lostLine k))
+bytes-gain k h a Entry.Idle = rw (ne-eqb idleAt (2 * k + 1) (λ z. omega arith)) (zero-part (eqb idleLine k))
 
 -- the other counts: Q says what each entry gains there, by its line or its stamp
-module _ (p : ℕ) (high : 22 ≤ p) where
-  account-gain : (w : Reason) (n : ℕ) → entryGain (lineFor w) n p ≡ 0
-  account-gain w n = high-gain (lineFor w) n p (line-lt w) high
+module _ (p : ℕ) (high : lostAt ≤ p) where
+  account-gain : (w : Reason) (n : ℕ) → entryGain (placeOf (accountFor w)) n p ≡ 0
+  account-gain w n = others-keep (placeOf (accountFor w)) n p (place-lt (accountFor w)) high
 
   pub single-gain : (m : Stamp → Entry → ℕ) → ((a s : Stamp) (n : ℕ) → timeGain a s p ≡ m a (Entry.Delivered (record { len = n; stamp = s }))) → ((a : Stamp) (w : Reason) (n : ℕ) → 0 ≡ m a (Entry.Dropped w n))
       → ((a : Stamp) (n : ℕ) → 0 ≡ m a (Entry.UnderWay n)) → ((a : Stamp) (n : ℕ) → 0 ≡ m a (Entry.Stray n)) → ((a : Stamp) (n : ℕ) → 0 ≡ m a (Entry.Unreadable n)) → ((a : Stamp) (n : ℕ) → 0 ≡ m a (Entry.Headers n))
       → ((a : Stamp) → cond (eqb lostAt p) 1 0 ≡ m a Entry.Lost) → ((a : Stamp) → cond (eqb idleAt p) 1 0 ≡ m a Entry.Idle) → (a : Stamp) (e : Entry) → gain p a e ≡ m a e
-  single-gain m f g u v w x y z a (Entry.Delivered d) = rw (high-gain 0 (d .len) p (omega arith) high) (zero-add _ ∙ f a (d .stamp) (d .len))
+  single-gain m f g u v w x y z a (Entry.Delivered d) = rw (others-keep (placeOf Account.Delivered) (d .len) p (place-lt Account.Delivered) high) (zero-add _ ∙ f a (d .stamp) (d .len))
   single-gain m f g u v w x y z a (Entry.Dropped r n) = account-gain r n ∙ g a r n
-  single-gain m f g u v w x y z a (Entry.UnderWay n) = high-gain 7 n p (omega arith) high ∙ u a n
-  single-gain m f g u v w x y z a (Entry.Stray n) = high-gain 8 n p (omega arith) high ∙ v a n
-  single-gain m f g u v w x y z a (Entry.Unreadable n) = high-gain 9 n p (omega arith) high ∙ w a n
-  single-gain m f g u v w x y z a (Entry.Headers n) = high-gain 10 n p (omega arith) high ∙ x a n
+  single-gain m f g u v w x y z a (Entry.UnderWay n) = others-keep (placeOf Account.UnderWay) n p (place-lt Account.UnderWay) high ∙ u a n
+  single-gain m f g u v w x y z a (Entry.Stray n) = others-keep (placeOf Account.Stray) n p (place-lt Account.Stray) high ∙ v a n
+  single-gain m f g u v w x y z a (Entry.Unreadable n) = others-keep (placeOf Account.Unreadable) n p (place-lt Account.Unreadable) high ∙ w a n
+  single-gain m f g u v w x y z a (Entry.Headers n) = others-keep (placeOf Account.Headers) n p (place-lt Account.Headers) high ∙ x a n
   single-gain m f g u v w x y z a Entry.Lost = y a
   single-gain m f g u v w x y z a Entry.Idle = z a

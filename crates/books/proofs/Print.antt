@@ -7,15 +7,16 @@ use lib.ListN.{length, getD, length-set}
 use Rattle.payload.specs.declared.Opening.{Opening}
 use Rattle.ledger.specs.declared.Account.{Account}
 use Rattle.ledger.specs.declared.Ledger.{Ledger}
-use Rattle.ledger.specs.Ledger.{shownOf}
+use Rattle.ledger.specs.Accounts.{accounts, placeOf, numberCount}
+use Rattle.ledger.specs.Ledger.{countOf, bytesOf}
 use Rattle.session.specs.Refusals.{ledgerOf}
 use Rattle.session.specs.Session.{fresh}
-use Rattle.books.specs.Rule.{Call, entries, numbersOf}
+use Rattle.books.specs.Rule.{Call, entries, accountNumbers, numbersOf}
 use Rattle.books.specs.Calls.{run}
 use Rattle.books.specs.Demands.{Right}
-use Rattle.books.proofs.Posts.{Sized}
 use Rattle.books.proofs.Taken.{Proper}
 use Rattle.books.proofs.Accounts.{end-sized, all-right}
+use Rattle.ledger.proofs.Places.{Sized, shown-sized}
 
 -- a list is the list of what stands at its places
 abbrev spelt : ℕ → ℕ → List ℕ → List ℕ
@@ -32,25 +33,20 @@ spell zero (x ∷ l) e = absurd (omega arith)
 spell (suc n) [] e = absurd (omega arith)
 spell (suc n) (x ∷ l) e = ap (x ∷_) (spell n l (omega arith) ∙ sym (shift n 0 x l))
 
-shown-sized : (l : Ledger) (p : _) → Sized l → Sized (shownOf l p)
-unfolding shownOf
-shown-sized l p e = simp length-set e
+-- the accounts' numbers of a ledger, and then the rest
+abbrev accountsIn : List Account → Ledger → List ℕ → List ℕ
+accountsIn [] l rest = rest
+accountsIn (a ∷ more) l rest = countOf l (placeOf a) ∷ bytesOf l (placeOf a) ∷ accountsIn more l rest
 
-right-numbers : (o : Opening) (cs : List Call) (l : Ledger) → Sized l → Right o cs l → l .numbers ≡ numbersOf (entries o cs)
-right-numbers o cs l e r = spell 27 (l .numbers) e
-    ∙ (λ i. r .counts Account.Delivered i ∷ r .bytes Account.Delivered i
-    ∷ r .counts Account.Gap i ∷ r .bytes Account.Gap i
-    ∷ r .counts Account.Error i ∷ r .bytes Account.Error i
-    ∷ r .counts Account.Clock i ∷ r .bytes Account.Clock i
-    ∷ r .counts Account.Long i ∷ r .bytes Account.Long i
-    ∷ r .counts Account.Cut i ∷ r .bytes Account.Cut i
-    ∷ r .counts Account.Empty i ∷ r .bytes Account.Empty i
-    ∷ r .counts Account.UnderWay i ∷ r .bytes Account.UnderWay i
-    ∷ r .counts Account.Stray i ∷ r .bytes Account.Stray i
-    ∷ r .counts Account.Unreadable i ∷ r .bytes Account.Unreadable i
-    ∷ r .counts Account.Headers i ∷ r .bytes Account.Headers i
-    ∷ r .losses i ∷ r .idles i ∷ r .ticks i ∷ r .backward i ∷ r .plain i ∷ [])
+module _ (o : Opening) (cs : List Call) (l : Ledger) (r : Right o cs l) where
+  by-account : (more : List Account) (x y : List ℕ) → x ≡ y → accountsIn more l x ≡ accountNumbers more (entries o cs) y
+  by-account [] x y e = e
+  by-account (a ∷ more) x y e = λ i. r .counts a i ∷ r .bytes a i ∷ by-account more x y e i
+
+  right-numbers : Sized l → l .numbers ≡ numbersOf (entries o cs)
+  right-numbers e =
+      spell numberCount (l .numbers) e ∙ by-account accounts _ _ (λ i. r .losses i ∷ r .idles i ∷ r .ticks i ∷ r .backward i ∷ r .plain i ∷ [])
 
 pub run-numbers : (o : Opening) (cs : List Call) → Proper cs → ledgerOf (run (fresh o) cs) .numbers ≡ numbersOf (entries o cs)
 run-numbers o cs p =
-    right-numbers o cs (ledgerOf (run (fresh o) cs)) (shown-sized (run (fresh o) cs .ledger) (run (fresh o) cs .track .phase) (end-sized o cs p)) (all-right o cs p)
+    right-numbers o cs (ledgerOf (run (fresh o) cs)) (all-right o cs p) (shown-sized (run (fresh o) cs .ledger) (run (fresh o) cs .track .phase) (end-sized o cs p))

@@ -22,11 +22,11 @@ use Rattle.frames.specs.declared.Fault.{Fault}
 use Rattle.frames.specs.declared.Fault.the-variants.{Sound, Bad}
 use Rattle.ledger.specs.declared.Account.{Account}
 use Rattle.ledger.specs.Entry.{Entry}
-use Rattle.ledger.specs.Ledger.{placeOf}
 use Rattle.books.specs.Rule.{Call, Event, idle, unreadable, missing, readable, eventBy, events, isOpen, Seen, readables, same, ahead, runs, frameOf, strayOf, complete, dataOf, firstStamp, fault, Item, verdict, settled, strays, judge, nothing, judged, framesOf, framesBy, loose, entryOf, entries, bytesIn, partIn, total, received}
-use Rattle.books.specs.Demands.{accounts, over}
+use Rattle.books.specs.Demands.{over}
 use Rattle.books.proofs.Posts.{total-append}
 use Rattle.books.proofs.History.{map-append}
+use Rattle.ledger.specs.Accounts.{placeOf, accounts}
 
 -- ---- what a reading says of its transfer's bytes
 abbrev Sound₀ : List ℕ → Reading → Type 0

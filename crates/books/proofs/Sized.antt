@@ -1,4 +1,4 @@
--- Whatever is called, a ledger keeps its twenty-seven numbers.
+-- Whatever is called, a ledger keeps all its numbers.
 use Prim.Native.Nat.{ℕ, zero, suc, _-_}
 use mathlib.Core.List.{List}
 use lib.ListN.{length}
@@ -18,7 +18,8 @@ use Rattle.session.specs.declared.Session.{Session}
 use Rattle.session.specs.Refusals.{takeRows, lostRows, closeRows}
 use Rattle.session.specs.Session.{turned, readOf, tookBy, tookOf, takeBy, takeOf, lostBy, lostOf, closeBy, closeOf}
 use Rattle.books.specs.Calls.{Offer, next}
-use Rattle.books.proofs.Posts.{Sized, post-sized}
+use Rattle.books.proofs.Posts.{post-sized}
+use Rattle.ledger.proofs.Places.{Sized}
 
 module _ (s : Session) (z : Sized (s .ledger)) where
   ended-sized : (e : Ended) (gone : ℕ) (l : Ledger) → Sized l → Sized (endedOf l e gone)

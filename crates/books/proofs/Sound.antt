@@ -25,17 +25,17 @@ use Rattle.frames.specs.declared.Phase.the-variants.{Fresh, Under, Past}
 use Rattle.frames.specs.declared.Ended.the-variants.{Nothing, Frame}
 use Rattle.frames.specs.Track.{firstOf, clashOf, sameOf, whyOf, begunOf, joinedOf, filledOf, faultOf, phaseOf, joinTurn, strayTurn, turnBy, turnOf, spoiltBy, spoiltOf, closedBy, closedOf}
 use Rattle.ledger.specs.declared.Ledger.{Ledger}
-use Rattle.ledger.specs.Ledger.{lostAt, idleAt, ticksAt, backwardAt, untimedAt}
 use Rattle.session.specs.declared.Session.{Session}
 use Rattle.session.specs.Refusals.{sizesBroken, unequal, fillBroken, accountBroken, accountsBroken, countsBroken, recordBroken, ledgerOf, takeRows}
 use Rattle.session.specs.Session.{fresh, readOf, tookBy, tookOf}
-use Rattle.books.specs.Rule.{Call, events, entries, total, oneIn, received}
+use Rattle.books.specs.Rule.{lostLine, idleLine, Call, events, entries, total, oneIn, received}
 use Rattle.books.specs.Calls.{Offer, refusal, next, callOf, unless, taken, nextCall, run}
 use Rattle.books.specs.Demands.{Right}
 use Rattle.books.proofs.Taken.{Proper}
 use Rattle.books.proofs.Accounts.{count-right, bytes-right, all-right}
 use Rattle.books.proofs.Bounds.{count-bound, bytes-bound, ticks-bound, backward-bound, untimed-bound}
 use Rattle.books.proofs.History.{next-opening, proper-rest}
+use Rattle.ledger.specs.Accounts.{accountCount, lostAt, idleAt, ticksAt, backwardAt, untimedAt}
 
 -- ---- fill: within the frame, and in a frame without fault its bytes
 abbrev pub Snug : ℕ → Fault → ℕ → ℕ → Type 0
@@ -180,13 +180,13 @@ module _ (o : Opening) (cs : List Call) (p : Proper cs) (small : Small cs) where
   counted : at-end .taken ≡ length (events o cs)
   counted = run-taken o cs (fresh o) p ∙ omega arith
 
-  account-fine : (k : ℕ) → k < 11 → accountBroken (ledgerOf at-end) (at-end .taken) k ≡ false
+  account-fine : (k : ℕ) → k < accountCount → accountBroken (ledgerOf at-end) (at-end .taken) k ≡ false
   account-fine k h =
       rw (under (at-end .taken) _ _ (count-right o cs p k h) (rw counted (count-bound o cs k)), under (65536 * at-end .taken) _ _ (bytes-right o cs p k h) (rw counted (bytes-bound o cs k (small-received o cs small))))
 
   accounts-fine : accountsBroken (ledgerOf at-end) (at-end .taken) ≡ false
   unfolding accountsBroken
-  accounts-fine = any-none 11 (accountBroken (ledgerOf at-end) (at-end .taken)) account-fine
+  accounts-fine = any-none accountCount (accountBroken (ledgerOf at-end) (at-end .taken)) account-fine
 
   counts-fine : countsBroken (ledgerOf at-end) (at-end .taken) ≡ false
   unfolding countsBroken
@@ -194,8 +194,8 @@ module _ (o : Opening) (cs : List Call) (p : Proper cs) (small : Small cs) where
       let r : Right o cs (ledgerOf at-end) = all-right o cs p in
       rw (
         under (2 ^ 31 * at-end .taken) _ _ (r .ticks) (rw counted (ticks-bound o cs)),
-        under (at-end .taken) _ _ (r .losses) (rw counted (count-bound o cs 11)),
-        under (at-end .taken) _ _ (r .idles) (rw counted (count-bound o cs 12)),
+        under (at-end .taken) _ _ (r .losses) (rw counted (count-bound o cs lostLine)),
+        under (at-end .taken) _ _ (r .idles) (rw counted (count-bound o cs idleLine)),
         under (at-end .taken) _ _ (r .backward) (rw counted (backward-bound o cs)),
         under (at-end .taken) _ _ (r .plain) (rw counted (untimed-bound o cs)),
       )

@@ -17,7 +17,7 @@ use Rattle.frames.specs.declared.Ended.{Ended}
 use Rattle.frames.specs.declared.Fate.{Fate}
 use Rattle.ledger.specs.declared.Account.{Account}
 use Rattle.ledger.specs.declared.Ledger.{Ledger}
-use Rattle.ledger.specs.Ledger.{placeOf, bytesOf, ticksAt}
+use Rattle.ledger.specs.Ledger.{bytesOf}
 use Rattle.session.specs.declared.Session.{Session}
 use Rattle.session.specs.declared.Start.{Start}
 use Rattle.session.specs.declared.Outcome.{Outcome}
@@ -27,7 +27,7 @@ use Rattle.session.specs.Refusals.{openingFlags, sizesBroken, recordBroken, led
 use Rattle.session.specs.Session.{fresh, openBy, openOf, takeOf, bufferBy, bufferOf, lostOf, closeOf}
 use Rattle.books.specs.Rule.{Call, entries, numbersOf, stamps, forward, between, received}
 use Rattle.books.specs.Calls.{Offer, refusal, next, after, taken, run}
-use Rattle.books.specs.Demands.{Right, accounts, over, allBytes, endedItems, Gains, Says, offers, bufferAfter, Whole}
+use Rattle.books.specs.Demands.{Right, over, allBytes, endedItems, Gains, Says, offers, bufferAfter, Whole}
 use Rattle.books.proofs.Taken.{next-refused, after-run, taken-proper}
 use Rattle.books.proofs.Accounts.{all-right}
 use Rattle.books.proofs.Received.{entries-bytes, over-all}
@@ -36,6 +36,7 @@ use Rattle.books.proofs.Answers.{transfer-says, lost-says, close-says}
 use Rattle.books.proofs.Whole.{delivered-whole}
 use Rattle.books.proofs.Print.{run-numbers}
 use Rattle.books.proofs.Samples.{opening, transfers, printed, by-rule, by-session}
+use Rattle.ledger.specs.Accounts.{placeOf, ticksAt, accounts}
 
 -- An opening that is not refused gives a fresh session of admissible sizes.
 pub opened : (frame payload room : ℕ) → openOf frame payload room .start ≡ Start.Open

@@ -14,38 +14,24 @@ use Rattle.frames.specs.declared.Delivery.{Delivery}
 use Rattle.ledger.specs.declared.Account.{Account}
 use Rattle.ledger.specs.Entry.{Entry}
 use Rattle.ledger.specs.declared.Ledger.{Ledger}
-use Rattle.ledger.specs.Ledger.{placeOf, countOf, bytesOf, lostAt, idleAt, ticksAt, backwardAt, untimedAt}
+use Rattle.ledger.specs.Ledger.{countOf, bytesOf}
 use Rattle.session.specs.declared.Session.{Session}
 use Rattle.session.specs.Session.{bufferOf}
-use Rattle.books.specs.Rule.{Call, events, Seen, readables, runs, frameOf, strayOf, complete, dataOf, firstStamp, fault, Item, framesBy, entries, oneIn, partIn, total, stamps, untimed, forward, back, between, received}
+use Rattle.books.specs.Rule.{Call, events, Seen, readables, runs, frameOf, strayOf, complete, dataOf, firstStamp, fault, Item, framesBy, entries, lostLine, idleLine, oneIn, partIn, total, stamps, untimed, forward, back, between, received}
 use Rattle.books.specs.Calls.{Offer, next}
+use Rattle.ledger.specs.Accounts.{accounts, placeOf, lostAt, idleAt, ticksAt, backwardAt, untimedAt}
 
 -- THE LEDGER AND THE RULE: every number of a ledger is what the rule gives from the opening and the calls taken.
 pub record Right (o : Opening) (cs : List Call) (l : Ledger) : Type 0 where
   pub counts : (a : Account) → countOf l (placeOf a) ≡ total (oneIn (placeOf a)) (entries o cs)
   pub bytes : (a : Account) → bytesOf l (placeOf a) ≡ total (partIn (placeOf a)) (entries o cs)
-  pub losses : getD (l .numbers) lostAt 0 ≡ total (oneIn 11) (entries o cs)
-  pub idles : getD (l .numbers) idleAt 0 ≡ total (oneIn 12) (entries o cs)
+  pub losses : getD (l .numbers) lostAt 0 ≡ total (oneIn lostLine) (entries o cs)
+  pub idles : getD (l .numbers) idleAt 0 ≡ total (oneIn idleLine) (entries o cs)
   pub ticks : getD (l .numbers) ticksAt 0 ≡ between forward (stamps (entries o cs))
   pub backward : getD (l .numbers) backwardAt 0 ≡ between back (stamps (entries o cs))
   pub plain : getD (l .numbers) untimedAt 0 ≡ total untimed (entries o cs)
 
 -- NOTHING GOES MISSING: the byte accounts together
-abbrev pub accounts : List Account
-accounts =
-    Account.Delivered
-    ∷ Account.Gap
-    ∷ Account.Error
-    ∷ Account.Clock
-    ∷ Account.Long
-    ∷ Account.Cut
-    ∷ Account.Empty
-    ∷ Account.UnderWay
-    ∷ Account.Stray
-    ∷ Account.Unreadable
-    ∷ Account.Headers
-    ∷ []
-
 abbrev pub over : (Account → ℕ) → List Account → ℕ
 over f [] = 0
 over f (a ∷ rest) = f a + over f rest

@@ -16,6 +16,8 @@ use Rattle.frames.specs.declared.Reason.{Reason}
 use Rattle.frames.specs.declared.Reason.the-variants.{Gap, Error, Clock, Long, Cut, Empty}
 use Rattle.frames.specs.declared.Fault.{Fault}
 use Rattle.frames.specs.declared.Fault.the-variants.{Sound, Bad}
+use Rattle.ledger.specs.declared.Account.{Account}
+use Rattle.ledger.specs.Accounts.{accounts, accountCount, placeOf, accountFor}
 use Rattle.ledger.specs.Entry.{Entry}
 
 -- THE LIST holds the calls taken in order: transfers with their bytes, lost reports, close.
@@ -203,24 +205,22 @@ abbrev pub entries : Opening → List Call → List Entry
 entries o cs = map entryOf (framesBy o cs) ++ loose (events o cs)
 
 -- THE ACCOUNTS: how many entries an account has, and how many bytes they have together.
-abbrev pub lineFor : Reason → ℕ
-lineFor Gap = 1
-lineFor Error = 2
-lineFor Clock = 3
-lineFor Long = 4
-lineFor Cut = 5
-lineFor Empty = 6
+-- The line of print that an entry counts in, from 0: its account's place; lost and idle come after the accounts.
+abbrev pub lostLine : ℕ
+lostLine = accountCount
 
--- the line of print that an entry counts in, from 0
+abbrev pub idleLine : ℕ
+idleLine = accountCount + 1
+
 abbrev pub lineOf : Entry → ℕ
-lineOf (Entry.Delivered d) = 0
-lineOf (Entry.Dropped w n) = lineFor w
-lineOf (Entry.UnderWay n) = 7
-lineOf (Entry.Stray n) = 8
-lineOf (Entry.Unreadable n) = 9
-lineOf (Entry.Headers n) = 10
-lineOf Entry.Lost = 11
-lineOf Entry.Idle = 12
+lineOf (Entry.Delivered d) = placeOf Account.Delivered
+lineOf (Entry.Dropped w n) = placeOf (accountFor w)
+lineOf (Entry.UnderWay n) = placeOf Account.UnderWay
+lineOf (Entry.Stray n) = placeOf Account.Stray
+lineOf (Entry.Unreadable n) = placeOf Account.Unreadable
+lineOf (Entry.Headers n) = placeOf Account.Headers
+lineOf Entry.Lost = lostLine
+lineOf Entry.Idle = idleLine
 
 abbrev pub bytesIn : Entry → ℕ
 bytesIn (Entry.Delivered d) = d .len
@@ -297,11 +297,12 @@ received (transfer t ∷ cs) = length t + received cs
 received (lost ∷ cs) = received cs
 received (close ∷ cs) = 0
 
--- THE PRINT: the numbers of the sixteen lines, in order
-abbrev pub account : ℕ → List Entry → List ℕ → List ℕ
-account k es rest = total (oneIn k) es ∷ total (partIn k) es ∷ rest
+-- THE PRINT: the numbers of the lines, in order: each account's count and bytes, then lost, idle, ticks, backward and untimed
+abbrev pub accountNumbers : List Account → List Entry → List ℕ → List ℕ
+accountNumbers [] es rest = rest
+accountNumbers (a ∷ more) es rest = total (oneIn (placeOf a)) es ∷ total (partIn (placeOf a)) es ∷ accountNumbers more es rest
 
 abbrev pub numbersOf : List Entry → List ℕ
 numbersOf es =
-    account 0 es (account 1 es (account 2 es (account 3 es (account 4 es (account 5 es (account 6 es (account 7 es (account 8 es (account 9 es (account 10 es
-    (total (oneIn 11) es ∷ total (oneIn 12) es ∷ between forward (stamps es) ∷ between back (stamps es) ∷ total untimed es ∷ [])))))))))))
+    accountNumbers accounts es
+    (total (oneIn lostLine) es ∷ total (oneIn idleLine) es ∷ between forward (stamps es) ∷ between back (stamps es) ∷ total untimed es ∷ [])

@@ -17,9 +17,10 @@ use Rattle.rules.specs.Numbered.{firstFrom}
 use Rattle.session.specs.Refusals.{openingFlags}
 use Rattle.session.specs.Session.{openOf, openBy, takeOf, bufferOf, restOf, wholeOf, takenWith}
 use Rattle.books.specs.Calls.{Offer}
-use Rattle.books.proofs.Posts.{Sized}
 use Rattle.books.proofs.Sized.{next-sized}
 use Rattle.exports.specs.Taking.{State, tookFirst, tookAll, opened, deliveredOf}
+use Rattle.ledger.specs.Accounts.{numberCount}
+use Rattle.ledger.proofs.Places.{Sized}
 
 pub round-less : (times i n at : ℕ) → i < times → (times - (i + 1)) * (n + 1) + (n - 0) < (times - i) * (n + 1) + (n - at)
 round-less times i n at h =
@@ -37,7 +38,7 @@ pub record Going (size times : ℕ) (l : List ℕ) (a : State) (b : List ℕ) (s
   pub ended : times ≤ i → k ≡ 0
   pub sized : Sized (s .ledger)
 
-pub going-start : (frame payload size times : ℕ) (l b m : List ℕ) (o : Opened) (r : Rest) → o ≡ openOf frame payload (length b) → (m ≡ o .session .ledger .numbers) × (length m ≡ 27) →
+pub going-start : (frame payload size times : ℕ) (l b m : List ℕ) (o : Opened) (r : Rest) → o ≡ openOf frame payload (length b) → (m ≡ o .session .ledger .numbers) × (length m ≡ numberCount) →
     r ≡ restOf (o .session) → Going size times l (opened frame payload b) b (wholeOf r m) 0 0
 unfolding tookFirst tookAll
 going-start frame payload size times l b m o r e f g = record { k = 0; place = sym (zero-mul size); state = rw (g, f .0, e) refl; ended = λ h. refl; sized = f .1 }

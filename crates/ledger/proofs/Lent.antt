@@ -15,7 +15,9 @@ use Rattle.ledger.specs.declared.Step.the-variants.{Forward, Backward}
 use Rattle.ledger.specs.declared.Ledger.{Ledger}
 use Rattle.ledger.specs.Entry.{Entry}
 use Rattle.ledger.specs.Step.{stepOf}
-use Rattle.ledger.specs.Ledger.{accountFor, lostAt, idleAt, untimedAt, plusAt, plusOf, enteredIn, enteredOf, steppedIn, steppedOf, timedOf, postOf, endedIn, endedOf, fatedOf, answeredOf, ledgerWith}
+use Rattle.ledger.specs.Ledger.{plusOf, enteredOf, steppedOf, timedOf, postOf, endedOf, fatedOf, answeredOf}
+use Rattle.ledger.specs.Accounts.{accountFor, lostAt, idleAt, untimedAt}
+use Rattle.ledger.specs.Inner.{plusAt, enteredIn, steppedIn, endedIn, ledgerWith}
 
 -- ---- what is entered in place is what is posted
 module _ (l : List ℕ) (s : Stamp) where

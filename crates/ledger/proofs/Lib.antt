@@ -1,4 +1,5 @@
 -- Laws of the ledger.
+pub mod Places
 pub mod Rooms
 pub mod Lent
 pub mod Steps

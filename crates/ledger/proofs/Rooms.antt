@@ -11,7 +11,9 @@ use Rattle.frames.specs.declared.Reason.the-variants.{Gap, Error, Clock, Long, 
 use Rattle.frames.specs.declared.Ended.{Ended}
 use Rattle.frames.specs.declared.Ended.the-variants.{Nothing, Frame}
 use Rattle.ledger.specs.declared.Account.{Account}
-use Rattle.ledger.specs.Ledger.{placeOf, accountFor, countAt, bytesAt, lostAt, untimedAt, plusAt, enteredIn, endedIn, Room, Spare}
+use Rattle.ledger.proofs.Places.{place-lt}
+use Rattle.ledger.specs.Accounts.{accountCount, numberCount, underAt, placeOf, accountFor, countAt, bytesAt, lostAt, untimedAt}
+use Rattle.ledger.specs.Inner.{plusAt, enteredIn, endedIn, Room, Spare}
 
 -- ---- n more at a place
 plus-most : (l : List ℕ) (i n j b : ℕ) → getD l j 0 ≤ b → getD (plusAt l i n) j 0 ≤ b + n
@@ -47,25 +49,12 @@ room-ended b m l Nothing gone r n h = room-up b m l r (omega arith)
 room-ended b m l (Frame why) gone r n h = room-entered b m l (accountFor why) gone r (omega arith)
 
 -- ---- what the code asks before it adds
-place-below : (a : Account) → placeOf a < 11
-place-below Account.Delivered = omega arith
-place-below Account.Gap = omega arith
-place-below Account.Error = omega arith
-place-below Account.Clock = omega arith
-place-below Account.Long = omega arith
-place-below Account.Cut = omega arith
-place-below Account.Empty = omega arith
-place-below Account.UnderWay = omega arith
-place-below Account.Stray = omega arith
-place-below Account.Unreadable = omega arith
-place-below Account.Headers = omega arith
-
 -- an account other than the one under way has room
-pub entering : (b c : ℕ) (l : List ℕ) (a : Account) (n : ℕ) → Room b l → (placeOf a ≡ placeOf Account.UnderWay → ⊥) → n ≤ c →
+pub entering : (b c : ℕ) (l : List ℕ) (a : Account) (n : ℕ) → Room b l → (placeOf a ≡ underAt → ⊥) → n ≤ c →
     Spare b l (placeOf a) × (n ≤ c)
-entering b c l a n r p h = (r .accounts (placeOf a) (place-below a) p, h)
+entering b c l a n r p h = (r .accounts (placeOf a) (place-lt a) p, h)
 
-pub not-under-way : (why : Reason) → placeOf (accountFor why) ≡ placeOf Account.UnderWay → ⊥
+pub not-under-way : (why : Reason) → placeOf (accountFor why) ≡ underAt → ⊥
 not-under-way Gap e = omega arith
 not-under-way Error e = omega arith
 not-under-way Clock e = omega arith
@@ -73,18 +62,18 @@ not-under-way Long e = omega arith
 not-under-way Cut e = omega arith
 not-under-way Empty e = omega arith
 
-pub adding : (b : ℕ) (l : List ℕ) (i n : ℕ) → Room b l → lostAt ≤ i → i ≤ untimedAt → b + n < 2 ^ 64 → (i < 27) × (getD l i 0 + n < 2 ^ 64)
+pub adding : (b : ℕ) (l : List ℕ) (i n : ℕ) → Room b l → lostAt ≤ i → i < numberCount → b + n < 2 ^ 64 → (i < numberCount) × (getD l i 0 + n < 2 ^ 64)
 adding b l i n r p q h = (omega arith, omega (arith, r .others i p q))
 
 -- an account's count, and then its bytes
-pub entering-count : (b : ℕ) (l : List ℕ) (a : Account) (k : ℕ) → (k ≡ placeOf a) × (k < 11) → Spare b l (placeOf a) → b + 1 < 2 ^ 64 →
-    (countAt k < 27) × (getD l (countAt k) 0 + 1 < 2 ^ 64)
+pub entering-count : (b : ℕ) (l : List ℕ) (a : Account) (k : ℕ) → (k ≡ placeOf a) × (k < accountCount) → Spare b l (placeOf a) → b + 1 < 2 ^ 64 →
+    (countAt k < numberCount) × (getD l (countAt k) 0 + 1 < 2 ^ 64)
 entering-count b l a k e s h = (omega arith, let q : getD l (countAt k) 0 ≤ b = rw (e .0) (s .count) in omega arith)
 
 pub entering-bytes :
-    (b : ℕ) (l m : List ℕ) (a : Account) (k n : ℕ) → m ≡ plusAt l (countAt k) 1 → (k ≡ placeOf a) × (k < 11) → Spare b l (placeOf a) →
+    (b : ℕ) (l m : List ℕ) (a : Account) (k n : ℕ) → m ≡ plusAt l (countAt k) 1 → (k ≡ placeOf a) × (k < accountCount) → Spare b l (placeOf a) →
     b + n < 2 ^ 64 →
-    (bytesAt k < 27) × (getD m (bytesAt k) 0 + n < 2 ^ 64)
+    (bytesAt k < numberCount) × (getD m (bytesAt k) 0 + n < 2 ^ 64)
 entering-bytes b l m a k n p e s h = (
   omega arith,
   rw (p, getD-set-other l (countAt k) (bytesAt k) (getD l (countAt k) 0 + 1) 0 (λ z. omega arith))

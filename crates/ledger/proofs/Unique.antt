@@ -9,8 +9,10 @@ use Rattle.frames.specs.declared.Phase.{Phase}
 use Rattle.ledger.specs.declared.Account.{Account}
 use Rattle.ledger.specs.declared.Step.{Step}
 use Rattle.ledger.specs.declared.Ledger.{Ledger}
-use Rattle.ledger.specs.Ledger.{noLedger, placeOf, countOf, bytesOf, plusAt, enteredIn, endedIn, answeredOf, ledgerWith, shownOf}
+use Rattle.ledger.specs.Ledger.{noLedger, countOf, bytesOf, answeredOf, shownOf}
 use Rattle.ledger.specs.Step.{stepOf}
+use Rattle.ledger.specs.Accounts.{placeOf}
+use Rattle.ledger.specs.Inner.{plusAt, enteredIn, endedIn, ledgerWith}
 
 pub new-unique : (x y : Ledger) → x ≡ noLedger → y ≡ noLedger → x ≡ y
 new-unique x y p q = p ∙ sym q

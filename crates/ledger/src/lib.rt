@@ -2,9 +2,11 @@
 ghost use mathlib.Core.Path.{_≡_};
 ghost use Prim.Native.Nat.{_+_, _<_, _≤_, _^_};
 ghost use lib.ListN.{getD};
-ghost use Rattle.ledger.specs.Ledger.{noLedger, placeOf, accountFor, plusAt, enteredIn, steppedIn, timedOf, endedIn, fatedOf, answeredOf, shownOf, countOf, bytesOf, fateBytes, ledgerWith, Room, Spare};
+ghost use Rattle.ledger.specs.Ledger.{noLedger, timedOf, fatedOf, answeredOf, shownOf, countOf, bytesOf};
 ghost use Rattle.frames.specs.Track.{underCount, underBytes};
 ghost use Rattle.ledger.specs.Step.{stepOf};
+ghost use Rattle.ledger.specs.Accounts.{accountCount, numberCount, placeOf, accountFor};
+ghost use Rattle.ledger.specs.Inner.{plusAt, enteredIn, steppedIn, endedIn, fateBytes, ledgerWith, Room, Spare};
 use frames::Answer;
 use frames::Ended;
 use frames::Fate;
@@ -27,6 +29,26 @@ pub enum Account {
     Headers,
 }
 
+// The names of print in the document's order, filled with spaces: the accounts, then lost, idle, ticks, backward and untimed.
+pub const NAMES: [[u8; 10]; Ledger::LINES] = [
+    *b"delivered ",
+    *b"gap       ",
+    *b"error     ",
+    *b"clock     ",
+    *b"long      ",
+    *b"cut       ",
+    *b"empty     ",
+    *b"under way ",
+    *b"stray     ",
+    *b"unreadable",
+    *b"headers   ",
+    *b"lost      ",
+    *b"idle      ",
+    *b"ticks     ",
+    *b"backward  ",
+    *b"untimed   ",
+];
+
 // The signed step between two stamps: so many ticks forward, or so many backward.
 pub enum Step {
     Forward(u32),
@@ -34,49 +56,51 @@ pub enum Step {
 }
 
 // The numbers in the order of print: each account's count and bytes, then lost, idle, ticks, backward and untimed.
-pub type Numbers = [u64; 27];
+pub type Numbers = [u64; Ledger::NUMBERS];
 
 // The numbers, and the stamp of the last delivered frame that has one.
 // What is entered is entered in place: a session lends the numbers, and none of them is copied.
 pub struct Ledger {
-    pub numbers: [u64; 27],
+    pub numbers: Numbers,
     pub last: Stamp,
 }
 
 impl Ledger {
-    // The limits: bytes of one transfer, transfers taken, bytes of a frame, and ticks of one step.
+    // The limits: bytes of one transfer, transfers taken, and ticks of one step.
     pub const BYTES: u64 = 65536;
 
     pub const TRANSFERS: u32 = 4294967295;
-
-    pub const FRAME: usize = sizes::FRAME_MOST;
 
     pub const TICKS: u64 = 2147483648;
 
     // Stamps are taken modulo 2^32.
     pub const STAMPS: u64 = 4294967296;
 
-    // How many accounts there are.
+    // How many accounts there are, and the place of the one of the frame under way.
     pub const ACCOUNTS: usize = 11;
 
-    // The place of the account of the frame under way, and those of the counts that are no accounts.
-    pub const UNDER_WAY: usize = 14;
+    pub const UNDER_WAY: usize = 7;
 
-    pub const LOST: usize = 22;
+    // Where the counts stand that are no accounts, and how many numbers and lines of print there are.
+    pub const LOST: usize = 2 * Ledger::ACCOUNTS;
 
-    pub const IDLE: usize = 23;
+    pub const IDLE: usize = Ledger::LOST + 1;
 
-    pub const RUNNING: usize = 24;
+    pub const RUNNING: usize = Ledger::LOST + 2;
 
-    pub const BACKWARD: usize = 25;
+    pub const BACKWARD: usize = Ledger::LOST + 3;
 
-    pub const UNTIMED: usize = 26;
+    pub const UNTIMED: usize = Ledger::LOST + 4;
+
+    pub const NUMBERS: usize = Ledger::LOST + 5;
+
+    pub const LINES: usize = Ledger::ACCOUNTS + 5;
 
     // A fresh ledger is all zero.
     pub fn new() -> Self
         ensures { λ r. ⌜ r ≡ noLedger ⌝ }
     {
-        let numbers = [0u64; 27];
+        let numbers = [0u64; Ledger::NUMBERS];
         Ledger {
             numbers,
             last: Stamp::Absent,
@@ -101,7 +125,7 @@ impl Ledger {
 
     // Inner: n more at a place. The session has looked at the bounds (50), here and below.
     pub fn plus(m: &mut Numbers, at: usize, n: u64)
-        requires { ⌜ (at < 27) × (getD (now m) at 0 + n < 2 ^ 64) ⌝ }
+        requires { ⌜ (at < numberCount) × (getD (now m) at 0 + n < 2 ^ 64) ⌝ }
         ensures { λ _. ⌜ now (m .exit) ≡ plusAt (now (m .entry)) at n ⌝ }
     {
         let was = m[at];
@@ -208,8 +232,8 @@ impl Ledger {
     {
         let count = under_count(p);
         let bytes = under_bytes(p);
-        self.numbers[Ledger::UNDER_WAY] = count;
-        self.numbers[Ledger::UNDER_WAY + 1] = bytes;
+        self.numbers[2 * Ledger::UNDER_WAY] = count;
+        self.numbers[2 * Ledger::UNDER_WAY + 1] = bytes;
         self
     }
 }
@@ -235,7 +259,7 @@ fn under_bytes(p: Phase) -> u64
 }
 
 fn place(a: Account) -> usize
-    ensures { λ r. ⌜ (r ≡ placeOf a) × (r < 11) ⌝ }
+    ensures { λ r. ⌜ (r ≡ placeOf a) × (r < accountCount) ⌝ }
 {
     match a {
         Account::Delivered => 0,
@@ -245,7 +269,7 @@ fn place(a: Account) -> usize
         Account::Long => 4,
         Account::Cut => 5,
         Account::Empty => 6,
-        Account::UnderWay => 7,
+        Account::UnderWay => Ledger::UNDER_WAY,
         Account::Stray => 8,
         Account::Unreadable => 9,
         Account::Headers => 10,

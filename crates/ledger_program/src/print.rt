@@ -1,4 +1,9 @@
-// The sixteen lines of a ledger, or the one line in their place.
+// The ledger, line by line, or the one line in its place.
+ghost use Prim.Native.Nat.{_<_, _≤_};
+ghost use lib.ListN.{length};
+ghost use Rattle.ledger.specs.Accounts.{lineCount};
+use ledger::Ledger;
+use ledger::Numbers;
 use libc::STDOUT_FILENO;
 use trace::Printed;
 use trace::State;
@@ -8,37 +13,61 @@ fn number(n: u64) {
     io::print_decimal(STDOUT_FILENO, n);
 }
 
-// An account: its name, its count and its bytes.
-fn account(name: &[u8], count: u64, bytes: u64) {
-    io::write_all(STDOUT_FILENO, name);
-    number(count);
-    number(bytes);
+fn end() {
     io::write_all(STDOUT_FILENO, b"\n");
 }
 
 fn single(name: &[u8], n: u64) {
     io::write_all(STDOUT_FILENO, name);
     number(n);
-    io::write_all(STDOUT_FILENO, b"\n");
+    end();
 }
 
-fn ledger(n: [u64; 27]) {
-    account(b"delivered", n[0], n[1]);
-    account(b"gap", n[2], n[3]);
-    account(b"error", n[4], n[5]);
-    account(b"clock", n[6], n[7]);
-    account(b"long", n[8], n[9]);
-    account(b"cut", n[10], n[11]);
-    account(b"empty", n[12], n[13]);
-    account(b"under way", n[14], n[15]);
-    account(b"stray", n[16], n[17]);
-    account(b"unreadable", n[18], n[19]);
-    account(b"headers", n[20], n[21]);
-    single(b"lost", n[22]);
-    single(b"idle", n[23]);
-    single(b"ticks", n[24]);
-    single(b"backward", n[25]);
-    single(b"untimed", n[26]);
+// How long a name is without the spaces that fill it.
+fn length(text: &[u8]) -> usize
+    ensures { λ r. ⌜ r ≤ length (now (text .entry)) ⌝ }
+{
+    let mut n = text.len();
+    while 0 < n {
+        if text[n - 1] != b' ' {
+            return n;
+        }
+        n -= 1;
+    }
+    0
+}
+
+// The name of a line, from 0.
+fn text_of(line: usize) -> [u8; 10]
+    requires { ⌜ line < lineCount ⌝ }
+{
+    ledger::NAMES[line]
+}
+
+fn name(line: usize)
+    requires { ⌜ line < lineCount ⌝ }
+{
+    let text = text_of(line);
+    let n = length(&text);
+    io::write_all(STDOUT_FILENO, &text[0..n]);
+}
+
+// Each account with its count and its bytes, then each other count.
+fn ledger(n: Numbers) {
+    let mut line = 0;
+    while line < Ledger::ACCOUNTS {
+        name(line);
+        number(n[2 * line]);
+        number(n[2 * line + 1]);
+        end();
+        line += 1;
+    }
+    while line < Ledger::LINES {
+        name(line);
+        number(n[Ledger::ACCOUNTS + line]);
+        end();
+        line += 1;
+    }
 }
 
 pub fn print(p: Printed) {

@@ -23,7 +23,7 @@ use Rattle.frames.specs.declared.Fate.{Fate}
 use Rattle.frames.specs.Track.{turnOf, spoiltOf, closedOf}
 use Rattle.ledger.specs.declared.Account.{Account}
 use Rattle.ledger.specs.declared.Ledger.{Ledger}
-use Rattle.ledger.specs.Ledger.{lostAt, idleAt, plusAt, enteredIn, endedIn, answeredOf, ledgerWith}
+use Rattle.ledger.specs.Ledger.{answeredOf}
 use Rattle.ledger.proofs.Lent.{with-headers, with-unreadable, with-lost, with-idle, with-ended}
 use Rattle.session.specs.declared.Rest.{Rest}
 use Rattle.session.specs.declared.RestTaken.{RestTaken}
@@ -38,13 +38,15 @@ use Rattle.session.specs.declared.Closing.{Closing}
 use Rattle.session.specs.declared.Closed.{Closed}
 use Rattle.session.specs.Refusals.{openingFlags, recordBroken, closeRows, lostRows, takeRows, Ready}
 use Rattle.session.specs.Session.{fresh, noSession, openOf, countedOf, readOf, readBuffer, plainly, tookOf, tookBuffer, takeOf, bufferOf, lostBy, lostOf, closeBy, closeOf, openBy, takeBy, bufferBy, restOf, wholeOf, countedRest, takenWith, reportedWith, closedWith}
+use Rattle.ledger.specs.Accounts.{lostAt, idleAt, numberCount}
+use Rattle.ledger.specs.Inner.{plusAt, enteredIn, endedIn, ledgerWith}
 
 -- ---- a call that nothing refuses
 module _ (s : Session) where
   pub close-sound : (n : ℕ) → n ≡ firstRow (closeRows s) → n ≡ 0 → recordBroken s ≡ false
   close-sound n e z = row-none (closeRows s) (omega arith, (omega arith, tt)) (sym e ∙ z) .0
 
-  module _ (places : length (s .ledger .numbers) ≡ 27) (few : s .taken < 2 ^ 32) where
+  module _ (places : length (s .ledger .numbers) ≡ numberCount) (few : s .taken < 2 ^ 32) where
     lost-none : NoneOf (lostRows s) → Ready s
     lost-none n = let q = eqb-false (s .taken) 4294967295 (n .1 .1 .0) in record { sound = n .0; more = less q; places = places }
       where

@@ -13,10 +13,12 @@ use Rattle.frames.specs.declared.Phase.the-variants.{Fresh, Under, Past}
 use Rattle.frames.specs.declared.Run.{Run}
 use Rattle.frames.specs.Track.{underCount, underBytes}
 use Rattle.payload.specs.declared.Stamp.the-variants.{Absent}
+use Rattle.ledger.specs.Accounts.{accountCount, underAt}
 use Rattle.ledger.specs.declared.Ledger.{Ledger}
-use Rattle.ledger.specs.Ledger.{countOf, bytesOf, ledgerWith}
+use Rattle.ledger.specs.Ledger.{countOf, bytesOf}
 use Rattle.session.specs.declared.Rest.{Rest}
 use Rattle.session.specs.Refusals.{sizesBroken, unequal, fillBroken, accountBroken, countsBroken, underBroken, postedAccount, postedBroken, restBroken, closeRowsBy, lostRowsBy, takeRowsBy}
+use Rattle.ledger.specs.Inner.{ledgerWith}
 
 -- ---- one test or another
 pub or-yes : (a b : Bool) → a ≡ true → true ≡ (a || b)
@@ -73,12 +75,12 @@ module _ (l : List ℕ) (n k : ℕ) where
   abbrev at : Ledger
   at = ledgerWith l Absent
 
-  pub account-under : 2 * k ≡ 14 → false ≡ postedAccount l n k
-  account-under h = rw (eq-eqb k 7 (omega arith))
+  pub account-under : k ≡ underAt → false ≡ postedAccount l n k
+  account-under h = rw (eq-eqb k underAt h)
 
-  module _ (o : 2 * k ≡ 14 → ⊥) where
+  module _ (o : k ≡ underAt → ⊥) where
     posted-is : postedAccount l n k ≡ accountBroken at n k
-    posted-is = rw (ne-eqb k 7 (λ e. o (omega arith)))
+    posted-is = rw (ne-eqb k underAt o)
 
     pub count-over : n < countOf at k → true ≡ postedAccount l n k
     count-over q = or-yes _ _ (lt-ltb n (countOf at k) q) ∙ sym posted-is
@@ -86,14 +88,14 @@ module _ (l : List ℕ) (n k : ℕ) where
     pub count-within : (x : Bool) → countOf at k ≤ n → x ≡ ltb (65536 * n) (bytesOf at k) → x ≡ postedAccount l n k
     count-within x p q = or-no _ _ x (le-ltb n (countOf at k) p) q ∙ sym posted-is
 
-pub some-account : (l : List ℕ) (n k : ℕ) (x : Bool) → k < 11 → x ≡ postedAccount l n k → x ≡ true → true ≡ anyBelow 11 (postedAccount l n)
-some-account l n k x h e y = sym (any-some 11 (postedAccount l n) k h (sym e ∙ y))
+pub some-account : (l : List ℕ) (n k : ℕ) (x : Bool) → k < accountCount → x ≡ postedAccount l n k → x ≡ true → true ≡ anyBelow accountCount (postedAccount l n)
+some-account l n k x h e y = sym (any-some accountCount (postedAccount l n) k h (sym e ∙ y))
 
-pub no-account : (l : List ℕ) (n : ℕ) → ((k : ℕ) → k < 11 → postedAccount l n k ≡ false) → false ≡ anyBelow 11 (postedAccount l n)
-no-account l n h = sym (any-none 11 (postedAccount l n) h)
+pub no-account : (l : List ℕ) (n : ℕ) → ((k : ℕ) → k < accountCount → postedAccount l n k ≡ false) → false ≡ anyBelow accountCount (postedAccount l n)
+no-account l n h = sym (any-none accountCount (postedAccount l n) h)
 
 -- ---- rule 50 of what is posted, and of the rest
-module _ (l : List ℕ) (n : ℕ) (a : Bool) (p : a ≡ anyBelow 11 (postedAccount l n)) where
+module _ (l : List ℕ) (n : ℕ) (a : Bool) (p : a ≡ anyBelow accountCount (postedAccount l n)) where
   pub posted-accounts : a ≡ true → true ≡ postedBroken l n
   unfolding postedBroken
   posted-accounts y = said-or-yes a _ _ p y

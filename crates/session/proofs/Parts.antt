@@ -1,5 +1,5 @@
 -- Rule 50 of a record in two parts: the rest, with the frame under way, and the lent numbers.
-use Prim.Native.Nat.{ℕ, _+_, _*_, _<_}
+use Prim.Native.Nat.{ℕ, _+_, _*_, _≤_, _<_}
 use mathlib.Core.Path.{_≡_, refl, sym, ap, _∙_}
 use mathlib.Core.List.{List}
 use mathlib.Core.Bool.{Bool, true, false, not, _||_, _&&_}
@@ -16,28 +16,13 @@ use Rattle.payload.specs.declared.Stamp.the-variants.{Absent}
 use Rattle.frames.specs.declared.Phase.{Phase}
 use Rattle.frames.specs.Track.{underCount, underBytes}
 use Rattle.ledger.specs.declared.Ledger.{Ledger}
-use Rattle.ledger.specs.Ledger.{shownOf, ledgerWith}
+use Rattle.ledger.specs.Ledger.{shownOf}
+use Rattle.ledger.specs.Accounts.{accountCount, numberCount, underAt, lostAt, idleAt, ticksAt, backwardAt, untimedAt}
+use Rattle.ledger.proofs.Places.{shown-account, shown-single, shown-count, shown-bytes}
 use Rattle.session.specs.declared.Rest.{Rest}
 use Rattle.session.specs.Refusals.{sizesBroken, fillBroken, accountBroken, accountsBroken, countsBroken, recordBroken, underBroken, postedAccount, postedBroken, restBroken, closeRowsBy, closeRows, lostRowsBy, lostRows, takeRowsBy, takeRows}
 use Rattle.session.specs.Session.{wholeOf}
-
--- ---- the ledger with the frame under way in its account
-pub shown-other : (l : Ledger) (p : Phase) (i : ℕ) → (i ≡ 14 → ⊥) → (i ≡ 15 → ⊥) → getD (shownOf l p .numbers) i 0 ≡ getD (l .numbers) i 0
-unfolding shownOf
-shown-other l p i a b =
-    getD-set-other (set (l .numbers) 14 (underCount p)) 15 i (underBytes p) 0 b ∙ getD-set-other (l .numbers) 14 i (underCount p) 0 a
-
-pub shown-count : (l : Ledger) (p : Phase) → length (l .numbers) ≡ 27 → getD (shownOf l p .numbers) 14 0 ≡ underCount p
-unfolding shownOf
-shown-count l p e =
-    getD-set-other (set (l .numbers) 14 (underCount p)) 15 14 (underBytes p) 0 (λ z. omega arith)
-    ∙ getD-set-same (l .numbers) 14 (underCount p) 0 (omega arith)
-
-pub shown-bytes : (l : Ledger) (p : Phase) → length (l .numbers) ≡ 27 → getD (shownOf l p .numbers) 15 0 ≡ underBytes p
-unfolding shownOf
-shown-bytes l p e =
-    getD-set-same (set (l .numbers) 14 (underCount p)) 15 (underBytes p) 0
-    (let q : length (set (l .numbers) 14 (underCount p)) ≡ length (l .numbers) = length-set (l .numbers) 14 (underCount p) in omega arith)
+use Rattle.ledger.specs.Inner.{ledgerWith}
 
 -- ---- tests
 same-test : (a b : Bool) → (a ≡ false → b ≡ false) → (b ≡ false → a ≡ false) → a ≡ b
@@ -59,62 +44,58 @@ moved false false true d e = refl
 moved false false false d e = refl
 
 -- ---- the accounts, and the counts
-module _ (l : List ℕ) (last : Stamp) (p : Phase) (n : ℕ) (places : length l ≡ 27) where
+module _ (l : List ℕ) (last : Stamp) (p : Phase) (n : ℕ) (places : length l ≡ numberCount) where
   abbrev shown : Ledger
   shown = shownOf (ledgerWith l last) p
 
-  as-posted : (k : ℕ) → (k ≡ 7 → ⊥) → accountBroken shown n k ≡ accountBroken (ledgerWith l Absent) n k
-  as-posted k h =
-      rw (
-        shown-other (ledgerWith l last) p (2 * k) (λ e. h (omega arith)) (λ e. omega arith),
-        shown-other (ledgerWith l last) p (2 * k + 1) (λ e. omega arith) (λ e. h (omega arith)),
-      )
+  as-posted : (k : ℕ) → (k ≡ underAt → ⊥) → accountBroken shown n k ≡ accountBroken (ledgerWith l Absent) n k
+  as-posted k h = let q = shown-account (ledgerWith l last) p k h in rw (q .0, q .1)
 
-  under-way : accountBroken shown n 7 ≡ underBroken p n
+  under-way : accountBroken shown n underAt ≡ underBroken p n
   under-way = rw (shown-count (ledgerWith l last) p places, shown-bytes (ledgerWith l last) p places)
 
-  accounts-parts : accountsBroken shown n ≡ (underBroken p n || anyBelow 11 (postedAccount l n))
+  accounts-parts : accountsBroken shown n ≡ (underBroken p n || anyBelow accountCount (postedAccount l n))
   unfolding accountsBroken
-  accounts-parts = same-test (anyBelow 11 (accountBroken shown n)) (underBroken p n || anyBelow 11 (postedAccount l n)) there back
+  accounts-parts = same-test (anyBelow accountCount (accountBroken shown n)) (underBroken p n || anyBelow accountCount (postedAccount l n)) there back
     where
-      there : anyBelow 11 (accountBroken shown n) ≡ false → (underBroken p n || anyBelow 11 (postedAccount l n)) ≡ false
-      there h = neither (underBroken p n) (anyBelow 11 (postedAccount l n)) (sym under-way ∙ none-any 11 (accountBroken shown n) h 7 (omega arith)) (any-none 11 (postedAccount l n) each)
+      there : anyBelow accountCount (accountBroken shown n) ≡ false → (underBroken p n || anyBelow accountCount (postedAccount l n)) ≡ false
+      there h = neither (underBroken p n) (anyBelow accountCount (postedAccount l n)) (sym under-way ∙ none-any accountCount (accountBroken shown n) h underAt (omega arith)) (any-none accountCount (postedAccount l n) each)
         where
-          each : (k : ℕ) → k < 11 → postedAccount l n k ≡ false
-          each k q = go (ℕ-discrete k 7)
+          each : (k : ℕ) → k < accountCount → postedAccount l n k ≡ false
+          each k q = go (ℕ-discrete k underAt)
             where
-              go : Dec (k ≡ 7) → postedAccount l n k ≡ false
-              go (yes e) = rw (eq-eqb k 7 e)
-              go (no e) = and-none (not (eqb k 7)) (accountBroken (ledgerWith l Absent) n k) (sym (as-posted k e) ∙ none-any 11 (accountBroken shown n) h k q)
+              go : Dec (k ≡ underAt) → postedAccount l n k ≡ false
+              go (yes e) = rw (eq-eqb k underAt e)
+              go (no e) = and-none (not (eqb k underAt)) (accountBroken (ledgerWith l Absent) n k) (sym (as-posted k e) ∙ none-any accountCount (accountBroken shown n) h k q)
 
-      back : (underBroken p n || anyBelow 11 (postedAccount l n)) ≡ false → anyBelow 11 (accountBroken shown n) ≡ false
-      back h = any-none 11 (accountBroken shown n) each
+      back : (underBroken p n || anyBelow accountCount (postedAccount l n)) ≡ false → anyBelow accountCount (accountBroken shown n) ≡ false
+      back h = any-none accountCount (accountBroken shown n) each
         where
-          each : (k : ℕ) → k < 11 → accountBroken shown n k ≡ false
-          each k q = go (ℕ-discrete k 7)
+          each : (k : ℕ) → k < accountCount → accountBroken shown n k ≡ false
+          each k q = go (ℕ-discrete k underAt)
             where
-              go : Dec (k ≡ 7) → accountBroken shown n k ≡ false
-              go (yes e) = rw e (under-way ∙ or-first (underBroken p n) (anyBelow 11 (postedAccount l n)) h)
+              go : Dec (k ≡ underAt) → accountBroken shown n k ≡ false
+              go (yes e) = rw e (under-way ∙ or-first (underBroken p n) (anyBelow accountCount (postedAccount l n)) h)
               go (no e) =
                   as-posted k e
-                  ∙ (let z : postedAccount l n k ≡ false = none-any 11 (postedAccount l n) (or-second (underBroken p n) (anyBelow 11 (postedAccount l n)) h) k q in rw (ne-eqb k 7 e) at z)
+                  ∙ (let z : postedAccount l n k ≡ false = none-any accountCount (postedAccount l n) (or-second (underBroken p n) (anyBelow accountCount (postedAccount l n)) h) k q in rw (ne-eqb k underAt e) at z)
 
   counts-parts : countsBroken shown n ≡ countsBroken (ledgerWith l Absent) n
   unfolding countsBroken
   counts-parts =
-      rw (other 24 (omega arith), other 22 (omega arith), other 23 (omega arith), other 25 (omega arith), other 26 (omega arith))
+      rw (other ticksAt (omega arith), other lostAt (omega arith), other idleAt (omega arith), other backwardAt (omega arith), other untimedAt (omega arith))
     where
-      other : (i : ℕ) → 15 < i → getD (shown .numbers) i 0 ≡ getD l i 0
-      other i h = shown-other (ledgerWith l last) p i (λ e. omega arith) (λ e. omega arith)
+      other : (i : ℕ) → lostAt ≤ i → getD (shown .numbers) i 0 ≡ getD l i 0
+      other i h = shown-single (ledgerWith l last) p i h
 
 -- ---- the whole record
-module _ (r : Rest) (l : List ℕ) (places : length l ≡ 27) where
+module _ (r : Rest) (l : List ℕ) (places : length l ≡ numberCount) where
   pub record-parts : recordBroken (wholeOf r l) ≡ (restBroken r || postedBroken l (r .taken))
   unfolding recordBroken restBroken postedBroken
   record-parts =
       rw (accounts-parts l (r .last) (r .track .phase) (r .taken) places, counts-parts l (r .last) (r .track .phase) (r .taken) places)
       (moved (sizesBroken (r .opening)) (fillBroken (r .track .phase) (r .opening .frame)) (underBroken (r .track .phase) (r .taken))
-      (anyBelow 11 (postedAccount l (r .taken))) (countsBroken (ledgerWith l Absent) (r .taken)))
+      (anyBelow accountCount (postedAccount l (r .taken))) (countsBroken (ledgerWith l Absent) (r .taken)))
 
   -- what the code finds of the parts, it finds of the record
   module _ (posted : Bool) (e : posted ≡ postedBroken l (r .taken)) (n : ℕ) where

@@ -14,14 +14,15 @@ use Rattle.frames.specs.declared.Fate.{Fate}
 use Rattle.frames.specs.declared.Turn.{Turn}
 use Rattle.frames.specs.Track.{turnOf, underBytes, Roomy}
 use Rattle.frames.proofs.Bounds.{FilledBy, LengthOf, Sits, turn-sits}
-use Rattle.ledger.specs.Ledger.{countAt, bytesAt, lostAt, idleAt, ticksAt, backwardAt, untimedAt, fateBytes, Spare, Room}
 use Rattle.session.specs.declared.Session.{Session}
 use Rattle.session.specs.Refusals.{ledgerOf, recordBroken, Ready}
-use Rattle.session.proofs.Parts.{shown-other, shown-bytes}
+use Rattle.ledger.proofs.Places.{shown-account, shown-single, shown-bytes}
 use Rattle.session.proofs.Row50.{Keeps, row-50}
+use Rattle.ledger.specs.Accounts.{accountCount, numberCount, underAt, countAt, bytesAt, lostAt, idleAt, ticksAt, backwardAt, untimedAt}
+use Rattle.ledger.specs.Inner.{fateBytes, Spare, Room}
 
 -- ---- the counts that are no accounts
-among : (P : ℕ → Type 0) → P lostAt → P idleAt → P ticksAt → P backwardAt → P untimedAt → (i : ℕ) → lostAt ≤ i → i ≤ untimedAt → P i
+among : (P : ℕ → Type 0) → P lostAt → P idleAt → P ticksAt → P backwardAt → P untimedAt → (i : ℕ) → lostAt ≤ i → i < numberCount → P i
 among P a b c d e i h q = go (ℕ-discrete i lostAt) (ℕ-discrete i idleAt) (ℕ-discrete i ticksAt) (ℕ-discrete i backwardAt)
   where
     go : Dec (i ≡ lostAt) → Dec (i ≡ idleAt) → Dec (i ≡ ticksAt) → Dec (i ≡ backwardAt) → P i
@@ -38,21 +39,21 @@ pub record Able (s : Session) : Type 0 where
   pub under : underBytes (s .track .phase) < 2 ^ 48
   pub room : Room (2 ^ 63) (s .ledger .numbers)
 
-module _ (s : Session) (keeps : Keeps s) (places : length (s .ledger .numbers) ≡ 27) (few : s .taken < 2 ^ 32) where
+module _ (s : Session) (keeps : Keeps s) (places : length (s .ledger .numbers) ≡ numberCount) (few : s .taken < 2 ^ 32) where
   few-bytes : underBytes (s .track .phase) < 2 ^ 48
-  few-bytes = omega (arith, keeps .bytes 7 (omega arith), shown-bytes (s .ledger) (s .track .phase) places)
+  few-bytes = omega (arith, keeps .bytes underAt (omega arith), shown-bytes (s .ledger) (s .track .phase) places)
 
-  spare : (k : ℕ) → k < 11 → (k ≡ 7 → ⊥) → Spare (2 ^ 63) (s .ledger .numbers) k
+  spare : (k : ℕ) → k < accountCount → (k ≡ underAt → ⊥) → Spare (2 ^ 63) (s .ledger .numbers) k
   spare k h p =
       record {
-        count = omega (arith, keeps .counts k h, shown-other (s .ledger) (s .track .phase) (countAt k) (λ e. p (omega arith)) (λ e. omega arith));
-        bytes = omega (arith, keeps .bytes k h, shown-other (s .ledger) (s .track .phase) (bytesAt k) (λ e. omega arith) (λ e. p (omega arith)));
+        count = omega (arith, keeps .counts k h, shown-account (s .ledger) (s .track .phase) k p .0);
+        bytes = omega (arith, keeps .bytes k h, shown-account (s .ledger) (s .track .phase) k p .1);
       }
 
   as-posted : (i : ℕ) → lostAt ≤ i → getD (ledgerOf s .numbers) i 0 ≡ getD (s .ledger .numbers) i 0
-  as-posted i h = shown-other (s .ledger) (s .track .phase) i (λ e. omega arith) (λ e. omega arith)
+  as-posted i h = shown-single (s .ledger) (s .track .phase) i h
 
-  other : (i : ℕ) → lostAt ≤ i → i ≤ untimedAt → getD (s .ledger .numbers) i 0 ≤ 2 ^ 63
+  other : (i : ℕ) → lostAt ≤ i → i < numberCount → getD (s .ledger .numbers) i 0 ≤ 2 ^ 63
   other i h q =
       let w = among (λ (j : ℕ). getD (ledgerOf s .numbers) j 0 ≤ 2 ^ 63) (omega (arith, keeps .lost)) (omega (arith, keeps .idle))
       (omega (arith, keeps .ticks))
@@ -62,7 +63,7 @@ module _ (s : Session) (keeps : Keeps s) (places : length (s .ledger .numbers) �
   able-kept : Able s
   able-kept = record { frame = keeps .frame; filled = keeps .fill; under = few-bytes; room = record { accounts = spare; others = other } }
 
-pub able : (s : Session) → recordBroken s ≡ false → length (s .ledger .numbers) ≡ 27 → s .taken < 2 ^ 32 → Able s
+pub able : (s : Session) → recordBroken s ≡ false → length (s .ledger .numbers) ≡ numberCount → s .taken < 2 ^ 32 → Able s
 able s e places few = able-kept s (row-50 s .0 e) places few
 
 pub ready-able : (s : Session) → Ready s → Able s

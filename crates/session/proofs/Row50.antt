@@ -17,10 +17,11 @@ use Rattle.frames.specs.declared.Phase.{Phase}
 use Rattle.frames.specs.declared.Phase.the-variants.{Fresh, Under, Past}
 use Rattle.frames.proofs.Bounds.{FilledBy}
 use Rattle.ledger.specs.declared.Ledger.{Ledger}
-use Rattle.ledger.specs.Ledger.{countOf, bytesOf, lostAt, idleAt, ticksAt, backwardAt, untimedAt}
+use Rattle.ledger.specs.Ledger.{countOf, bytesOf}
 use Rattle.session.specs.declared.Session.{Session}
 use Rattle.session.specs.Refusals.{ledgerOf, sizesBroken, unequal, fillBroken, accountBroken, accountsBroken, countsBroken, recordBroken}
 use Rattle.session.proofs.Checks.{or-no}
+use Rattle.ledger.specs.Accounts.{accountCount, lostAt, idleAt, ticksAt, backwardAt, untimedAt}
 
 -- none of the row's conditions holds
 pub record Keeps (s : Session) : Type 0 where
@@ -30,11 +31,11 @@ pub record Keeps (s : Session) : Type 0 where
   -- fill at most the frame size and, in a frame without fault, its bytes under way
   pub fill : FilledBy (s .opening) (s .track .phase)
   -- no byte account over 65,536 × transfers taken
-  pub bytes : (k : ℕ) → k < 11 → bytesOf (ledgerOf s) k ≤ 65536 * s .taken
+  pub bytes : (k : ℕ) → k < accountCount → bytesOf (ledgerOf s) k ≤ 65536 * s .taken
   -- ticks not over 2^31 × them
   pub ticks : getD (ledgerOf s .numbers) ticksAt 0 ≤ 2 ^ 31 * s .taken
   -- no other count above them
-  pub counts : (k : ℕ) → k < 11 → countOf (ledgerOf s) k ≤ s .taken
+  pub counts : (k : ℕ) → k < accountCount → countOf (ledgerOf s) k ≤ s .taken
   pub lost : getD (ledgerOf s .numbers) lostAt 0 ≤ s .taken
   pub idle : getD (ledgerOf s .numbers) idleAt 0 ≤ s .taken
   pub backward : getD (ledgerOf s .numbers) backwardAt 0 ≤ s .taken
@@ -73,10 +74,10 @@ fill-kept o (Under r) e =
 
 -- ---- the accounts and the other counts
 module _ (l : Ledger) (n : ℕ) where
-  account-kept : accountsBroken l n ≡ false → (k : ℕ) → k < 11 → (countOf l k ≤ n) × (bytesOf l k ≤ 65536 * n)
+  account-kept : accountsBroken l n ≡ false → (k : ℕ) → k < accountCount → (countOf l k ≤ n) × (bytesOf l k ≤ 65536 * n)
   unfolding accountsBroken
   account-kept e k h =
-      let q = none-any 11 (accountBroken l n) e k h in (
+      let q = none-any accountCount (accountBroken l n) e k h in (
         ltb-false n (countOf l k) (or-first _ (ltb (65536 * n) (bytesOf l k)) q),
         ltb-false (65536 * n) (bytesOf l k) (or-second (ltb n (countOf l k)) _ q),
       )
@@ -106,9 +107,9 @@ module _ (l : Ledger) (n : ℕ) where
 account-within : (l : Ledger) (n k : ℕ) → countOf l k ≤ n → bytesOf l k ≤ 65536 * n → accountBroken l n k ≡ false
 account-within l n k p q = none (ltb n (countOf l k)) (ltb (65536 * n) (bytesOf l k)) (le-ltb n (countOf l k) p) (le-ltb (65536 * n) (bytesOf l k) q)
 
-accounts-within : (l : Ledger) (n : ℕ) → ((k : ℕ) → k < 11 → accountBroken l n k ≡ false) → false ≡ accountsBroken l n
+accounts-within : (l : Ledger) (n : ℕ) → ((k : ℕ) → k < accountCount → accountBroken l n k ≡ false) → false ≡ accountsBroken l n
 unfolding accountsBroken
-accounts-within l n h = sym (any-none 11 (accountBroken l n) h)
+accounts-within l n h = sym (any-none accountCount (accountBroken l n) h)
 
 unequal-clear : (f : Fault) (fill bytes : ℕ) → (f ≡ Sound → fill ≡ bytes) → unequal f fill bytes ≡ false
 unequal-clear Sound fill bytes h = rw (eq-eqb fill bytes (h refl))

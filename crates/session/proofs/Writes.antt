@@ -13,6 +13,7 @@ use Rattle.payload.specs.declared.Reading.the-variants.{Idle, Unreadable, Reada
 use Rattle.payload.specs.Transfer.{readingOf}
 use Rattle.payload.proofs.Readings.{readable-fits}
 use Rattle.frames.specs.declared.Turn.{Turn}
+use Rattle.ledger.specs.Accounts.{numberCount}
 use Rattle.copier.proofs.Written as copied
 use Rattle.session.specs.declared.Session.{Session}
 use Rattle.session.specs.Refusals.{takeRows}
@@ -71,7 +72,7 @@ module _ (s : Session) (buffer t : List ℕ) where
     faulted-writes-nothing z = pasted ∙ rw z (sym (paste-zero buffer (turn .at) (drop (h .len) t)))
 
     -- a readable transfer: the data after its header
-    pub readable-writes : length (s .ledger .numbers) ≡ 27 → s .taken < 2 ^ 32 →
+    pub readable-writes : length (s .ledger .numbers) ≡ numberCount → s .taken < 2 ^ 32 →
         Wrote buffer (bufferOf s buffer t) (drop (h .len) t) (turn .at) (turn .len)
     readable-writes places few =
         let f = take-ready s places few (length buffer) (length t) 0 (sym (none-row (takeRows s (length buffer) (length t)) o)) refl in

@@ -16,9 +16,11 @@ use Rattle.frames.specs.declared.Phase.the-variants.{Fresh, Under, Past}
 use Rattle.frames.specs.Track.{underCount, underBytes}
 use Rattle.ledger.specs.declared.Account.{Account}
 use Rattle.ledger.specs.declared.Ledger.{Ledger}
-use Rattle.ledger.specs.Ledger.{placeOf, countOf, bytesOf, lostAt, idleAt, ticksAt, backwardAt, untimedAt, shownOf, ledgerWith}
+use Rattle.ledger.specs.Ledger.{countOf, bytesOf, shownOf}
 use Rattle.session.specs.declared.Session.{Session}
 use Rattle.session.specs.declared.Rest.{Rest}
+use Rattle.ledger.specs.Accounts.{accountCount, numberCount, underAt, lostAt, idleAt, ticksAt, backwardAt, untimedAt}
+use Rattle.ledger.specs.Inner.{ledgerWith}
 
 -- the most bytes of a transfer, and the most transfers taken
 abbrev pub transferMost : ℕ
@@ -50,12 +52,12 @@ fillBroken Fresh frame = false
 fillBroken (Past fid) frame = false
 fillBroken (Under r) frame = ltb frame (r .fill) || unequal (r .fault) (r .fill) (r .bytes)
 
--- of the eleven accounts: a count above the transfers taken, or a byte account over 65,536 times them
+-- of each account: a count above the transfers taken, or a byte account over 65,536 times them
 abbrev pub accountBroken : Ledger → ℕ → ℕ → Bool
 accountBroken l n k = ltb n (countOf l k) || ltb (transferMost * n) (bytesOf l k)
 
 unfoldable pub accountsBroken : Ledger → ℕ → Bool
-accountsBroken l n = anyBelow 11 (accountBroken l n)
+accountsBroken l n = anyBelow accountCount (accountBroken l n)
 
 -- ticks over 2^31 times them; lost, idle, backward or untimed above them
 unfoldable pub countsBroken : Ledger → ℕ → Bool
@@ -102,10 +104,10 @@ underBroken p n = ltb n (underCount p) || ltb (transferMost * n) (underBytes p)
 
 -- every other account, and the counts, are what is posted,
 abbrev pub postedAccount : List ℕ → ℕ → ℕ → Bool
-postedAccount l n k = not (eqb k (placeOf Account.UnderWay)) && accountBroken (ledgerWith l Absent) n k
+postedAccount l n k = not (eqb k (underAt)) && accountBroken (ledgerWith l Absent) n k
 
 unfoldable pub postedBroken : List ℕ → ℕ → Bool
-postedBroken l n = anyBelow 11 (postedAccount l n) || countsBroken (ledgerWith l Absent) n
+postedBroken l n = anyBelow accountCount (postedAccount l n) || countsBroken (ledgerWith l Absent) n
 
 -- and all that is not posted is in the rest of the record
 unfoldable pub restBroken : Rest → Bool
@@ -116,4 +118,4 @@ restBroken r =
 pub record Ready (s : Session) : Type 0 where
   pub sound : recordBroken s ≡ false
   pub more : s .taken < takenMost
-  pub places : length (s .ledger .numbers) ≡ 27
+  pub places : length (s .ledger .numbers) ≡ numberCount

@@ -21,7 +21,7 @@ use Rattle.frames.specs.declared.Answer.{Answer}
 use Rattle.frames.specs.Track.{turnOf, spoiltOf, closedOf}
 use Rattle.ledger.specs.declared.Ledger.{Ledger}
 use Rattle.ledger.specs.Entry.{Entry}
-use Rattle.ledger.specs.Ledger.{noLedger, postOf, endedOf, answeredOf, ledgerWith}
+use Rattle.ledger.specs.Ledger.{noLedger, postOf, endedOf, answeredOf}
 use Rattle.session.specs.declared.Session.{Session}
 use Rattle.session.specs.declared.Rest.{Rest}
 use Rattle.session.specs.declared.RestTaken.{RestTaken}
@@ -36,6 +36,7 @@ use Rattle.session.specs.declared.Reported.{Reported}
 use Rattle.session.specs.declared.Closing.{Closing}
 use Rattle.session.specs.declared.Closed.{Closed}
 use Rattle.session.specs.Refusals.{openingFlags, closeRows, lostRows, takeRows}
+use Rattle.ledger.specs.Inner.{ledgerWith}
 
 -- OPEN: a session with no transfer taken and a fresh ledger
 abbrev pub newSession : Opening → Bool → Session

@@ -4,8 +4,9 @@ ghost use mathlib.Core.Bool.{_||_};
 ghost use Prim.Native.Nat.{_<_, _^_};
 ghost use Rattle.payload.specs.declared.Stamp.the-variants.{Absent};
 ghost use Rattle.rules.specs.Numbered.{firstFrom, firstRow, anyBelow};
-ghost use Rattle.ledger.specs.Ledger.{ledgerWith};
 ghost use Rattle.session.specs.Refusals.{openingFlags, sizesBroken, unequal, fillBroken, underBroken, postedAccount, countsBroken, postedBroken, restBroken, closeRowsBy, lostRowsBy, takeRowsBy};
+ghost use Rattle.ledger.specs.Accounts.{accountCount};
+ghost use Rattle.ledger.specs.Inner.{ledgerWith};
 use crate::Rest;
 use frames::Fault;
 use frames::Phase;
@@ -85,13 +86,13 @@ fn under_broken(p: Phase, n: u64) -> bool
 
 // A posted account: its count above the transfers taken, or its bytes over 65,536 times them.
 fn account_broken(m: &Numbers, n: u64, k: usize) -> bool
-    requires { ⌜ (n < 2 ^ 32) × (k < 11) ⌝ }
+    requires { ⌜ (n < 2 ^ 32) × (k < accountCount) ⌝ }
     ensures { λ r. ⌜ r ≡ postedAccount (now (m .entry)) n k ⌝ }
 {
-    let at = 2 * k;
-    if at == Ledger::UNDER_WAY {
+    if k == Ledger::UNDER_WAY {
         return false;
     }
+    let at = 2 * k;
     if n < m[at] {
         return true;
     }
@@ -100,7 +101,7 @@ fn account_broken(m: &Numbers, n: u64, k: usize) -> bool
 
 fn accounts_broken(m: &Numbers, n: u64) -> bool
     requires { ⌜ n < 2 ^ 32 ⌝ }
-    ensures { λ r. ⌜ r ≡ anyBelow 11 (postedAccount (now (m .entry)) n) ⌝ }
+    ensures { λ r. ⌜ r ≡ anyBelow accountCount (postedAccount (now (m .entry)) n) ⌝ }
 {
     let mut k: usize = 0;
     while k < Ledger::ACCOUNTS {

@@ -6,6 +6,7 @@ ghost use mathlib.Core.Path.{_≡_};
 ghost use Prim.Native.Nat.{_-_, _+_, _<_, _≤_};
 ghost use lib.ListN.{length};
 ghost use Rattle.payload.specs.Transfer.{readingOf};
+ghost use Rattle.ledger.specs.Accounts.{numberCount};
 ghost use Rattle.session.specs.Session.{openOf, newSession, countedRest, readOf, readBuffer, tookOf, tookBuffer, takeOf, bufferOf, lostOf, closeOf, restOf, wholeOf, takenWith, reportedWith, closedWith};
 ghost use Rattle.session.specs.Refusals.{transferMost, takenMost, Ready, ledgerOf};
 use frames::Answer;
@@ -153,8 +154,8 @@ impl Session {
     }
 
     // The numbers of its ledger, without the frame under way.
-    pub fn numbers(self) -> [u64; 27]
-        ensures { λ r. ⌜ (r ≡ self .ledger .numbers) × (length r ≡ 27) ⌝ }
+    pub fn numbers(self) -> Numbers
+        ensures { λ r. ⌜ (r ≡ self .ledger .numbers) × (length r ≡ numberCount) ⌝ }
     {
         let l = self.ledger;
         l.numbers
@@ -229,7 +230,7 @@ impl Session {
 
 impl Rest {
     // The record, with its ledger's numbers.
-    pub fn whole(self, numbers: [u64; 27]) -> Session
+    pub fn whole(self, numbers: Numbers) -> Session
         ensures { λ r. ⌜ r ≡ wholeOf self numbers ⌝ }
     {
         let opening = self.opening;
@@ -322,7 +323,7 @@ impl Rest {
     // Inner: takes one transfer. A refused call changes no byte of the buffer and no number, and gives the rest back as it was.
     // What is required, here and below, the type of the numbers says.
     pub fn take(self, m: &mut Numbers, buffer: &mut [u8], t: &[u8]) -> RestTaken
-        requires { ⌜ length (now m) ≡ 27 ⌝ }
+        requires { ⌜ length (now m) ≡ numberCount ⌝ }
         ensures { λ r. ⌜ takenWith r (now (m .exit)) ≡ takeOf (wholeOf self (now (m .entry))) (length (now (buffer .entry))) (now (t .entry)) ⌝ }
         ensures { λ _. ⌜ now (buffer .exit) ≡ bufferOf (wholeOf self (now (m .entry))) (now (buffer .entry)) (now (t .entry)) ⌝ }
     {
@@ -339,7 +340,7 @@ impl Rest {
 
     // Inner: the host reports a lost transfer.
     pub fn lost(self, m: &mut Numbers) -> RestReported
-        requires { ⌜ length (now m) ≡ 27 ⌝ }
+        requires { ⌜ length (now m) ≡ numberCount ⌝ }
         ensures { λ r. ⌜ reportedWith r (now (m .exit)) ≡ lostOf (wholeOf self (now (m .entry))) ⌝ }
     {
         let posted = check::posted_broken(m, self.taken);
@@ -361,7 +362,7 @@ impl Rest {
 
     // Inner: ends a frame under way, and the session.
     pub fn close(self, m: &mut Numbers) -> RestClosed
-        requires { ⌜ length (now m) ≡ 27 ⌝ }
+        requires { ⌜ length (now m) ≡ numberCount ⌝ }
         ensures { λ r. ⌜ closedWith r (now (m .exit)) ≡ closeOf (wholeOf self (now (m .entry))) ⌝ }
     {
         let posted = check::posted_broken(m, self.taken);

@@ -15,7 +15,6 @@ use Rattle.session.specs.declared.Rest.{Rest}
 use Rattle.session.specs.Session.{restOf, wholeOf}
 use Rattle.books.specs.Calls.{refusal, next}
 use Rattle.books.specs.Demands.{offerWith}
-use Rattle.books.proofs.Posts.{Sized}
 use Rattle.books.proofs.Sized.{next-sized}
 use Rattle.trace.specs.Record.{recordBad, recordCall, recordsBy, recordsOf, endOf}
 use Rattle.trace.specs.Trace.{numberOf, offered, readBy, stepOf, stepBuffer, traced, tracedBuffer, goingWith, goodOf, goodWith, isDecided}
@@ -23,6 +22,8 @@ use Rattle.trace.specs.declared.State.{State}
 use Rattle.trace.specs.declared.State.the-variants.{Good, Bad, Refused}
 use Rattle.trace.specs.declared.Trace.{Trace}
 use Rattle.trace.specs.declared.Going.{Going}
+use Rattle.ledger.specs.Accounts.{numberCount}
+use Rattle.ledger.proofs.Places.{Sized}
 
 -- ---- the records of what is left
 enough : (j k : ℕ) (l : List ℕ) → length l ≤ j → length l ≤ k → recordsBy j l ≡ recordsBy k l
@@ -136,7 +137,7 @@ pub record Reading-on (t : Trace) (b l : List ℕ) (r : Rest) (m c : List ℕ) (
   pub trace : traced (goodWith r m) c (recordsOf (drop at l)) ≡ traced t b (recordsOf l)
   pub buffer : tracedBuffer (goodWith r m) c (recordsOf (drop at l)) ≡ tracedBuffer t b (recordsOf l)
   pub within : at ≤ length l
-  pub sized : length m ≡ 27
+  pub sized : length m ≡ numberCount
 
 good-state : (z : State) → isDecided z ≡ false → z ≡ Good
 good-state Good e = refl
@@ -167,7 +168,7 @@ module _ (t : Trace) (b l : List ℕ) where
   run-stays x e f = let q = not-good t (sym e ∙ f) (recordsOf l) b in (sym (q .0), sym (q .1))
 
   -- a good one begins at the first record
-  pub run-begins : (r : Rest) (m : List ℕ) → t ≡ goodWith r m → length m ≡ 27 → Reading-on t b l r m b 0
+  pub run-begins : (r : Rest) (m : List ℕ) → t ≡ goodWith r m → length m ≡ numberCount → Reading-on t b l r m b 0
   run-begins r m e z =
       record {
         trace = sym (ap (λ (y : Trace). traced y b (recordsOf l)) e);

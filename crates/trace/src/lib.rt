@@ -5,6 +5,7 @@ ghost use mathlib.Core.Path.{_≡_};
 ghost use Prim.Native.Nat.{_≤_};
 ghost use mathlib.Core.List.{[]};
 ghost use lib.ListN.{length};
+ghost use Rattle.ledger.specs.Accounts.{numberCount};
 ghost use Rattle.session.specs.Session.{wholeOf};
 ghost use Rattle.trace.specs.Record.{lengthAt, recordCall, recordsOf, endOf};
 ghost use Rattle.trace.specs.Trace.{newTrace, readCall, stepOf, stepBuffer, traced, tracedBuffer, goingWith, goodOf, goodWith, numberRest, answeredBy, isDecided, reportOf};
@@ -78,7 +79,7 @@ fn answered(k: u8, next: Rest) -> Going
 }
 
 fn transfer(s: Rest, m: &mut Numbers, buffer: &mut [u8], t: &[u8]) -> Going
-    requires { ⌜ length (now m) ≡ 27 ⌝ }
+    requires { ⌜ length (now m) ≡ numberCount ⌝ }
     ensures { λ r. ⌜ goingWith r (now (m .exit)) ≡ readCall (wholeOf s (now (m .entry))) (now (buffer .entry)) (Call.transfer (now (t .entry))) ⌝ }
     ensures { λ _. ⌜ now (buffer .exit) ≡ bufferNext (wholeOf s (now (m .entry))) (now (buffer .entry)) (Call.transfer (now (t .entry))) ⌝ }
 {
@@ -92,7 +93,7 @@ fn transfer(s: Rest, m: &mut Numbers, buffer: &mut [u8], t: &[u8]) -> Going
 }
 
 fn lost(s: Rest, m: &mut Numbers) -> Going
-    requires { ⌜ length (now m) ≡ 27 ⌝ }
+    requires { ⌜ length (now m) ≡ numberCount ⌝ }
     ensures { λ r. ⌜ goingWith r (now (m .exit)) ≡ readCall (wholeOf s (now (m .entry))) [] Call.lost ⌝ }
 {
     let reported = s.lost(m);
@@ -105,7 +106,7 @@ fn lost(s: Rest, m: &mut Numbers) -> Going
 }
 
 fn close(s: Rest, m: &mut Numbers) -> Going
-    requires { ⌜ length (now m) ≡ 27 ⌝ }
+    requires { ⌜ length (now m) ≡ numberCount ⌝ }
     ensures { λ r. ⌜ goingWith r (now (m .exit)) ≡ readCall (wholeOf s (now (m .entry))) [] Call.close ⌝ }
 {
     let closed = s.close(m);
@@ -119,7 +120,7 @@ fn close(s: Rest, m: &mut Numbers) -> Going
 
 // The call of a good record.
 fn call(s: Rest, m: &mut Numbers, buffer: &mut [u8], r: &[u8]) -> Going
-    requires { ⌜ (length (now r) ≡ 64) × (lengthAt (now r) ≤ 62) × (length (now m) ≡ 27) ⌝ }
+    requires { ⌜ (length (now r) ≡ 64) × (lengthAt (now r) ≤ 62) × (length (now m) ≡ numberCount) ⌝ }
     ensures { λ x. ⌜ goingWith x (now (m .exit)) ≡ readCall (wholeOf s (now (m .entry))) (now (buffer .entry)) (recordCall (now (r .entry))) ⌝ }
     ensures { λ _. ⌜ now (buffer .exit) ≡ bufferNext (wholeOf s (now (m .entry))) (now (buffer .entry)) (recordCall (now (r .entry))) ⌝ }
 {
@@ -136,7 +137,7 @@ fn call(s: Rest, m: &mut Numbers, buffer: &mut [u8], r: &[u8]) -> Going
 
 // One record more of a good trace. A bad record decides.
 fn step(s: Rest, m: &mut Numbers, buffer: &mut [u8], r: &[u8]) -> Going
-    requires { ⌜ length (now m) ≡ 27 ⌝ }
+    requires { ⌜ length (now m) ≡ numberCount ⌝ }
     ensures { λ x. ⌜ goingWith x (now (m .exit)) ≡ stepOf (goodWith s (now (m .entry))) (now (buffer .entry)) (now (r .entry)) ⌝ }
     ensures { λ _. ⌜ now (buffer .exit) ≡ stepBuffer (goodWith s (now (m .entry))) (now (buffer .entry)) (now (r .entry)) ⌝ }
 {

@@ -1,13 +1,14 @@
+use Rattle.ledger.specs.Accounts.{numberCount}
 use Prim.Native.Nat.{_≤_, _-_}
 use borrow.Author.Needs.{needs}
 use Rattle.answers.proofs.calls.ledger.Statement.{statement}
 use Rattle.answers.proofs.calls.ledger.Tie as tie
 
 abbrev Inv-loop : tie.InvT-loop
-Inv-loop l i₀ i = i ≤ 27
+Inv-loop l i₀ i = i ≤ numberCount
 
 abbrev μ-loop : tie.MeasureT-loop
-μ-loop l i₀ i = 27 - i
+μ-loop l i₀ i = numberCount - i
 
 slice-aggregate-text : tie.Need-slice-aggregate-text Inv-loop μ-loop
 slice-aggregate-text c = search needs

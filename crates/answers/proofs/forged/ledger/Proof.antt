@@ -1,13 +1,14 @@
+use Rattle.ledger.specs.Accounts.{numberCount}
 use Prim.Native.Nat.{_≤_, _-_}
 use borrow.Author.Needs.{needs}
 use Rattle.answers.proofs.forged.ledger.Statement.{statement}
 use Rattle.answers.proofs.forged.ledger.Tie as tie
 
 abbrev Inv-loop : tie.InvT-loop
-Inv-loop numbers₀ i₀ numbers i = i ≤ 27
+Inv-loop numbers₀ i₀ numbers i = i ≤ numberCount
 
 abbrev μ-loop : tie.MeasureT-loop
-μ-loop numbers₀ i₀ numbers i = 27 - i
+μ-loop numbers₀ i₀ numbers i = numberCount - i
 
 loop-holds : tie.Need-loop-holds Inv-loop μ-loop
 loop-holds c = search needs

@@ -1,7 +1,7 @@
-use Rattle.ledger.specs.Ledger.{accountFor}
 use Rattle.ledger.proofs.Rooms.{entering, not-under-way}
 use borrow.Author.Needs.{needs}
 use Rattle.ledger.proofs.Ledger.ended.Statement.{statement}
+use Rattle.ledger.specs.Accounts.{accountFor}
 use Rattle.ledger.proofs.Ledger.ended.Tie as tie
 
 enum-told : tie.Need-enum-told

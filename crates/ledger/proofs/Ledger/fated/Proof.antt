@@ -1,5 +1,5 @@
 use Rattle.ledger.specs.declared.Account.{Account}
-use Rattle.ledger.specs.Ledger.{accountFor}
+use Rattle.ledger.specs.Accounts.{accountFor, idleAt}
 use Rattle.ledger.proofs.Lent.{fated-idle, fated-kept, fated-stray, fated-delivered, fated-dropped, fated-unreadable}
 use Rattle.ledger.proofs.Rooms.{adding, entering, not-under-way, room-entered}
 use native.Mathlib.Omega.{arith}
@@ -11,7 +11,7 @@ enum-told : tie.Need-enum-told
 enum-told c = search needs
 
 plus-requires : tie.Need-plus-requires
-plus-requires c κs = adding _ _ 23 1 (c .before .before .before .pre .0) (omega arith) (omega arith) (omega arith)
+plus-requires c κs = adding _ _ idleAt 1 (c .before .before .before .pre .0) (omega arith) (omega arith) (omega arith)
 
 enum-told-2 : tie.Need-enum-told-2
 enum-told-2 c = search needs

@@ -9,14 +9,23 @@ under-count-requires c κs = search needs
 under-bytes-requires : tie.Need-under-bytes-requires
 under-bytes-requires c κs = search needs
 
+mul-self : tie.Need-mul-self
+mul-self c = search needs
+
+mul-self-2 : tie.Need-mul-self-2
+mul-self-2 c = search needs
+
 element-write-self : tie.Need-element-write-self
 element-write-self c = search needs
+
+mul-self-3 : tie.Need-mul-self-3
+mul-self-3 c = search needs
 
 add-self : tie.Need-add-self
 add-self c = search needs
 
-mul-self : tie.Need-mul-self
-mul-self c = search needs
+mul-self-4 : tie.Need-mul-self-4
+mul-self-4 c = search needs
 
 element-write-self-2 : tie.Need-element-write-self-2
 element-write-self-2 c = search needs
@@ -31,8 +40,11 @@ shown-spec =
     (tie.spec
     under-count-requires
     under-bytes-requires
-    element-write-self
-    add-self
     mul-self
+    mul-self-2
+    element-write-self
+    mul-self-3
+    add-self
+    mul-self-4
     element-write-self-2
     returns)

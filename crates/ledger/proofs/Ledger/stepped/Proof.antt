@@ -1,3 +1,4 @@
+use Rattle.ledger.specs.Accounts.{ticksAt, backwardAt}
 use Rattle.ledger.proofs.Rooms.{adding}
 use native.Mathlib.Omega.{arith}
 use borrow.Author.Needs.{needs}
@@ -11,13 +12,13 @@ cast-plus : tie.Need-cast-plus
 cast-plus c = search needs
 
 plus-requires : tie.Need-plus-requires
-plus-requires c κs = adding _ _ 24 _ (c .before .before .before .before .pre) (omega arith) (omega arith) (omega arith)
+plus-requires c κs = adding _ _ ticksAt _ (c .before .before .before .before .pre) (omega arith) (omega arith) (omega arith)
 
 enum-told : tie.Need-enum-told
 enum-told c = search needs
 
 plus-requires-2 : tie.Need-plus-requires-2
-plus-requires-2 c κs = adding _ _ 25 1 (c .before .before .before .pre) (omega arith) (omega arith) (omega arith)
+plus-requires-2 c κs = adding _ _ backwardAt 1 (c .before .before .before .pre) (omega arith) (omega arith) (omega arith)
 
 returns : tie.Need-returns
 returns c = simp (c .plus .ensures, c .before .before .before .s .given .1)

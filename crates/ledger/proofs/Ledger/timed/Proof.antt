@@ -1,3 +1,4 @@
+use Rattle.ledger.specs.Accounts.{untimedAt}
 use Rattle.ledger.specs.Ledger.{timedOf}
 use Rattle.ledger.proofs.Lent.{with-stepped, timed-none}
 use Rattle.ledger.proofs.Rooms.{adding}
@@ -10,7 +11,7 @@ enum-told : tie.Need-enum-told
 enum-told c = search needs
 
 plus-requires : tie.Need-plus-requires
-plus-requires c κs = adding _ _ 26 1 (c .before .before .before .pre) (omega arith) (omega arith) (omega arith)
+plus-requires c κs = adding _ _ untimedAt 1 (c .before .before .before .pre) (omega arith) (omega arith) (omega arith)
 
 enum-known-s : tie.Need-enum-known-s
 enum-known-s c = search needs

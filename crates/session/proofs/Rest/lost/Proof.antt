@@ -1,5 +1,6 @@
 use denote.Ref.{now}
 use native.Mathlib.Omega.{arith}
+use Rattle.ledger.specs.Accounts.{lostAt}
 use Rattle.ledger.proofs.Rooms.{adding}
 use Rattle.session.specs.Session.{wholeOf}
 use Rattle.session.proofs.Parts.{lost-found}
@@ -25,7 +26,7 @@ plus-requires c κs =
     let s = c .before .before .before .before .before .before in
     let r = wholeOf (s .args .self) (now (s .args .m)) in
     let e = lost-found (s .args .self) (now (s .args .m)) (search needs) _ (c .before .before .before .before .posted-broken .ensures) _ (c .before .before .before .lost-refusal .ensures) in
-    adding _ _ 22 1 (ready-able r (lost-ready r (search needs) (search needs) _ e (omega arith)) .room) (omega arith) (omega arith) (omega arith)
+    adding _ _ lostAt 1 (ready-able r (lost-ready r (search needs) (search needs) _ e (omega arith)) .room) (omega arith) (omega arith) (omega arith)
 
 spoilt-requires : tie.Need-spoilt-requires
 spoilt-requires c κs = search needs

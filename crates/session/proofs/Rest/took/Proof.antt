@@ -1,6 +1,7 @@
 use mathlib.Core.List.{[]}
 use denote.Ref.{now}
 use Rattle.ledger.specs.declared.Account.{Account}
+use Rattle.ledger.specs.Accounts.{idleAt}
 use Rattle.ledger.proofs.Rooms.{room-up, entering, adding}
 use Rattle.session.specs.Session.{wholeOf}
 use Rattle.session.proofs.Calls.{took-idle, took-unreadable, took-readable, header-within}
@@ -20,7 +21,7 @@ plus-requires : tie.Need-plus-requires
 plus-requires c κs =
     let s = c .before .before .before .before .before .before .before .before in
     let r = wholeOf (s .args .self) (now (s .args .m)) in
-    adding _ _ 23 1 (ready-able r (s .pre .0) .room) (omega arith) (omega arith) (omega arith)
+    adding _ _ idleAt 1 (ready-able r (s .pre .0) .room) (omega arith) (omega arith) (omega arith)
 
 counted-requires : tie.Need-counted-requires
 counted-requires c κs = search needs

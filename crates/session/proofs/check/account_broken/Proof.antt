@@ -3,11 +3,11 @@ use borrow.Author.Needs.{needs}
 use Rattle.session.proofs.check.account_broken.Statement.{statement}
 use Rattle.session.proofs.check.account_broken.Tie as tie
 
-mul-at : tie.Need-mul-at
-mul-at c = search needs
-
 returns : tie.Need-returns
 returns c = search account-under
+
+mul-at : tie.Need-mul-at
+mul-at c = search needs
 
 mul-if2 : tie.Need-mul-if2
 mul-if2 c = search needs
@@ -37,8 +37,8 @@ pub account-broken-spec : {M : Type 1} → statement M
 account-broken-spec =
     tie.close
     (tie.spec
-    mul-at
     returns
+    mul-at
     mul-if2
     element-copy-out-if2
     returns-2
