@@ -12,6 +12,7 @@ use session::Closing;
 use session::Outcome;
 use session::Report;
 use session::Session;
+use sizes::Opening;
 use session::Start;
 
 // The session after a call, and whether the call was read.
@@ -33,7 +34,7 @@ pub fn run() -> bool {
 }
 
 fn listed(frame: usize, payload: usize, buffer: &mut [u8]) -> bool {
-    let opened = Session::open(frame, payload, buffer);
+    let opened = Session::open(Opening { frame, payload }, buffer);
     let start = opened.start;
     let session = opened.session;
     started(start);

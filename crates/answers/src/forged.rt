@@ -11,11 +11,13 @@ use frames::Reason;
 use frames::Run;
 use frames::Track;
 use ledger::Ledger;
-use payload::Opening;
+use ledger::Numbers;
+use sizes::Opening;
 use payload::Stamp;
 use session::Closing;
 use session::Outcome;
 use session::Report;
+use session::Rest;
 use session::Session;
 
 pub fn run() -> bool {
@@ -45,13 +47,17 @@ fn record() -> Session {
     let taken = input::word();
     let phase = phase();
     let gap = input::flag();
-    let ledger = ledger();
+    let numbers = numbers();
+    let last = stamp();
     Session {
-        opening: Opening { frame, payload },
-        closed,
-        taken,
-        track: Track { phase, gap },
-        ledger,
+        rest: Rest {
+            opening: Opening { frame, payload },
+            closed,
+            taken,
+            track: Track { phase, gap },
+            last,
+        },
+        numbers,
     }
 }
 
@@ -97,15 +103,14 @@ fn stamp() -> Stamp {
     if there { Stamp::At(n) } else { Stamp::Absent }
 }
 
-fn ledger() -> Ledger {
+fn numbers() -> Numbers {
     let mut numbers = [0u64; Ledger::NUMBERS];
     let mut i: usize = 0;
     while i < Ledger::NUMBERS {
         numbers[i] = input::long();
         i += 1;
     }
-    let last = stamp();
-    Ledger { numbers, last }
+    numbers
 }
 
 fn take(s: Session, buffer: &mut [u8], transfer: &[u8]) {

@@ -1,6 +1,6 @@
 -- Each number of the ledger that a session shows is the rule's.
 use Prim.Native.Nat.{ℕ, zero, suc, _+_, _-_, _*_, _≤_, _<_}
-use mathlib.Core.Path.{_≡_, refl, sym, _∙_, ap}
+use mathlib.Core.Path.{_≡_, refl, sym, _∙_, ap, subst}
 use mathlib.Core.Bool.{Bool, true, false, cond, true≢false}
 use mathlib.Core.List.{List, [], _∷_, _++_, map, append-nil}
 use mathlib.Core.Logic.{⊎-elim}
@@ -10,7 +10,7 @@ use lib.ListN.{length, drop, getD, set, replicate, length-set, getD-replicate}
 use lib.Seq.{getD-set-same, getD-set-other}
 use lib.Dec.{eqb, lit<}
 use borrow.Author.Tests.{eq-eqb, ne-eqb, eqb-true, eqb-false}
-use Rattle.payload.specs.declared.Opening.{Opening}
+use Rattle.sizes.specs.declared.Opening.{Opening}
 use Rattle.payload.specs.declared.Stamp.{Stamp}
 use Rattle.payload.specs.declared.Stamp.the-variants.{Absent, At}
 use Rattle.payload.specs.declared.Reading.{Reading}
@@ -24,16 +24,15 @@ use Rattle.frames.specs.declared.Ended.{Ended}
 use Rattle.frames.specs.declared.Ended.the-variants.{Nothing, Frame}
 use Rattle.frames.specs.declared.Fate.{Fate}
 use Rattle.frames.specs.declared.Turn.{Turn}
-use Rattle.frames.specs.Track.{underCount, underBytes, turnOf, closedOf}
+use Rattle.frames.specs.Track.{underCount, underBytes}
 use Rattle.ledger.specs.declared.Account.{Account}
 use Rattle.ledger.specs.Entry.{Entry}
 use Rattle.ledger.specs.declared.Ledger.{Ledger}
 use Rattle.ledger.specs.Ledger.{noLedger, shownOf}
 use Rattle.session.specs.declared.Session.{Session}
-use Rattle.session.specs.Refusals.{ledgerOf}
+use Rattle.session.specs.Refusals.{postedOf, ledgerOf}
 use Rattle.session.specs.Session.{fresh}
-use Rattle.books.specs.Rule.{Call, Event, idle, unreadable, missing, readable, events, isOpen, Item, entryOf, framesBy, loose, entries, lostLine, idleLine, lineOf, bytesIn, oneIn, partIn, total, stampsOf, stamps, noStamp, untimed, forward, back, between}
-use Rattle.books.specs.Calls.{nextCall, run}
+use Rattle.books.specs.Rule.{Event, idle, unreadable, missing, readable, events, isOpen, Item, entryOf, framesBy, loose, entries, lostLine, idleLine, lineOf, bytesIn, oneIn, partIn, total, stampsOf, stamps, noStamp, untimed, forward, back, between}
 use Rattle.books.specs.Demands.{Right, endedItems, fateItems}
 use Rattle.books.proofs.Made.{base, turnItems}
 use Rattle.books.proofs.Posts.{posts, posts-sized, since, stampIn, gain, place-law, step-law, count-gain, bytes-gain, single-gain, total-append}
@@ -42,6 +41,9 @@ use Rattle.books.proofs.History.{itemsBy, callItems, dataNext, items, d
 use Rattle.ledger.specs.Accounts.{accountCount, numberCount, underAt, accountFor, placeOf, countAt, bytesAt, lostAt, idleAt, ticksAt, backwardAt, untimedAt}
 use Rattle.ledger.proofs.Places.{at, Sized, place-lt, shown-other, shown-single, shown-count, shown-bytes}
 use Rattle.ledger.proofs.Rooms.{not-under-way}
+use Rattle.frames.specs.Inner.{turnOf, closedOf}
+use Rattle.session.specs.Call.{Call}
+use Rattle.session.specs.Calls.{nextCall, run}
 
 -- ---- a measure that is nothing but of a frame under way
 abbrev Settled : Entry → Type 0
@@ -75,14 +77,14 @@ module _ (m : Entry → ℕ) (none : (e : Entry) → Settled e → m e ≡ 0) wh
       both-none (endedItems (t .answer .ended) (t .gone) D) (fateItems (t .answer .fate) (t .bytes) E) (ended-none (t .answer .ended) (t .gone) D) (fate-none (t .answer .fate) (t .bytes) E)
 
   call-none : (s : Session) (D : List ℕ) (c : Call) → total m (map entryOf (callItems s D c)) ≡ 0
-  call-none s D (Call.transfer t) = go (readingOf (s .opening) t)
+  call-none s D (Call.transfer t) = go (readingOf (s .rest .opening) t)
     where
       go : (r : Reading) → total m (map entryOf (itemsBy r s D t)) ≡ 0
       go Idle = refl
       go (Unreadable k) = refl
-      go (Readable h) = turn-none (turnOf (s .opening) (s .track) h (length t - h .len)) D (base (s .track .phase) (h .fid) D ++ drop (h .len) t)
+      go (Readable h) = turn-none (turnOf (s .rest .opening) (s .rest .track) h (length t - h .len)) D (base (s .rest .track .phase) (h .fid) D ++ drop (h .len) t)
   call-none s D Call.lost = refl
-  call-none s D Call.close = ended-none (closedOf (s .track) .ended) (closedOf (s .track) .gone) D
+  call-none s D Call.close = ended-none (closedOf (s .rest .track) .ended) (closedOf (s .rest .track) .gone) D
 
   items-none : (cs : List Call) (s : Session) (D : List ℕ) → total m (map entryOf (items s D cs)) ≡ 0
   items-none [] s D = refl
@@ -104,7 +106,7 @@ module _ (o : Opening) (cs : List Call) (p : Proper cs) where
   made = items (fresh o) [] cs
 
   abbrev way : List Item
-  way = afoot (end .track .phase) (dataRun (fresh o) [] cs)
+  way = afoot (end .rest .track .phase) (dataRun (fresh o) [] cs)
 
   pub frames-made : framesBy o cs ≡ made ++ way
   frames-made = items-right cs (fresh o) [] p tt
@@ -114,11 +116,11 @@ module _ (o : Opening) (cs : List Call) (p : Proper cs) where
       total-append m (map entryOf (framesBy o cs)) (loose (events o cs))
       ∙ ap (_+ total m (loose (events o cs))) (ap (λ (x : List Item). total m (map entryOf x)) frames-made ∙ ap (total m) (map-append made way) ∙ total-append m (map entryOf made) (map entryOf way))
 
-  pub end-sized : Sized (end .ledger)
-  end-sized = rw (run-posts cs (fresh o) []) (posts-sized noLedger (posted (fresh o) [] cs) refl)
+  pub end-sized : Sized (postedOf end)
+  end-sized = subst Sized (sym (run-posts cs (fresh o) [])) (posts-sized noLedger (posted (fresh o) [] cs) refl)
 
   -- a place where each entry gains by itself
-  place-end : (q : ℕ) (m : Entry → ℕ) → q < numberCount → ((a : Stamp) (e : Entry) → gain q a e ≡ m e) → at q (end .ledger) ≡ total m (map entryOf made) + total m (loose (events o cs))
+  place-end : (q : ℕ) (m : Entry → ℕ) → q < numberCount → ((a : Stamp) (e : Entry) → gain q a e ≡ m e) → at q (postedOf end) ≡ total m (map entryOf made) + total m (loose (events o cs))
   place-end q m h g =
       ap (at q) (run-posts cs (fresh o) [])
       ∙ place-law q m g noLedger (posted (fresh o) [] cs) refl
@@ -130,9 +132,9 @@ module _ (o : Opening) (cs : List Call) (p : Proper cs) where
   shown-place : (q : ℕ) (m : Entry → ℕ) → q < numberCount → (q ≡ countAt underAt → ⊥) → (q ≡ bytesAt underAt → ⊥) → ((a : Stamp) (e : Entry) → gain q a e ≡ m e) → ((n : ℕ) → m (Entry.UnderWay n) ≡ 0)
       → at q (ledgerOf end) ≡ total m (entries o cs)
   shown-place q m h a b g z =
-      shown-other (end .ledger) (end .track .phase) q a b
+      shown-other (postedOf end) (end .rest .track .phase) q a b
       ∙ place-end q m h g
-      ∙ sym (entries-total m ∙ ap (λ (x : ℕ). total m (map entryOf made) + x + total m (loose (events o cs))) (none (end .track .phase) (dataRun (fresh o) [] cs)) ∙ ap (_+ total m (loose (events o cs))) (add-zero _))
+      ∙ sym (entries-total m ∙ ap (λ (x : ℕ). total m (map entryOf made) + x + total m (loose (events o cs))) (none (end .rest .track .phase) (dataRun (fresh o) [] cs)) ∙ ap (_+ total m (loose (events o cs))) (add-zero _))
     where
       none : (ph : Phase) (D : List ℕ) → total m (map entryOf (afoot ph D)) ≡ 0
       none Fresh D = refl
@@ -180,8 +182,8 @@ module _ (o : Opening) (cs : List Call) (p : Proper cs) (k : ℕ) (h : k < accou
     where
       go : (b : Bool) → eqb underAt k ≡ b → at (countAt k) (ledgerOf (end o cs p)) ≡ total (oneIn k) (entries o cs)
       go true q =
-          rw (← eqb-true underAt k q) (shown-count (end o cs p .ledger) (end o cs p .track .phase) (end-sized o cs p)
-          ∙ shown-way o cs p (oneIn underAt) _ one-settled (counts-way o cs p (end o cs p .track .phase) (dataRun (fresh o) [] cs)))
+          rw (← eqb-true underAt k q) (shown-count (postedOf (end o cs p)) (end o cs p .rest .track .phase) (end-sized o cs p)
+          ∙ shown-way o cs p (oneIn underAt) _ one-settled (counts-way o cs p (end o cs p .rest .track .phase) (dataRun (fresh o) [] cs)))
       go false q =
           shown-place o cs p (countAt k) (oneIn k) (omega arith) (λ z. eqb-false underAt k q (omega arith)) (λ z. omega arith) (count-gain k h) (λ n. rw q)
 
@@ -190,8 +192,8 @@ module _ (o : Opening) (cs : List Call) (p : Proper cs) (k : ℕ) (h : k < accou
     where
       go : (b : Bool) → eqb underAt k ≡ b → at (bytesAt k) (ledgerOf (end o cs p)) ≡ total (partIn k) (entries o cs)
       go true q =
-          rw (← eqb-true underAt k q) (shown-bytes (end o cs p .ledger) (end o cs p .track .phase) (end-sized o cs p)
-          ∙ shown-way o cs p (partIn underAt) _ part-settled (bytes-way o cs p (end o cs p .track .phase) (dataRun (fresh o) [] cs)))
+          rw (← eqb-true underAt k q) (shown-bytes (postedOf (end o cs p)) (end o cs p .rest .track .phase) (end-sized o cs p)
+          ∙ shown-way o cs p (partIn underAt) _ part-settled (bytes-way o cs p (end o cs p .rest .track .phase) (dataRun (fresh o) [] cs)))
       go false q =
           shown-place o cs p (bytesAt k) (partIn k) (omega arith) (λ z. omega arith) (λ z. eqb-false underAt k q (omega arith)) (bytes-gain k h) (λ n. rw q)
 
@@ -235,12 +237,12 @@ module _ (o : Opening) (cs : List Call) (p : Proper cs) where
       ∙ ap (λ (x : List Item). stamps (map entryOf x)) (frames-made o cs p)
       ∙ ap stamps (map-append (made o cs p) (way o cs p))
       ∙ stamps-append (map entryOf (made o cs p)) (map entryOf (way o cs p))
-      ∙ ap (stamps (map entryOf (made o cs p)) ++_) (afoot-stamped (end o cs p .track .phase) (dataRun (fresh o) [] cs))
+      ∙ ap (stamps (map entryOf (made o cs p)) ++_) (afoot-stamped (end o cs p .rest .track .phase) (dataRun (fresh o) [] cs))
       ∙ append-nil _
 
   step-right : (q : ℕ) (f : ℕ → ℕ → ℕ) → q < numberCount → lostAt ≤ q → ((a : Stamp) (e : Entry) → gain q a e ≡ since f a (stampIn e)) → at q (ledgerOf (end o cs p)) ≡ between f (stamps (entries o cs))
   step-right q f h u g =
-      shown-single (end o cs p .ledger) (end o cs p .track .phase) q u
+      shown-single (postedOf (end o cs p)) (end o cs p .rest .track .phase) q u
       ∙ ap (at q) (run-posts cs (fresh o) [])
       ∙ step-law q f g noLedger (posted (fresh o) [] cs) refl
       ∙ ap (_+ between f (stamps (posted (fresh o) [] cs))) (getD-replicate numberCount q 0 0 h)

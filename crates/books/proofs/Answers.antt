@@ -6,7 +6,7 @@ use mathlib.Core.List.{List, [], _∷_, _++_, append-assoc, append-nil}
 use native.Mathlib.Omega.{arith}
 use lib.ListN.{length}
 use Rattle.rules.specs.Numbered.{firstRow}
-use Rattle.payload.specs.declared.Opening.{Opening}
+use Rattle.sizes.specs.declared.Opening.{Opening}
 use Rattle.payload.specs.declared.Header.{Header}
 use Rattle.payload.specs.declared.Reading.{Reading}
 use Rattle.payload.specs.declared.Reading.the-variants.{Idle, Unreadable, Readable}
@@ -17,21 +17,22 @@ use Rattle.frames.specs.declared.Ended.{Ended}
 use Rattle.frames.specs.declared.Fate.{Fate}
 use Rattle.frames.specs.declared.Answer.{Answer}
 use Rattle.frames.specs.declared.Turn.{Turn}
-use Rattle.frames.specs.Track.{turnOf, closedOf}
 use Rattle.session.specs.declared.Session.{Session}
 use Rattle.session.specs.declared.Outcome.{Outcome}
 use Rattle.session.specs.declared.Report.{Report}
 use Rattle.session.specs.declared.Closing.{Closing}
 use Rattle.session.specs.Refusals.{takeRows, lostRows, closeRows}
 use Rattle.session.specs.Session.{fresh, plainly, readOf, tookBy, tookOf, takeBy, takeOf, lostBy, lostOf, closeBy, closeOf, shutOf}
-use Rattle.books.specs.Rule.{Call, Item, framesBy}
-use Rattle.books.specs.Calls.{Offer, refusal, next, after, callOf, unless, taken, nextCall, run}
+use Rattle.books.specs.Rule.{Item, framesBy}
 use Rattle.books.specs.Demands.{endedItems, fateItems, UnderWay, Gains, Says}
 use Rattle.books.specs.Demands
 use Rattle.books.proofs.Made.{base, turnItems}
 use Rattle.books.proofs.Taken.{after-run, taken-proper, Proper}
 use Rattle.books.proofs.History.{itemsBy, dataBy, callItems, dataNext, items, dataRun, afoot}
 use Rattle.books.proofs.Accounts.{frames-made}
+use Rattle.frames.specs.Inner.{turnOf, closedOf}
+use Rattle.session.specs.Call.{Call}
+use Rattle.session.specs.Calls.{Offer, refusal, next, after, callOf, unless, taken, nextCall, run}
 
 -- ---- one call more
 abbrev pub and : List Call → Call → List Call
@@ -81,29 +82,29 @@ module _ (o : Opening) (xs : List Offer) (x : Offer) (ok : refusal (after (fresh
   more-proper = subst Proper (taken-more xs x (fresh o) ∙ ap (λ (k : ℕ). heard ++ unless k (callOf x) []) ok) (taken-proper (fresh o) (xs ++ (x ∷ [])))
 
   -- what the rule has after the call
-  pub frames-more : framesBy o (and heard (callOf x)) ≡ (items (fresh o) [] heard ++ callItems here data₀ (callOf x)) ++ afoot (nextCall here (callOf x) .track .phase) (dataNext here data₀ (callOf x))
+  pub frames-more : framesBy o (and heard (callOf x)) ≡ (items (fresh o) [] heard ++ callItems here data₀ (callOf x)) ++ afoot (nextCall here (callOf x) .rest .track .phase) (dataNext here data₀ (callOf x))
   frames-more =
       frames-made o (and heard (callOf x)) more-proper
-      ∙ ap (λ (l : List Item). l ++ afoot (run (fresh o) (and heard (callOf x)) .track .phase) (dataRun (fresh o) [] (and heard (callOf x)))) (items-more heard (callOf x) (fresh o) [])
-      ∙ ap (λ (s : Session). (items (fresh o) [] heard ++ callItems here data₀ (callOf x)) ++ afoot (s .track .phase) (dataRun (fresh o) [] (and heard (callOf x)))) (run-more heard (callOf x) (fresh o))
-      ∙ ap (λ (d : List ℕ). (items (fresh o) [] heard ++ callItems here data₀ (callOf x)) ++ afoot (nextCall here (callOf x) .track .phase) d) (data-more heard (callOf x) (fresh o) [])
+      ∙ ap (λ (l : List Item). l ++ afoot (run (fresh o) (and heard (callOf x)) .rest .track .phase) (dataRun (fresh o) [] (and heard (callOf x)))) (items-more heard (callOf x) (fresh o) [])
+      ∙ ap (λ (s : Session). (items (fresh o) [] heard ++ callItems here data₀ (callOf x)) ++ afoot (s .rest .track .phase) (dataRun (fresh o) [] (and heard (callOf x)))) (run-more heard (callOf x) (fresh o))
+      ∙ ap (λ (d : List ℕ). (items (fresh o) [] heard ++ callItems here data₀ (callOf x)) ++ afoot (nextCall here (callOf x) .rest .track .phase) d) (data-more heard (callOf x) (fresh o) [])
 
   gained : (says : List Item) → callItems here data₀ (callOf x) ≡ says → Gains o heard (callOf x) says
   gained says e = record {
     settled = items (fresh o) [] heard;
-    was = afoot (here .track .phase) data₀;
-    is = afoot (nextCall here (callOf x) .track .phase) (dataNext here data₀ (callOf x));
+    was = afoot (here .rest .track .phase) data₀;
+    is = afoot (nextCall here (callOf x) .rest .track .phase) (dataNext here data₀ (callOf x));
     before = frames-made o heard heard-proper;
-    now = frames-more ∙ ap (λ (l : List Item). (items (fresh o) [] heard ++ l) ++ afoot (nextCall here (callOf x) .track .phase) (dataNext here data₀ (callOf x))) e;
-    was-way = afoot-way (here .track .phase) data₀;
-    is-way = afoot-way (nextCall here (callOf x) .track .phase) (dataNext here data₀ (callOf x));
+    now = frames-more ∙ ap (λ (l : List Item). (items (fresh o) [] heard ++ l) ++ afoot (nextCall here (callOf x) .rest .track .phase) (dataNext here data₀ (callOf x))) e;
+    was-way = afoot-way (here .rest .track .phase) data₀;
+    is-way = afoot-way (nextCall here (callOf x) .rest .track .phase) (dataNext here data₀ (callOf x));
   }
 
 -- ---- the answer to a transfer
 abbrev pub answerBy : Reading → Session → List ℕ → Answer
 answerBy Idle s t = plainly Fate.Idle
 answerBy (Unreadable k) s t = plainly (Fate.Unreadable k)
-answerBy (Readable h) s t = turnOf (s .opening) (s .track) h (length t - h .len) .answer
+answerBy (Readable h) s t = turnOf (s .rest .opening) (s .rest .track) h (length t - h .len) .answer
 
 took-answer : (s : Session) (t : List ℕ) (r : Reading) → tookBy r s t .outcome ≡ Outcome.Taken (answerBy r s t)
 unfolding readOf
@@ -119,12 +120,12 @@ same-answer a b e = cc
 
 -- an answer says that the call was taken, and what became of the reading
 pub taken-answer : (s : Session) (b t : List ℕ) (a : Answer) → takeOf s (length b) t .outcome ≡ Outcome.Taken a
-    → (refusal s (Offer.take b t) ≡ 0) × (answerBy (readingOf (s .opening) t) s t ≡ a)
+    → (refusal s (Offer.take b t) ≡ 0) × (answerBy (readingOf (s .rest .opening) t) s t ≡ a)
 unfolding takeOf tookOf
 taken-answer s b t a e = go (firstRow (takeRows s (length b) (length t))) e
   where
-    go : (k : ℕ) → takeBy k s t .outcome ≡ Outcome.Taken a → (k ≡ 0) × (answerBy (readingOf (s .opening) t) s t ≡ a)
-    go zero q = (refl, same-answer _ _ (sym (took-answer s t (readingOf (s .opening) t)) ∙ q))
+    go : (k : ℕ) → takeBy k s t .outcome ≡ Outcome.Taken a → (k ≡ 0) × (answerBy (readingOf (s .rest .opening) t) s t ≡ a)
+    go zero q = (refl, same-answer _ _ (sym (took-answer s t (readingOf (s .rest .opening) t)) ∙ q))
     go (suc k) q = absurd (not-taken (suc k) a q)
 
 pub record Spoken (s : Session) (D t : List ℕ) (r : Reading) (a : Answer) : Type 0 where
@@ -138,7 +139,7 @@ spoken : (s : Session) (D t : List ℕ) (r : Reading) → Spoken s D t r (answer
 spoken s D t Idle = record { n = 0; m = 0; d = []; e = []; as-said = refl }
 spoken s D t (Unreadable k) = record { n = 0; m = 0; d = []; e = []; as-said = refl }
 spoken s D t (Readable h) =
-    let T : Turn = turnOf (s .opening) (s .track) h (length t - h .len) in
+    let T : Turn = turnOf (s .rest .opening) (s .rest .track) h (length t - h .len) in
     record { n = T .gone; m = T .bytes; d = D; e = dataBy (Readable h) s D t; as-said = refl }
 
 pub transfer-says : (o : Opening) (xs : List Offer) (b t : List ℕ) (a : Answer) → takeOf (after (fresh o) xs) (length b) t .outcome ≡ Outcome.Taken a → Says o (taken (fresh o) xs) (Call.transfer t) a
@@ -146,8 +147,8 @@ transfer-says o xs b t a e =
     let s : Session = run (fresh o) (taken (fresh o) xs) in
     let D : List ℕ = dataRun (fresh o) [] (taken (fresh o) xs) in
     let f = taken-answer (after (fresh o) xs) b t a e in
-    let g : answerBy (readingOf (s .opening) t) s t ≡ a = subst (λ (q : Session). answerBy (readingOf (q .opening) t) q t ≡ a) (after-run (fresh o) xs) (f .1) in
-    let w : Spoken s D t (readingOf (s .opening) t) a = subst (Spoken s D t (readingOf (s .opening) t)) g (spoken s D t (readingOf (s .opening) t)) in
+    let g : answerBy (readingOf (s .rest .opening) t) s t ≡ a = subst (λ (q : Session). answerBy (readingOf (q .rest .opening) t) q t ≡ a) (after-run (fresh o) xs) (f .1) in
+    let w : Spoken s D t (readingOf (s .rest .opening) t) a = subst (Spoken s D t (readingOf (s .rest .opening) t)) g (spoken s D t (readingOf (s .rest .opening) t)) in
     record { n = w .n; m = w .m; d = w .d; e = w .e; gains = gained o xs (Offer.take b t) (f .0) (endedItems (a .ended) (w .n) (w .d) ++ fateItems (a .fate) (w .m) (w .e)) (w .as-said) }
 
 -- ---- a lost report answers none
@@ -176,9 +177,9 @@ close-says o xs e q =
     let s : Session = run (fresh o) (taken (fresh o) xs) in
     let D : List ℕ = dataRun (fresh o) [] (taken (fresh o) xs) in
     let f = go (firstRow (closeRows (after (fresh o) xs))) q in
-    let g : closedOf (s .track) .ended ≡ e = subst (λ (r : Session). closedOf (r .track) .ended ≡ e) (after-run (fresh o) xs) (f .1) in
-    (closedOf (s .track) .gone, D, gained o xs Offer.close (f .0) (endedItems e (closedOf (s .track) .gone) D) (ap (λ (x : Ended). endedItems x (closedOf (s .track) .gone) D) g))
+    let g : closedOf (s .rest .track) .ended ≡ e = subst (λ (r : Session). closedOf (r .rest .track) .ended ≡ e) (after-run (fresh o) xs) (f .1) in
+    (closedOf (s .rest .track) .gone, D, gained o xs Offer.close (f .0) (endedItems e (closedOf (s .rest .track) .gone) D) (ap (λ (x : Ended). endedItems x (closedOf (s .rest .track) .gone) D) g))
   where
-    go : (k : ℕ) → closeBy k (after (fresh o) xs) .closing ≡ Closing.Closed e → (k ≡ 0) × (closedOf (after (fresh o) xs .track) .ended ≡ e)
+    go : (k : ℕ) → closeBy k (after (fresh o) xs) .closing ≡ Closing.Closed e → (k ≡ 0) × (closedOf (after (fresh o) xs .rest .track) .ended ≡ e)
     go zero r = (refl, same-end _ _ r)
     go (suc k) r = absurd (not-closed (suc k) e r)

@@ -10,7 +10,7 @@ use lib.Dec.{T, eqb, ltb, ltb→lt}
 use lib.ListN.{length, length-append, length-map}
 use borrow.Author.Tests.{ne-eqb}
 use Rattle.rules.proofs.Firsts.{lt-or-ge}
-use Rattle.payload.specs.declared.Opening.{Opening}
+use Rattle.sizes.specs.declared.Opening.{Opening}
 use Rattle.payload.specs.declared.Stamp.{Stamp}
 use Rattle.payload.specs.declared.Stamp.the-variants.{Absent, At}
 use Rattle.frames.specs.declared.Reason.{Reason}
@@ -20,12 +20,13 @@ use Rattle.frames.specs.declared.Fault.the-variants.{Sound, Bad}
 use Rattle.ledger.specs.declared.Account.{Account}
 use Rattle.ledger.specs.Accounts.{placeOf, accountFor}
 use Rattle.ledger.specs.Entry.{Entry}
-use Rattle.books.specs.Rule.{Call, Event, idle, unreadable, missing, readable, events, isOpen, Seen, readables, runs, frameOf, strayOf, complete, dataOf, firstStamp, fault, Item, verdict, settled, strays, judge, nothing, judged, framesOf, framesBy, loose, entryOf, entries, lineOf, bytesIn, oneIn, partIn, total, stampList, stampsOf, stamps, noStamp, untimed, step, forward, back, between, received}
+use Rattle.books.specs.Rule.{Event, idle, unreadable, missing, readable, events, isOpen, Seen, readables, runs, frameOf, strayOf, complete, dataOf, firstStamp, fault, Item, verdict, settled, strays, judge, nothing, judged, framesOf, framesBy, loose, entryOf, entries, lineOf, bytesIn, oneIn, partIn, total, stampList, stampsOf, stamps, noStamp, untimed, step, forward, back, between, received}
 use Rattle.books.proofs.Runs.{concat, runs-concat, Longest, runs-longest}
 use Rattle.books.proofs.Posts.{total-append}
 use Rattle.books.proofs.History.{map-append, stamps-append}
 use Rattle.books.proofs.Accounts.{loose-stamped}
 use Rattle.books.proofs.Received.{entries-bytes}
+use Rattle.session.specs.Call.{Call}
 
 total-le : (m l : Entry → ℕ) (xs : List Entry) → ((x : Entry) → m x ≤ l x) → total m xs ≤ total l xs
 total-le m l [] h = omega arith

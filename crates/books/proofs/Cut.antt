@@ -9,7 +9,7 @@ use lib.ListN.{length, length-append}
 use lib.Dec.{ltb, eqb}
 use borrow.Author.Tests.{eq-eqb}
 use Rattle.rules.specs.Pick.{pick}
-use Rattle.payload.specs.declared.Opening.{Opening}
+use Rattle.sizes.specs.declared.Opening.{Opening}
 use Rattle.payload.specs.declared.Header.{Header}
 use Rattle.payload.specs.declared.Stamp.{Stamp}
 use Rattle.payload.specs.declared.Stamp.the-variants.{Absent, At}
@@ -21,10 +21,10 @@ use Rattle.frames.specs.declared.Run.{Run}
 use Rattle.frames.specs.declared.Phase.{Phase}
 use Rattle.frames.specs.declared.Phase.the-variants.{Fresh, Under, Past}
 use Rattle.frames.specs.declared.Fate.{Fate}
-use Rattle.frames.specs.Track.{firstOf, clashOf, earlierOf, faultOf, joinedOf, completeOf, fateOf, phaseOf}
 use Rattle.ledger.specs.Entry.{Entry}
 use Rattle.books.specs.Rule.{Seen, same, ahead, runs, frameOf, strayOf, complete, dataOf, _orStamp_, firstStamp, _or_, when, differs, faultAt, gapAfter, faultFrom, Item, verdict, settled, strays, judge, nothing, judged}
 use Rattle.books.specs.Demands.{fateItems}
+use Rattle.frames.specs.Inner.{firstOf, clashOf, earlierOf, faultOf, joinedOf, completeOf, fateOf, phaseOf}
 
 abbrev pub first : Bool → List Seen → List Seen
 first f [] = []

@@ -7,7 +7,7 @@ use native.Mathlib.Nat.{add-zero, zero-add}
 use native.Mathlib.Omega.{arith}
 use lib.ListN.{length, drop, length-drop}
 use Rattle.rules.specs.Pick.{pick}
-use Rattle.payload.specs.declared.Opening.{Opening}
+use Rattle.sizes.specs.declared.Opening.{Opening}
 use Rattle.payload.specs.declared.Header.{Header}
 use Rattle.payload.specs.declared.Reading.{Reading}
 use Rattle.payload.specs.declared.Reading.the-variants.{Idle, Unreadable, Readable}
@@ -22,40 +22,42 @@ use Rattle.frames.specs.declared.Ended.the-variants.{Nothing, Frame}
 use Rattle.frames.specs.declared.Fate.{Fate}
 use Rattle.frames.specs.declared.Answer.{Answer}
 use Rattle.frames.specs.declared.Turn.{Turn}
-use Rattle.frames.specs.Track.{sameOf, begunOf, joinTurn, strayTurn, turnBy, turnOf, spoiltBy, spoiltOf, closedBy, closedOf, whyOf}
 use Rattle.ledger.specs.Entry.{Entry}
 use Rattle.ledger.specs.declared.Ledger.{Ledger}
 use Rattle.ledger.specs.Ledger.{postOf, endedOf, fatedOf, answeredOf}
 use Rattle.session.specs.declared.Session.{Session}
+use Rattle.session.specs.Refusals.{postedOf}
 use Rattle.session.specs.Session.{readOf, tookBy, tookOf, missedOf, shutOf}
-use Rattle.books.specs.Rule.{Call, Event, idle, unreadable, missing, readable, eventBy, events, isOpen, _or_, Item, entryOf, loose, total, stamps, stampsOf}
-use Rattle.books.specs.Calls.{nextCall, run}
+use Rattle.books.specs.Rule.{Event, idle, unreadable, missing, readable, eventBy, events, isOpen, _or_, Item, entryOf, loose, total, stamps, stampsOf}
 use Rattle.books.specs.Demands.{endedItems, fateItems}
 use Rattle.books.proofs.Made.{base, turnItems, Framed, turn-framed}
 use Rattle.books.proofs.Cut.{cont}
 use Rattle.books.proofs.Owed.{owed, Holds, read-law, idle-law, spoil-law, unread-law, spoil-holds, read-holds}
 use Rattle.books.proofs.Posts.{posts, posts-append, total-append}
 use Rattle.books.proofs.Taken.{Last, Proper}
+use Rattle.frames.specs.Inner.{sameOf, begunOf, joinTurn, strayTurn, turnBy, turnOf, spoiltBy, spoiltOf, closedBy, closedOf, whyOf}
+use Rattle.session.specs.Call.{Call}
+use Rattle.session.specs.Calls.{nextCall, run}
 
 -- ---- what one call enters, with the data so far
 abbrev pub itemsBy : Reading → Session → List ℕ → List ℕ → List Item
 itemsBy Idle s D t = []
 itemsBy (Unreadable k) s D t = []
 itemsBy (Readable h) s D t =
-    turnItems (turnOf (s .opening) (s .track) h (length t - h .len)) D (base (s .track .phase) (h .fid) D ++ drop (h .len) t)
+    turnItems (turnOf (s .rest .opening) (s .rest .track) h (length t - h .len)) D (base (s .rest .track .phase) (h .fid) D ++ drop (h .len) t)
 
 abbrev pub dataBy : Reading → Session → List ℕ → List ℕ → List ℕ
 dataBy Idle s D t = D
 dataBy (Unreadable k) s D t = D
-dataBy (Readable h) s D t = base (s .track .phase) (h .fid) D ++ drop (h .len) t
+dataBy (Readable h) s D t = base (s .rest .track .phase) (h .fid) D ++ drop (h .len) t
 
 abbrev pub callItems : Session → List ℕ → Call → List Item
-callItems s D (Call.transfer t) = itemsBy (readingOf (s .opening) t) s D t
+callItems s D (Call.transfer t) = itemsBy (readingOf (s .rest .opening) t) s D t
 callItems s D Call.lost = []
-callItems s D Call.close = endedItems (closedOf (s .track) .ended) (closedOf (s .track) .gone) D
+callItems s D Call.close = endedItems (closedOf (s .rest .track) .ended) (closedOf (s .rest .track) .gone) D
 
 abbrev pub dataNext : Session → List ℕ → Call → List ℕ
-dataNext s D (Call.transfer t) = dataBy (readingOf (s .opening) t) s D t
+dataNext s D (Call.transfer t) = dataBy (readingOf (s .rest .opening) t) s D t
 dataNext s D Call.lost = D
 dataNext s D Call.close = D
 
@@ -110,47 +112,47 @@ turn-gap o h n (Under x) b = go (sameOf (x .fid) (h .fid))
 -- ---- the items are the rule's
 abbrev Right : Session → List ℕ → List Call → Type 0
 Right s D cs =
-    owed (s .opening) (isOpen cs) (s .track .phase) (s .track .gap) D (events (s .opening) cs)
-    ≡ items s D cs ++ afoot (run s cs .track .phase) (dataRun s D cs)
+    owed (s .rest .opening) (isOpen cs) (s .rest .track .phase) (s .rest .track .gap) D (events (s .rest .opening) cs)
+    ≡ items s D cs ++ afoot (run s cs .rest .track .phase) (dataRun s D cs)
 
-read-right : (s : Session) (D : List ℕ) (t : List ℕ) (h : Header) (p : Bool) (es : List Event) → Holds (s .track .phase) D
-    → owed (s .opening) p (s .track .phase) (s .track .gap) D (readable h (drop (h .len) t) ∷ es)
-    ≡ itemsBy (Readable h) s D t ++ owed (s .opening) p (readOf s h (length t - h .len) .session .track .phase) (readOf s h (length t - h .len) .session .track .gap) (dataBy (Readable h) s D t) es
+read-right : (s : Session) (D : List ℕ) (t : List ℕ) (h : Header) (p : Bool) (es : List Event) → Holds (s .rest .track .phase) D
+    → owed (s .rest .opening) p (s .rest .track .phase) (s .rest .track .gap) D (readable h (drop (h .len) t) ∷ es)
+    ≡ itemsBy (Readable h) s D t ++ owed (s .rest .opening) p (readOf s h (length t - h .len) .session .rest .track .phase) (readOf s h (length t - h .len) .session .rest .track .gap) (dataBy (Readable h) s D t) es
 unfolding turnOf readOf
 read-right s D t h p es e =
-    rw (turn-gap (s .opening) h (length t - h .len) (s .track .phase) (s .track .gap), ← length-drop (h .len) t)
-    (read-law (s .opening) p h (drop (h .len) t) es (s .track .phase) (s .track .gap) D e)
+    rw (turn-gap (s .rest .opening) h (length t - h .len) (s .rest .track .phase) (s .rest .track .gap), ← length-drop (h .len) t)
+    (read-law (s .rest .opening) p h (drop (h .len) t) es (s .rest .track .phase) (s .rest .track .gap) D e)
 
-pub read-keeps : (s : Session) (D : List ℕ) (t : List ℕ) (h : Header) → Holds (s .track .phase) D → Holds (readOf s h (length t - h .len) .session .track .phase) (dataBy (Readable h) s D t)
+pub read-keeps : (s : Session) (D : List ℕ) (t : List ℕ) (h : Header) → Holds (s .rest .track .phase) D → Holds (readOf s h (length t - h .len) .session .rest .track .phase) (dataBy (Readable h) s D t)
 unfolding turnOf readOf
-read-keeps s D t h e = rw (← length-drop (h .len) t) (read-holds (s .opening) h (drop (h .len) t) (s .track .phase) (s .track .gap) D e)
+read-keeps s D t h e = rw (← length-drop (h .len) t) (read-holds (s .rest .opening) h (drop (h .len) t) (s .rest .track .phase) (s .rest .track .gap) D e)
 
-transfer-right : (s : Session) (D t : List ℕ) (cs : List Call) (r : Reading) → Holds (s .track .phase) D
-    → (Holds (tookBy r s t .session .track .phase) (dataBy r s D t) → Right (tookBy r s t .session) (dataBy r s D t) cs)
-    → owed (s .opening) (isOpen cs) (s .track .phase) (s .track .gap) D (eventBy r t ∷ events (s .opening) cs)
-    ≡ (itemsBy r s D t ++ items (tookBy r s t .session) (dataBy r s D t) cs) ++ afoot (run (tookBy r s t .session) cs .track .phase) (dataRun (tookBy r s t .session) (dataBy r s D t) cs)
+transfer-right : (s : Session) (D t : List ℕ) (cs : List Call) (r : Reading) → Holds (s .rest .track .phase) D
+    → (Holds (tookBy r s t .session .rest .track .phase) (dataBy r s D t) → Right (tookBy r s t .session) (dataBy r s D t) cs)
+    → owed (s .rest .opening) (isOpen cs) (s .rest .track .phase) (s .rest .track .gap) D (eventBy r t ∷ events (s .rest .opening) cs)
+    ≡ (itemsBy r s D t ++ items (tookBy r s t .session) (dataBy r s D t) cs) ++ afoot (run (tookBy r s t .session) cs .rest .track .phase) (dataRun (tookBy r s t .session) (dataBy r s D t) cs)
 unfolding spoiltOf readOf
-transfer-right s D t cs Idle e rec = idle-law (s .opening) (isOpen cs) (s .track .phase) (s .track .gap) D (events (s .opening) cs) ∙ rec e
+transfer-right s D t cs Idle e rec = idle-law (s .rest .opening) (isOpen cs) (s .rest .track .phase) (s .rest .track .gap) D (events (s .rest .opening) cs) ∙ rec e
 transfer-right s D t cs (Unreadable k) e rec =
-    unread-law (s .opening) (isOpen cs) (s .track .phase) (s .track .gap) D (length t) (events (s .opening) cs)
-    ∙ spoil-law (s .opening) (isOpen cs) (s .track .phase) (s .track .gap) D (events (s .opening) cs)
-    ∙ rec (spoil-holds (s .track .phase) D e)
+    unread-law (s .rest .opening) (isOpen cs) (s .rest .track .phase) (s .rest .track .gap) D (length t) (events (s .rest .opening) cs)
+    ∙ spoil-law (s .rest .opening) (isOpen cs) (s .rest .track .phase) (s .rest .track .gap) D (events (s .rest .opening) cs)
+    ∙ rec (spoil-holds (s .rest .track .phase) D e)
 transfer-right s D t cs (Readable h) e rec =
-    read-right s D t h (isOpen cs) (events (s .opening) cs) e
+    read-right s D t h (isOpen cs) (events (s .rest .opening) cs) e
     ∙ ap (itemsBy (Readable h) s D t ++_) (rec (read-keeps s D t h e))
     ∙ sym (append-assoc (itemsBy (Readable h) s D t) _ _)
 
-pub items-right : (cs : List Call) (s : Session) (D : List ℕ) → Proper cs → Holds (s .track .phase) D → Right s D cs
+pub items-right : (cs : List Call) (s : Session) (D : List ℕ) → Proper cs → Holds (s .rest .track .phase) D → Right s D cs
 unfolding tookOf spoiltOf closedOf
-items-right [] s D p e = open-end (s .opening) (s .track .phase) (s .track .gap) D e
+items-right [] s D p e = open-end (s .rest .opening) (s .rest .track .phase) (s .rest .track .gap) D e
 items-right (Call.transfer t ∷ cs) s D p e =
-    transfer-right s D t cs (readingOf (s .opening) t) e (λ f. items-right cs (tookOf s t .session) (dataNext s D (Call.transfer t)) p f)
+    transfer-right s D t cs (readingOf (s .rest .opening) t) e (λ f. items-right cs (tookOf s t .session) (dataNext s D (Call.transfer t)) p f)
 items-right (Call.lost ∷ cs) s D p e =
-    spoil-law (s .opening) (isOpen cs) (s .track .phase) (s .track .gap) D (events (s .opening) cs)
-    ∙ items-right cs (missedOf s) D p (spoil-holds (s .track .phase) D e)
+    spoil-law (s .rest .opening) (isOpen cs) (s .rest .track .phase) (s .rest .track .gap) D (events (s .rest .opening) cs)
+    ∙ items-right cs (missedOf s) D p (spoil-holds (s .rest .track .phase) D e)
 items-right (Call.close ∷ []) s D p e =
-    close-end (s .opening) (s .track .phase) (s .track .gap) D e
-    ∙ sym (rw (closed-afoot (s .track .phase) (s .track .gap) D) (append-nil _ ∙ append-nil _))
+    close-end (s .rest .opening) (s .rest .track .phase) (s .rest .track .gap) D e
+    ∙ sym (rw (closed-afoot (s .rest .track .phase) (s .rest .track .gap) D) (append-nil _ ∙ append-nil _))
 items-right (Call.close ∷ (c ∷ cs)) s D p e = absurd p
 
 -- ---- the ledger is what the items and the loose entries post
@@ -160,7 +162,7 @@ looseBy (Unreadable k) t = Entry.Unreadable (length t) ∷ []
 looseBy (Readable h) t = Entry.Headers (h .len) ∷ []
 
 abbrev callLoose : Session → Call → List Entry
-callLoose s (Call.transfer t) = looseBy (readingOf (s .opening) t) t
+callLoose s (Call.transfer t) = looseBy (readingOf (s .rest .opening) t) t
 callLoose s Call.lost = Entry.Lost ∷ []
 callLoose s Call.close = []
 
@@ -194,42 +196,42 @@ answered-posts l a g n D E h =
     ∙ ap (λ (x : Ledger). posts x (map entryOf (fateItems (a .fate) n E))) (ended-posts l (a .ended) g D)
     ∙ sym (ap (posts l) (map-append (endedItems (a .ended) g D) (fateItems (a .fate) n E)) ∙ posts-append l (map entryOf (endedItems (a .ended) g D)) (map entryOf (fateItems (a .fate) n E)))
 
-took-posts : (s : Session) (D t : List ℕ) (r : Reading) → tookBy r s t .session .ledger ≡ posts (s .ledger) (looseBy r t ++ map entryOf (itemsBy r s D t))
+took-posts : (s : Session) (D t : List ℕ) (r : Reading) → postedOf (tookBy r s t .session) ≡ posts (postedOf s) (looseBy r t ++ map entryOf (itemsBy r s D t))
 unfolding readOf turnOf
 took-posts s D t Idle = refl
 took-posts s D t (Unreadable k) = refl
 took-posts s D t (Readable h) =
-    let T : Turn = turnOf (s .opening) (s .track) h (length t - h .len) in
-    answered-posts (postOf (s .ledger) (Entry.Headers (h .len))) (T .answer) (T .gone) (T .bytes) D (dataBy (Readable h) s D t)
-    (turn-framed (s .opening) h (length t - h .len) (s .track .phase) (s .track .gap))
+    let T : Turn = turnOf (s .rest .opening) (s .rest .track) h (length t - h .len) in
+    answered-posts (postOf (postedOf s) (Entry.Headers (h .len))) (T .answer) (T .gone) (T .bytes) D (dataBy (Readable h) s D t)
+    (turn-framed (s .rest .opening) h (length t - h .len) (s .rest .track .phase) (s .rest .track .gap))
 
-call-posts : (s : Session) (D : List ℕ) (c : Call) → nextCall s c .ledger ≡ posts (s .ledger) (callPosted s D c)
+call-posts : (s : Session) (D : List ℕ) (c : Call) → postedOf (nextCall s c) ≡ posts (postedOf s) (callPosted s D c)
 unfolding tookOf
-call-posts s D (Call.transfer t) = took-posts s D t (readingOf (s .opening) t)
+call-posts s D (Call.transfer t) = took-posts s D t (readingOf (s .rest .opening) t)
 call-posts s D Call.lost = refl
-call-posts s D Call.close = ended-posts (s .ledger) (closedOf (s .track) .ended) (closedOf (s .track) .gone) D
+call-posts s D Call.close = ended-posts (postedOf s) (closedOf (s .rest .track) .ended) (closedOf (s .rest .track) .gone) D
 
-pub run-posts : (cs : List Call) (s : Session) (D : List ℕ) → run s cs .ledger ≡ posts (s .ledger) (posted s D cs)
+pub run-posts : (cs : List Call) (s : Session) (D : List ℕ) → postedOf (run s cs) ≡ posts (postedOf s) (posted s D cs)
 run-posts [] s D = refl
 run-posts (c ∷ cs) s D =
     run-posts cs (nextCall s c) (dataNext s D c)
     ∙ ap (λ (l : Ledger). posts l (posted (nextCall s c) (dataNext s D c) cs)) (call-posts s D c)
-    ∙ sym (posts-append (s .ledger) (callPosted s D c) (posted (nextCall s c) (dataNext s D c) cs))
+    ∙ sym (posts-append (postedOf s) (callPosted s D c) (posted (nextCall s c) (dataNext s D c) cs))
 
 -- ---- and they are the same entries in another order
-took-opening : (s : Session) (t : List ℕ) (r : Reading) → tookBy r s t .session .opening ≡ s .opening
+took-opening : (s : Session) (t : List ℕ) (r : Reading) → tookBy r s t .session .rest .opening ≡ s .rest .opening
 unfolding readOf
 took-opening s t Idle = refl
 took-opening s t (Unreadable k) = refl
 took-opening s t (Readable h) = refl
 
-pub next-opening : (s : Session) (c : Call) → nextCall s c .opening ≡ s .opening
+pub next-opening : (s : Session) (c : Call) → nextCall s c .rest .opening ≡ s .rest .opening
 unfolding tookOf
-next-opening s (Call.transfer t) = took-opening s t (readingOf (s .opening) t)
+next-opening s (Call.transfer t) = took-opening s t (readingOf (s .rest .opening) t)
 next-opening s Call.lost = refl
 next-opening s Call.close = refl
 
-loose-one : (o : Opening) (s : Session) (c : Call) (cs : List Call) → s .opening ≡ o → Proper (c ∷ cs) → loose (events o (c ∷ cs)) ≡ callLoose s c ++ loose (events o cs)
+loose-one : (o : Opening) (s : Session) (c : Call) (cs : List Call) → s .rest .opening ≡ o → Proper (c ∷ cs) → loose (events o (c ∷ cs)) ≡ callLoose s c ++ loose (events o cs)
 loose-one o s (Call.transfer t) cs e p = rw e (go (readingOf o t))
   where
     go : (r : Reading) → loose (eventBy r t ∷ events o cs) ≡ looseBy r t ++ loose (events o cs)
@@ -246,7 +248,7 @@ proper-rest Call.lost cs p = p
 proper-rest Call.close [] p = tt
 proper-rest Call.close (c ∷ cs) p = absurd p
 
-pub posted-total : (m : Entry → ℕ) (o : Opening) (cs : List Call) (s : Session) (D : List ℕ) → s .opening ≡ o → Proper cs
+pub posted-total : (m : Entry → ℕ) (o : Opening) (cs : List Call) (s : Session) (D : List ℕ) → s .rest .opening ≡ o → Proper cs
     → total m (posted s D cs) ≡ total m (map entryOf (items s D cs)) + total m (loose (events o cs))
 posted-total m o [] s D e p = refl
 posted-total m o (c ∷ cs) s D e p =
@@ -264,7 +266,7 @@ stamps-append [] ys = refl
 stamps-append (x ∷ xs) ys = ap (stampsOf x ++_) (stamps-append xs ys) ∙ sym (append-assoc (stampsOf x) (stamps xs) (stamps ys))
 
 loose-stamps : (s : Session) (c : Call) → stamps (callLoose s c) ≡ []
-loose-stamps s (Call.transfer t) = go (readingOf (s .opening) t)
+loose-stamps s (Call.transfer t) = go (readingOf (s .rest .opening) t)
   where
     go : (r : Reading) → stamps (looseBy r t) ≡ []
     go Idle = refl

@@ -4,7 +4,7 @@ use mathlib.Core.Bool.{Bool, true, false, cond, Bool·beq}
 use mathlib.Core.List.{List, [], _++_}
 use lib.Dec.{eqb}
 use Rattle.rules.specs.Pick.{pick}
-use Rattle.payload.specs.declared.Opening.{Opening}
+use Rattle.sizes.specs.declared.Opening.{Opening}
 use Rattle.payload.specs.declared.Header.{Header}
 use Rattle.payload.specs.declared.Stamp.{Stamp}
 use Rattle.frames.specs.declared.Reason.the-variants.{Cut, Empty}
@@ -16,9 +16,9 @@ use Rattle.frames.specs.declared.Fate.{Fate}
 use Rattle.frames.specs.declared.Phase.{Phase}
 use Rattle.frames.specs.declared.Phase.the-variants.{Fresh, Under, Past}
 use Rattle.frames.specs.declared.Turn.{Turn}
-use Rattle.frames.specs.Track.{sameOf, whyOf, begunOf, joinedOf, completeOf, fateOf, joinTurn, strayTurn, turnBy}
 use Rattle.books.specs.Rule.{Item}
 use Rattle.books.specs.Demands.{endedItems, fateItems}
+use Rattle.frames.specs.Inner.{sameOf, whyOf, begunOf, joinedOf, completeOf, fateOf, joinTurn, strayTurn, turnBy}
 
 -- the data that the frame of a transfer with this FID has had before it
 abbrev pub base : Phase → Bool → List ℕ → List ℕ

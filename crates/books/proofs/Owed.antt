@@ -7,7 +7,7 @@ use native.Mathlib.Nat.{add-zero, zero-add}
 use native.Mathlib.Omega.{arith}
 use lib.ListN.{length, length-append}
 use Rattle.rules.specs.Pick.{pick}
-use Rattle.payload.specs.declared.Opening.{Opening}
+use Rattle.sizes.specs.declared.Opening.{Opening}
 use Rattle.payload.specs.declared.Header.{Header}
 use Rattle.payload.specs.declared.Stamp.{Stamp}
 use Rattle.payload.specs.declared.Stamp.the-variants.{Absent, At}
@@ -22,12 +22,12 @@ use Rattle.frames.specs.declared.Ended.{Ended}
 use Rattle.frames.specs.declared.Ended.the-variants.{Nothing, Frame}
 use Rattle.frames.specs.declared.Fate.{Fate}
 use Rattle.frames.specs.declared.Turn.{Turn}
-use Rattle.frames.specs.Track.{firstOf, whyOf, sameOf, begunOf, faultOf, joinedOf, fateOf, phaseOf, joinTurn, strayTurn, turnBy, turnOf, spoiltBy}
 use Rattle.ledger.specs.Entry.{Entry}
 use Rattle.books.specs.Rule.{Event, idle, unreadable, missing, readable, Seen, spoiled, readables, runs, frameOf, _orStamp_, _or_, when, Item, judged, nothing, gapBefore}
 use Rattle.books.specs.Demands.{endedItems, fateItems}
 use Rattle.books.proofs.Made.{base, turnItems}
 use Rattle.books.proofs.Cut.{first, later, runs-cut, cont, pass, onward, or-sound, first-or, take-law}
+use Rattle.frames.specs.Inner.{firstOf, whyOf, sameOf, begunOf, faultOf, joinedOf, fateOf, phaseOf, joinTurn, strayTurn, turnBy, turnOf, spoiltBy}
 
 -- what the rule owes, from a phase, whether a gap is pending, the data so far, and the events to come; p is whether the session stays open
 abbrev pub owed : Opening → Bool → Phase → Bool → List ℕ → List Event → List Item

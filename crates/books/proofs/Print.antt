@@ -4,19 +4,20 @@ use mathlib.Core.Path.{_≡_, refl, sym, _∙_, ap}
 use mathlib.Core.List.{List, [], _∷_}
 use native.Mathlib.Omega.{arith}
 use lib.ListN.{length, getD, length-set}
-use Rattle.payload.specs.declared.Opening.{Opening}
+use Rattle.sizes.specs.declared.Opening.{Opening}
 use Rattle.ledger.specs.declared.Account.{Account}
 use Rattle.ledger.specs.declared.Ledger.{Ledger}
 use Rattle.ledger.specs.Accounts.{accounts, placeOf, numberCount}
 use Rattle.ledger.specs.Ledger.{countOf, bytesOf}
-use Rattle.session.specs.Refusals.{ledgerOf}
+use Rattle.session.specs.Refusals.{postedOf, ledgerOf}
 use Rattle.session.specs.Session.{fresh}
-use Rattle.books.specs.Rule.{Call, entries, accountNumbers, numbersOf}
-use Rattle.books.specs.Calls.{run}
+use Rattle.books.specs.Rule.{entries, accountNumbers, numbersOf}
 use Rattle.books.specs.Demands.{Right}
 use Rattle.books.proofs.Taken.{Proper}
 use Rattle.books.proofs.Accounts.{end-sized, all-right}
 use Rattle.ledger.proofs.Places.{Sized, shown-sized}
+use Rattle.session.specs.Call.{Call}
+use Rattle.session.specs.Calls.{run}
 
 -- a list is the list of what stands at its places
 abbrev spelt : ℕ → ℕ → List ℕ → List ℕ
@@ -49,4 +50,4 @@ module _ (o : Opening) (cs : List Call) (l : Ledger) (r : Right o cs l) where
 
 pub run-numbers : (o : Opening) (cs : List Call) → Proper cs → ledgerOf (run (fresh o) cs) .numbers ≡ numbersOf (entries o cs)
 run-numbers o cs p =
-    right-numbers o cs (ledgerOf (run (fresh o) cs)) (all-right o cs p) (shown-sized (run (fresh o) cs .ledger) (run (fresh o) cs .track .phase) (end-sized o cs p))
+    right-numbers o cs (ledgerOf (run (fresh o) cs)) (all-right o cs p) (shown-sized (postedOf (run (fresh o) cs)) (run (fresh o) cs .rest .track .phase) (end-sized o cs p))

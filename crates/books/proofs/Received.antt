@@ -10,7 +10,7 @@ use lib.Dec.{eqb, ltb}
 use borrow.Author.Tests.{ltb-false}
 use Rattle.rules.specs.Numbered.{firstFrom, Down}
 use Rattle.rules.proofs.Numbered.{first-zero}
-use Rattle.payload.specs.declared.Opening.{Opening}
+use Rattle.sizes.specs.declared.Opening.{Opening}
 use Rattle.payload.specs.declared.Header.{Header}
 use Rattle.payload.specs.declared.Stamp.{Stamp}
 use Rattle.payload.specs.declared.Reading.{Reading}
@@ -22,11 +22,12 @@ use Rattle.frames.specs.declared.Fault.{Fault}
 use Rattle.frames.specs.declared.Fault.the-variants.{Sound, Bad}
 use Rattle.ledger.specs.declared.Account.{Account}
 use Rattle.ledger.specs.Entry.{Entry}
-use Rattle.books.specs.Rule.{Call, Event, idle, unreadable, missing, readable, eventBy, events, isOpen, Seen, readables, same, ahead, runs, frameOf, strayOf, complete, dataOf, firstStamp, fault, Item, verdict, settled, strays, judge, nothing, judged, framesOf, framesBy, loose, entryOf, entries, bytesIn, partIn, total, received}
+use Rattle.books.specs.Rule.{Event, idle, unreadable, missing, readable, eventBy, events, isOpen, Seen, readables, same, ahead, runs, frameOf, strayOf, complete, dataOf, firstStamp, fault, Item, verdict, settled, strays, judge, nothing, judged, framesOf, framesBy, loose, entryOf, entries, bytesIn, partIn, total, received}
 use Rattle.books.specs.Demands.{over}
 use Rattle.books.proofs.Posts.{total-append}
 use Rattle.books.proofs.History.{map-append}
 use Rattle.ledger.specs.Accounts.{placeOf, accounts}
+use Rattle.session.specs.Call.{Call}
 
 -- ---- what a reading says of its transfer's bytes
 abbrev Sound₀ : List ℕ → Reading → Type 0

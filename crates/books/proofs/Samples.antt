@@ -5,15 +5,17 @@ use mathlib.Core.List.{List, [], _∷_, map}
 use lib.ListN.{replicate}
 use Rattle.rules.specs.Pick.{pick}
 use Rattle.rules.specs.Numbered.{firstFrom, anyBelow}
-use Rattle.sizes.specs.Sizes.{frameSizeBroken, payloadSizeBroken}
-use Rattle.payload.specs.declared.Opening.{Opening}
+use Rattle.sizes.specs.Sizes.{frameSizeBroken, payloadSizeBroken, sizesBroken}
+use Rattle.sizes.specs.declared.Opening.{Opening}
 use Rattle.payload.specs.Transfer.{flagOf, needOf, transferFlags, stampOf, headerOf, readingOf}
-use Rattle.frames.specs.Track.{turnOf, spoiltOf, closedOf}
 use Rattle.ledger.specs.Ledger.{plusOf, timedOf, postOf, shownOf}
-use Rattle.session.specs.Refusals.{sizesBroken, fillBroken, accountsBroken, countsBroken, recordBroken, ledgerOf}
+use Rattle.session.specs.Refusals.{ledgerOf}
 use Rattle.session.specs.Session.{fresh, readOf, tookOf, takeOf}
-use Rattle.books.specs.Rule.{Call, entries, numbersOf}
-use Rattle.books.specs.Calls.{Offer, after, taken}
+use Rattle.books.specs.Rule.{entries, numbersOf}
+use Rattle.frames.specs.Inner.{turnOf, spoiltOf, closedOf}
+use Rattle.rule_50.specs.Rule50.{rule50, fillBroken, accountsBroken, countsBroken}
+use Rattle.session.specs.Call.{Call}
+use Rattle.session.specs.Calls.{Offer, after, taken}
 
 -- frame size 256, payload size 62
 abbrev pub opening : Opening
@@ -39,9 +41,9 @@ unfolding pick firstFrom flagOf needOf transferFlags stampOf headerOf readingOf
 by-rule = refl
 
 pub by-session : ledgerOf (after (fresh opening) (map (Offer.take (replicate 256 0)) transfers)) .numbers ≡ printed
-unfolding pick firstFrom anyBelow frameSizeBroken payloadSizeBroken flagOf needOf transferFlags stampOf headerOf readingOf turnOf spoiltOf closedOf plusOf timedOf postOf shownOf sizesBroken fillBroken accountsBroken countsBroken recordBroken readOf tookOf takeOf
+unfolding pick firstFrom anyBelow frameSizeBroken payloadSizeBroken flagOf needOf transferFlags stampOf headerOf readingOf turnOf spoiltOf closedOf plusOf timedOf postOf shownOf sizesBroken fillBroken accountsBroken countsBroken rule50 readOf tookOf takeOf
 by-session = refl
 
 pub all-taken : taken (fresh opening) (map (Offer.take (replicate 256 0)) transfers) ≡ map Call.transfer transfers
-unfolding pick firstFrom anyBelow frameSizeBroken payloadSizeBroken flagOf needOf transferFlags stampOf headerOf readingOf turnOf spoiltOf closedOf plusOf timedOf postOf shownOf sizesBroken fillBroken accountsBroken countsBroken recordBroken readOf tookOf takeOf
+unfolding pick firstFrom anyBelow frameSizeBroken payloadSizeBroken flagOf needOf transferFlags stampOf headerOf readingOf turnOf spoiltOf closedOf plusOf timedOf postOf shownOf sizesBroken fillBroken accountsBroken countsBroken rule50 readOf tookOf takeOf
 all-taken = refl

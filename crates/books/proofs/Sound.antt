@@ -10,7 +10,7 @@ use borrow.Author.Tests.{le-ltb, eq-eqb, ltb-false}
 use Rattle.rules.specs.Pick.{pick}
 use Rattle.rules.specs.Numbered.{Row, firstRow, NoneOf, anyBelow}
 use Rattle.rules.proofs.Rows.{Numbered, row-none, any-none}
-use Rattle.payload.specs.declared.Opening.{Opening}
+use Rattle.sizes.specs.declared.Opening.{Opening}
 use Rattle.payload.specs.declared.Header.{Header}
 use Rattle.payload.specs.declared.Reading.{Reading}
 use Rattle.payload.specs.declared.Reading.the-variants.{Idle, Unreadable, Readable}
@@ -23,19 +23,22 @@ use Rattle.frames.specs.declared.Run.{Run}
 use Rattle.frames.specs.declared.Phase.{Phase}
 use Rattle.frames.specs.declared.Phase.the-variants.{Fresh, Under, Past}
 use Rattle.frames.specs.declared.Ended.the-variants.{Nothing, Frame}
-use Rattle.frames.specs.Track.{firstOf, clashOf, sameOf, whyOf, begunOf, joinedOf, filledOf, faultOf, phaseOf, joinTurn, strayTurn, turnBy, turnOf, spoiltBy, spoiltOf, closedBy, closedOf}
 use Rattle.ledger.specs.declared.Ledger.{Ledger}
 use Rattle.session.specs.declared.Session.{Session}
-use Rattle.session.specs.Refusals.{sizesBroken, unequal, fillBroken, accountBroken, accountsBroken, countsBroken, recordBroken, ledgerOf, takeRows}
+use Rattle.session.specs.Refusals.{recordBroken, ledgerOf, takeRows}
 use Rattle.session.specs.Session.{fresh, readOf, tookBy, tookOf}
-use Rattle.books.specs.Rule.{lostLine, idleLine, Call, events, entries, total, oneIn, received}
-use Rattle.books.specs.Calls.{Offer, refusal, next, callOf, unless, taken, nextCall, run}
+use Rattle.books.specs.Rule.{lostLine, idleLine, events, entries, total, oneIn, received}
 use Rattle.books.specs.Demands.{Right}
 use Rattle.books.proofs.Taken.{Proper}
 use Rattle.books.proofs.Accounts.{count-right, bytes-right, all-right}
 use Rattle.books.proofs.Bounds.{count-bound, bytes-bound, ticks-bound, backward-bound, untimed-bound}
 use Rattle.books.proofs.History.{next-opening, proper-rest}
 use Rattle.ledger.specs.Accounts.{accountCount, lostAt, idleAt, ticksAt, backwardAt, untimedAt}
+use Rattle.sizes.specs.Sizes.{sizesBroken}
+use Rattle.frames.specs.Inner.{firstOf, clashOf, sameOf, whyOf, begunOf, joinedOf, filledOf, faultOf, phaseOf, joinTurn, strayTurn, turnBy, turnOf, spoiltBy, spoiltOf, closedBy, closedOf}
+use Rattle.rule_50.specs.Rule50.{rule50, unequal, fillBroken, accountBroken, accountsBroken, countsBroken}
+use Rattle.session.specs.Call.{Call}
+use Rattle.session.specs.Calls.{Offer, refusal, next, callOf, unless, taken, nextCall, run}
 
 -- ---- fill: within the frame, and in a frame without fault its bytes
 abbrev pub Snug : ℕ → Fault → ℕ → ℕ → Type 0
@@ -92,22 +95,22 @@ fit-closed frame Fresh b = tt
 fit-closed frame (Past g) b = tt
 fit-closed frame (Under x) b = tt
 
-pub fit-took : (s : Session) (t : List ℕ) (r : Reading) → Fit (s .opening .frame) (s .track .phase) → Fit (s .opening .frame) (tookBy r s t .session .track .phase)
+pub fit-took : (s : Session) (t : List ℕ) (r : Reading) → Fit (s .rest .opening .frame) (s .rest .track .phase) → Fit (s .rest .opening .frame) (tookBy r s t .session .rest .track .phase)
 unfolding readOf turnOf spoiltOf
 fit-took s t Idle f = f
-fit-took s t (Unreadable k) f = fit-spoilt (s .opening .frame) (s .track .phase) f
-fit-took s t (Readable h) f = fit-turn (s .opening) h (length t - h .len) (s .track .phase) (s .track .gap) f
+fit-took s t (Unreadable k) f = fit-spoilt (s .rest .opening .frame) (s .rest .track .phase) f
+fit-took s t (Readable h) f = fit-turn (s .rest .opening) h (length t - h .len) (s .rest .track .phase) (s .rest .track .gap) f
 
-pub fit-next : (s : Session) (c : Call) → Fit (s .opening .frame) (s .track .phase) → Fit (s .opening .frame) (nextCall s c .track .phase)
+pub fit-next : (s : Session) (c : Call) → Fit (s .rest .opening .frame) (s .rest .track .phase) → Fit (s .rest .opening .frame) (nextCall s c .rest .track .phase)
 unfolding tookOf spoiltOf closedOf
-fit-next s (Call.transfer t) f = fit-took s t (readingOf (s .opening) t) f
-fit-next s Call.lost f = fit-spoilt (s .opening .frame) (s .track .phase) f
-fit-next s Call.close f = fit-closed (s .opening .frame) (s .track .phase) (s .track .gap)
+fit-next s (Call.transfer t) f = fit-took s t (readingOf (s .rest .opening) t) f
+fit-next s Call.lost f = fit-spoilt (s .rest .opening .frame) (s .rest .track .phase) f
+fit-next s Call.close f = fit-closed (s .rest .opening .frame) (s .rest .track .phase) (s .rest .track .gap)
 
-pub fit-run : (o : Opening) (cs : List Call) (s : Session) → s .opening ≡ o → Fit (o .frame) (s .track .phase) → Fit (o .frame) (run s cs .track .phase)
+pub fit-run : (o : Opening) (cs : List Call) (s : Session) → s .rest .opening ≡ o → Fit (o .frame) (s .rest .track .phase) → Fit (o .frame) (run s cs .rest .track .phase)
 fit-run o [] s e f = f
 fit-run o (c ∷ cs) s e f =
-    fit-run o cs (nextCall s c) (next-opening s c ∙ e) (subst (λ (q : Opening). Fit (q .frame) (nextCall s c .track .phase)) e (fit-next s c (subst (λ (q : Opening). Fit (q .frame) (s .track .phase)) (sym e) f)))
+    fit-run o cs (nextCall s c) (next-opening s c ∙ e) (subst (λ (q : Opening). Fit (q .frame) (nextCall s c .rest .track .phase)) e (fit-next s c (subst (λ (q : Opening). Fit (q .frame) (s .rest .track .phase)) (sym e) f)))
 
 fill-fits : (frame : ℕ) (ph : Phase) → Fit frame ph → fillBroken ph frame ≡ false
 unfolding fillBroken
@@ -120,20 +123,20 @@ fill-fits frame (Under x) f = go (x .fault) f
     go (Bad w) e = rw (le-ltb frame (x .fill) e)
 
 -- ---- the opening and the transfers taken
-pub run-opening : (cs : List Call) (s : Session) → run s cs .opening ≡ s .opening
+pub run-opening : (cs : List Call) (s : Session) → run s cs .rest .opening ≡ s .rest .opening
 run-opening [] s = refl
 run-opening (c ∷ cs) s = run-opening cs (nextCall s c) ∙ next-opening s c
 
-pub took-taken : (s : Session) (t : List ℕ) (r : Reading) → tookBy r s t .session .taken ≡ s .taken + 1
+pub took-taken : (s : Session) (t : List ℕ) (r : Reading) → tookBy r s t .session .rest .taken ≡ s .rest .taken + 1
 unfolding readOf
 took-taken s t Idle = refl
 took-taken s t (Unreadable k) = refl
 took-taken s t (Readable h) = refl
 
-pub run-taken : (o : Opening) (cs : List Call) (s : Session) → Proper cs → run s cs .taken ≡ s .taken + length (events o cs)
+pub run-taken : (o : Opening) (cs : List Call) (s : Session) → Proper cs → run s cs .rest .taken ≡ s .rest .taken + length (events o cs)
 unfolding tookOf
 run-taken o [] s p = omega arith
-run-taken o (Call.transfer t ∷ cs) s p = omega (arith, run-taken o cs (nextCall s (Call.transfer t)) p, took-taken s t (readingOf (s .opening) t))
+run-taken o (Call.transfer t ∷ cs) s p = omega (arith, run-taken o cs (nextCall s (Call.transfer t)) p, took-taken s t (readingOf (s .rest .opening) t))
 run-taken o (Call.lost ∷ cs) s p = omega (arith, run-taken o cs (nextCall s Call.lost) p)
 run-taken o (Call.close ∷ []) s p = omega arith
 run-taken o (Call.close ∷ (c ∷ cs)) s p = absurd p
@@ -177,30 +180,30 @@ module _ (o : Opening) (cs : List Call) (p : Proper cs) (small : Small cs) where
   abbrev at-end : Session
   at-end = run (fresh o) cs
 
-  counted : at-end .taken ≡ length (events o cs)
+  counted : at-end .rest .taken ≡ length (events o cs)
   counted = run-taken o cs (fresh o) p ∙ omega arith
 
-  account-fine : (k : ℕ) → k < accountCount → accountBroken (ledgerOf at-end) (at-end .taken) k ≡ false
+  account-fine : (k : ℕ) → k < accountCount → accountBroken (ledgerOf at-end) (at-end .rest .taken) k ≡ false
   account-fine k h =
-      rw (under (at-end .taken) _ _ (count-right o cs p k h) (rw counted (count-bound o cs k)), under (65536 * at-end .taken) _ _ (bytes-right o cs p k h) (rw counted (bytes-bound o cs k (small-received o cs small))))
+      rw (under (at-end .rest .taken) _ _ (count-right o cs p k h) (rw counted (count-bound o cs k)), under (65536 * at-end .rest .taken) _ _ (bytes-right o cs p k h) (rw counted (bytes-bound o cs k (small-received o cs small))))
 
-  accounts-fine : accountsBroken (ledgerOf at-end) (at-end .taken) ≡ false
+  accounts-fine : accountsBroken (ledgerOf at-end) (at-end .rest .taken) ≡ false
   unfolding accountsBroken
-  accounts-fine = any-none accountCount (accountBroken (ledgerOf at-end) (at-end .taken)) account-fine
+  accounts-fine = any-none accountCount (accountBroken (ledgerOf at-end) (at-end .rest .taken)) account-fine
 
-  counts-fine : countsBroken (ledgerOf at-end) (at-end .taken) ≡ false
+  counts-fine : countsBroken (ledgerOf at-end) (at-end .rest .taken) ≡ false
   unfolding countsBroken
   counts-fine =
       let r : Right o cs (ledgerOf at-end) = all-right o cs p in
       rw (
-        under (2 ^ 31 * at-end .taken) _ _ (r .ticks) (rw counted (ticks-bound o cs)),
-        under (at-end .taken) _ _ (r .losses) (rw counted (count-bound o cs lostLine)),
-        under (at-end .taken) _ _ (r .idles) (rw counted (count-bound o cs idleLine)),
-        under (at-end .taken) _ _ (r .backward) (rw counted (backward-bound o cs)),
-        under (at-end .taken) _ _ (r .plain) (rw counted (untimed-bound o cs)),
+        under (2 ^ 31 * at-end .rest .taken) _ _ (r .ticks) (rw counted (ticks-bound o cs)),
+        under (at-end .rest .taken) _ _ (r .losses) (rw counted (count-bound o cs lostLine)),
+        under (at-end .rest .taken) _ _ (r .idles) (rw counted (count-bound o cs idleLine)),
+        under (at-end .rest .taken) _ _ (r .backward) (rw counted (backward-bound o cs)),
+        under (at-end .rest .taken) _ _ (r .plain) (rw counted (untimed-bound o cs)),
       )
 
   pub record-sound : sizesBroken o ≡ false → recordBroken at-end ≡ false
-  unfolding recordBroken
+  unfolding rule50
   record-sound e =
-      rw (run-opening cs (fresh o), e, fill-fits (o .frame) (at-end .track .phase) (fit-run o cs (fresh o) refl tt), accounts-fine, counts-fine)
+      rw (run-opening cs (fresh o), e, fill-fits (o .frame) (at-end .rest .track .phase) (fit-run o cs (fresh o) refl tt), accounts-fine, counts-fine)

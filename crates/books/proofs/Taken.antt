@@ -10,8 +10,8 @@ use Rattle.rules.specs.Numbered.{Row, orElse, firstRow}
 use Rattle.session.specs.declared.Session.{Session}
 use Rattle.session.specs.Refusals.{recordBroken, takeRows, lostRows, closeRows}
 use Rattle.session.specs.Session.{takeBy, takeOf, tookOf, lostBy, lostOf, closeBy, closeOf}
-use Rattle.books.specs.Rule.{Call}
-use Rattle.books.specs.Calls.{Offer, refusal, next, after, callOf, unless, taken, nextCall, run}
+use Rattle.session.specs.Call.{Call}
+use Rattle.session.specs.Calls.{Offer, refusal, next, after, callOf, unless, taken, nextCall, run}
 
 -- a call that is not refused is taken, and a refused one leaves the session as it was
 pub next-taken : (s : Session) (x : Offer) → refusal s x ≡ 0 → next s x ≡ nextCall s (callOf x)
@@ -39,12 +39,12 @@ or-some : (b : Bool) (k n m : ℕ) → n ≡ suc m → (j : ℕ) × (orElse b (s
 or-some true k n m e = (k, refl)
 or-some false k n m e = (m, e)
 
-shut-refuses : (s : Session) (x : Offer) → s .closed ≡ true → (k : ℕ) × (refusal s x ≡ suc k)
+shut-refuses : (s : Session) (x : Offer) → s .rest .closed ≡ true → (k : ℕ) × (refusal s x ≡ suc k)
 shut-refuses s (Offer.take b t) e = or-some (recordBroken s) 49 _ 52 (rw e)
 shut-refuses s Offer.lost e = or-some (recordBroken s) 49 _ 52 (rw e)
 shut-refuses s Offer.close e = or-some (recordBroken s) 49 _ 52 (rw e)
 
-taken-none : (s : Session) (xs : List Offer) → s .closed ≡ true → taken s xs ≡ []
+taken-none : (s : Session) (xs : List Offer) → s .rest .closed ≡ true → taken s xs ≡ []
 taken-none s [] e = refl
 taken-none s (x ∷ xs) e =
     let r = shut-refuses s x e in

@@ -10,7 +10,7 @@ use lib.Dec.{ltb, eqb}
 use borrow.Author.Tests.{le-ltb}
 use Rattle.rules.specs.Numbered.{firstFrom, firstRow, orElse, Down}
 use Rattle.rules.proofs.Numbered.{first-zero}
-use Rattle.payload.specs.declared.Opening.{Opening}
+use Rattle.sizes.specs.declared.Opening.{Opening}
 use Rattle.frames.specs.declared.Answer.{Answer}
 use Rattle.frames.specs.declared.Delivery.{Delivery}
 use Rattle.frames.specs.declared.Ended.{Ended}
@@ -23,11 +23,10 @@ use Rattle.session.specs.declared.Start.{Start}
 use Rattle.session.specs.declared.Outcome.{Outcome}
 use Rattle.session.specs.declared.Report.{Report}
 use Rattle.session.specs.declared.Closing.{Closing}
-use Rattle.session.specs.Refusals.{openingFlags, sizesBroken, recordBroken, ledgerOf, takeRows}
+use Rattle.session.specs.Refusals.{openingFlags, recordBroken, ledgerOf, takeRows}
 use Rattle.session.specs.Session.{fresh, openBy, openOf, takeOf, bufferBy, bufferOf, lostOf, closeOf}
-use Rattle.books.specs.Rule.{Call, entries, numbersOf, stamps, forward, between, received}
-use Rattle.books.specs.Calls.{Offer, refusal, next, after, taken, run}
-use Rattle.books.specs.Demands.{Right, over, allBytes, endedItems, Gains, Says, offers, bufferAfter, Whole}
+use Rattle.books.specs.Rule.{entries, numbersOf, stamps, forward, between, received}
+use Rattle.books.specs.Demands.{Right, over, allBytes, endedItems, Gains, Says, Whole}
 use Rattle.books.proofs.Taken.{next-refused, after-run, taken-proper}
 use Rattle.books.proofs.Accounts.{all-right}
 use Rattle.books.proofs.Received.{entries-bytes, over-all}
@@ -37,19 +36,20 @@ use Rattle.books.proofs.Whole.{delivered-whole}
 use Rattle.books.proofs.Print.{run-numbers}
 use Rattle.books.proofs.Samples.{opening, transfers, printed, by-rule, by-session}
 use Rattle.ledger.specs.Accounts.{placeOf, ticksAt, accounts}
+use Rattle.sizes.specs.Sizes.{sizesBroken}
+use Rattle.session.specs.Call.{Call}
+use Rattle.session.specs.Calls.{Offer, refusal, next, after, taken, run, offers, bufferAfter}
 
 -- An opening that is not refused gives a fresh session of admissible sizes.
-pub opened : (frame payload room : ℕ) → openOf frame payload room .start ≡ Start.Open
-    → (openOf frame payload room .session ≡ fresh (record { frame = frame; payload = payload })) × (sizesBroken (record { frame = frame; payload = payload }) ≡ false)
+pub opened : (o : Opening) (room : ℕ) → openOf o room .start ≡ Start.Open → (openOf o room .session ≡ fresh o) × (sizesBroken o ≡ false)
 unfolding openOf openingFlags sizesBroken
-opened frame payload room e = go (firstFrom 45 (openingFlags frame payload room)) refl e
+opened o room e = go (firstFrom 45 (openingFlags o room)) refl e
   where
     no : (k : ℕ) → Start.Refused k ≡ Start.Open → ⊥
     no k q = let z : _≡_ {A = ℕ} 0 1 = cc in omega arith
 
-    go : (k : ℕ) → firstFrom 45 (openingFlags frame payload room) ≡ k → openBy k frame payload .start ≡ Start.Open
-        → (openBy k frame payload .session ≡ fresh (record { frame = frame; payload = payload })) × (sizesBroken (record { frame = frame; payload = payload }) ≡ false)
-    go zero q s = let d : Down (openingFlags frame payload room) = first-zero 45 (openingFlags frame payload room) (omega arith) q in (refl, rw (d .0, d .1 .0))
+    go : (k : ℕ) → firstFrom 45 (openingFlags o room) ≡ k → openBy k o .start ≡ Start.Open → (openBy k o .session ≡ fresh o) × (sizesBroken o ≡ false)
+    go zero q s = let d : Down (openingFlags o room) = first-zero 45 (openingFlags o room) (omega arith) q in (refl, rw (d .0, d .1 .0))
     go (suc k) q s = absurd (no (suc k) s)
 
 -- 1. "A refused call changes no lent byte and no session", and "refusals 50 to 53 and 55 are not part of the history".
@@ -101,10 +101,10 @@ pub never-stuck : (o : Opening) → sizesBroken o ≡ false → (xs : List Offer
 never-stuck o e xs =
     ap recordBroken (history o xs) ∙ record-sound o (taken (fresh o) xs) (taken-proper (fresh o) xs) (taken-small (fresh o) xs) e
 
-pub only-full : (o : Opening) → sizesBroken o ≡ false → (xs : List Offer) (buffer t : List ℕ) → after (fresh o) xs .closed ≡ false → after (fresh o) xs .opening .frame ≤ length buffer → length t ≤ 65536
-    → refusal (after (fresh o) xs) (Offer.take buffer t) ≡ orElse (eqb (after (fresh o) xs .taken) 4294967295) 52 0
+pub only-full : (o : Opening) → sizesBroken o ≡ false → (xs : List Offer) (buffer t : List ℕ) → after (fresh o) xs .rest .closed ≡ false → after (fresh o) xs .rest .opening .frame ≤ length buffer → length t ≤ 65536
+    → refusal (after (fresh o) xs) (Offer.take buffer t) ≡ orElse (eqb (after (fresh o) xs .rest .taken) 4294967295) 52 0
 only-full o e xs buffer t open₀ room small =
-    rw (never-stuck o e xs, open₀, le-ltb (length buffer) (after (fresh o) xs .opening .frame) room, le-ltb 65536 (length t) small)
+    rw (never-stuck o e xs, open₀, le-ltb (length buffer) (after (fresh o) xs .rest .opening .frame) room, le-ltb 65536 (length t) small)
 
 -- 7. The ledger sample of document 01, about the rule and about the session, as computed equalities.
 pub sample-by-rule : numbersOf (entries opening (map Call.transfer transfers)) ≡ printed

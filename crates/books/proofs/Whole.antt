@@ -10,7 +10,7 @@ use lib.Seq.{paste, paste-zero, length-paste, take-paste}
 use lib.Dec.{ltb, eqb}
 use Rattle.rules.specs.Pick.{pick}
 use Rattle.rules.specs.Numbered.{firstRow}
-use Rattle.payload.specs.declared.Opening.{Opening}
+use Rattle.sizes.specs.declared.Opening.{Opening}
 use Rattle.payload.specs.declared.Header.{Header}
 use Rattle.payload.specs.declared.Stamp.{Stamp}
 use Rattle.payload.specs.declared.Reading.{Reading}
@@ -29,15 +29,13 @@ use Rattle.frames.specs.declared.Delivery.{Delivery}
 use Rattle.frames.specs.declared.Fate.{Fate}
 use Rattle.frames.specs.declared.Answer.{Answer}
 use Rattle.frames.specs.declared.Turn.{Turn}
-use Rattle.frames.specs.Track.{firstOf, clashOf, sameOf, whyOf, begunOf, joinedOf, faultOf, filledOf, writtenOf, completeOf, fateOf, phaseOf, joinTurn, strayTurn, turnBy, turnOf, spoiltBy, spoiltOf, closedBy, closedOf}
 use Rattle.ledger.specs.Entry.{Entry}
 use Rattle.session.specs.declared.Session.{Session}
 use Rattle.session.specs.declared.Outcome.{Outcome}
 use Rattle.session.specs.Refusals.{takeRows}
 use Rattle.session.specs.Session.{fresh, readOf, tookBy, tookOf, tookBufferBy, tookBuffer, bufferBy, bufferOf, takeOf}
-use Rattle.books.specs.Rule.{Call, events, isOpen, readables, runs, Item, framesBy}
-use Rattle.books.specs.Calls.{Offer, refusal, next, after, callOf, unless, taken, nextCall, run}
-use Rattle.books.specs.Demands.{endedItems, fateItems, offerWith, bufferNext, offers, bufferAfter, Whole}
+use Rattle.books.specs.Rule.{events, isOpen, readables, runs, Item, framesBy}
+use Rattle.books.specs.Demands.{endedItems, fateItems, Whole}
 use Rattle.books.proofs.Made.{base, turnItems}
 use Rattle.books.proofs.Owed.{Holds, same-beq, spoil-holds, read-holds}
 use Rattle.books.proofs.Taken.{next-taken, next-refused, after-run}
@@ -45,6 +43,9 @@ use Rattle.books.proofs.History.{itemsBy, dataBy, dataNext, dataRun, it
 use Rattle.books.proofs.Sound.{Snug, Fit, fit-took, fit-next, snug-begun, snug-joined}
 use Rattle.books.proofs.LastRun.{delivered-last}
 use Rattle.books.proofs.Answers.{and, answerBy, taken-answer, frames-more}
+use Rattle.frames.specs.Inner.{firstOf, clashOf, sameOf, whyOf, begunOf, joinedOf, faultOf, filledOf, writtenOf, completeOf, fateOf, phaseOf, joinTurn, strayTurn, turnBy, turnOf, spoiltBy, spoiltOf, closedBy, closedOf}
+use Rattle.session.specs.Call.{Call}
+use Rattle.session.specs.Calls.{Offer, refusal, next, after, callOf, unless, taken, nextCall, run, offerWith, bufferNext, offers, bufferAfter}
 
 -- the buffer begins with the data of the frame under way, as long as the frame has no fault
 abbrev Written : Fault → ℕ → List ℕ → List ℕ → Type 0
@@ -192,33 +193,33 @@ callBuffer s B Call.close = B
 
 -- what a session, the data of its frame under way and the buffer keep
 pub record Kept (s : Session) (D B : List ℕ) : Type 0 where
-  pub holds : Holds (s .track .phase) D
-  pub fit : Fit (s .opening .frame) (s .track .phase)
-  pub held : Held (s .track .phase) D B
-  pub room : s .opening .frame ≤ length B
+  pub holds : Holds (s .rest .track .phase) D
+  pub fit : Fit (s .rest .opening .frame) (s .rest .track .phase)
+  pub held : Held (s .rest .track .phase) D B
+  pub room : s .rest .opening .frame ≤ length B
 
 read-left : (s : Session) (D B t : List ℕ) (h : Header) → Kept s D B
-    → Left (s .opening) (turnOf (s .opening) (s .track) h (length t - h .len)) (dataBy (Readable h) s D t) (turnBuffer (turnOf (s .opening) (s .track) h (length t - h .len)) B (drop (h .len) t))
+    → Left (s .rest .opening) (turnOf (s .rest .opening) (s .rest .track) h (length t - h .len)) (dataBy (Readable h) s D t) (turnBuffer (turnOf (s .rest .opening) (s .rest .track) h (length t - h .len)) B (drop (h .len) t))
 unfolding turnOf
 read-left s D B t h k =
-    turn-left (s .opening) h (drop (h .len) t) (length t - h .len) B (k .room) (sym (length-drop (h .len) t)) (s .track .phase) (s .track .gap) D (k .holds) (k .fit) (k .held)
+    turn-left (s .rest .opening) h (drop (h .len) t) (length t - h .len) B (k .room) (sym (length-drop (h .len) t)) (s .rest .track .phase) (s .rest .track .gap) D (k .holds) (k .fit) (k .held)
 
 kept-took : (s : Session) (D B t : List ℕ) (r : Reading) → Kept s D B → Kept (tookBy r s t .session) (dataBy r s D t) (tookBufferBy r s B t)
 unfolding readOf spoiltOf
 kept-took s D B t Idle k = record { holds = k .holds; fit = k .fit; held = k .held; room = k .room }
-kept-took s D B t (Unreadable n) k = record { holds = spoil-holds (s .track .phase) D (k .holds); fit = fit-took s t (Unreadable n) (k .fit); held = spoilt-held (s .track .phase) D B (k .held); room = k .room }
+kept-took s D B t (Unreadable n) k = record { holds = spoil-holds (s .rest .track .phase) D (k .holds); fit = fit-took s t (Unreadable n) (k .fit); held = spoilt-held (s .rest .track .phase) D B (k .held); room = k .room }
 kept-took s D B t (Readable h) k =
     let l = read-left s D B t h k in
-    let T : Turn = turnOf (s .opening) (s .track) h (length t - h .len) in
+    let T : Turn = turnOf (s .rest .opening) (s .rest .track) h (length t - h .len) in
     let held : Held (T .track .phase) (dataBy (Readable h) s D t) (turnBuffer T B (drop (h .len) t)) = ready-held (T .answer .fate) (T .track .phase) (dataBy (Readable h) s D t) (turnBuffer T B (drop (h .len) t)) (l .ready) in
     record { holds = read-keeps s D t h (k .holds); fit = fit-took s t (Readable h) (k .fit); held = held; room = l .room }
 
 kept-call : (s : Session) (D B : List ℕ) (c : Call) → Kept s D B → Kept (nextCall s c) (dataNext s D c) (callBuffer s B c)
 unfolding tookOf tookBuffer spoiltOf closedOf
-kept-call s D B (Call.transfer t) k = kept-took s D B t (readingOf (s .opening) t) k
-kept-call s D B Call.lost k = record { holds = spoil-holds (s .track .phase) D (k .holds); fit = fit-next s Call.lost (k .fit); held = spoilt-held (s .track .phase) D B (k .held); room = k .room }
+kept-call s D B (Call.transfer t) k = kept-took s D B t (readingOf (s .rest .opening) t) k
+kept-call s D B Call.lost k = record { holds = spoil-holds (s .rest .track .phase) D (k .holds); fit = fit-next s Call.lost (k .fit); held = spoilt-held (s .rest .track .phase) D B (k .held); room = k .room }
 kept-call s D B Call.close k =
-    record { holds = closed-holds (s .track .phase) (s .track .gap) D; fit = fit-next s Call.close (k .fit); held = closed-held (s .track .phase) (s .track .gap) D B; room = k .room }
+    record { holds = closed-holds (s .rest .track .phase) (s .rest .track .gap) D; fit = fit-next s Call.close (k .fit); held = closed-held (s .rest .track .phase) (s .rest .track .gap) D B; room = k .room }
 
 -- a refused call leaves all as it was
 pub same-call : (b : List ℕ) (k : Call) → callOf (offerWith b k) ≡ k
@@ -268,14 +269,14 @@ clash-unreadable f d k e q = let z : _≡_ {A = ℕ} 0 1 = cc in omega arith
 pub record Delivers (s : Session) (D B t : List ℕ) (r : Reading) (d : Delivery) : Type 0 where
   pub before : List Item
   pub last : itemsBy r s D t ≡ before ++ (record { entry = Entry.Delivered d; load = take (d .len) (tookBufferBy r s B t) } ∷ [])
-  pub none : afoot (tookBy r s t .session .track .phase) (dataBy r s D t) ≡ []
+  pub none : afoot (tookBy r s t .session .rest .track .phase) (dataBy r s D t) ≡ []
 
 delivers : (s : Session) (D B t : List ℕ) (r : Reading) (d : Delivery) → Kept s D B → answerBy r s t .fate ≡ Fate.Delivered d → Delivers s D B t r d
 unfolding readOf
 delivers s D B t Idle d k e = absurd (clash Fate.Idle d e refl)
 delivers s D B t (Unreadable n) d k e = absurd (clash-unreadable (Fate.Unreadable n) d n e refl)
 delivers s D B t (Readable h) d k e =
-    let T : Turn = turnOf (s .opening) (s .track) h (length t - h .len) in
+    let T : Turn = turnOf (s .rest .opening) (s .rest .track) h (length t - h .len) in
     let E : List ℕ = dataBy (Readable h) s D t in
     let B′ : List ℕ = turnBuffer T B (drop (h .len) t) in
     let w : Ready (Fate.Delivered d) (T .track .phase) E B′ = subst (λ (f : Fate). Ready f (T .track .phase) E B′) e (read-left s D B t h k .ready) in
@@ -296,16 +297,16 @@ module _ (o : Opening) (B : List ℕ) (ks : List Call) (room : o .frame ≤ leng
   kept = kept-all ks (fresh o) [] B (record { holds = tt; fit = tt; held = tt; room = room })
 
   whole-here : (s : Session) → s ≡ run (fresh o) (taken (fresh o) calls) → (t : List ℕ) (d : Delivery) → refusal (after (fresh o) calls) (Offer.take buffer t) ≡ 0
-      → firstRow (takeRows s (length buffer) (length t)) ≡ 0 → Kept s (dataRun (fresh o) [] (taken (fresh o) calls)) buffer → answerBy (readingOf (s .opening) t) s t .fate ≡ Fate.Delivered d
+      → firstRow (takeRows s (length buffer) (length t)) ≡ 0 → Kept s (dataRun (fresh o) [] (taken (fresh o) calls)) buffer → answerBy (readingOf (s .rest .opening) t) s t .fate ≡ Fate.Delivered d
       → Whole o (and (taken (fresh o) calls) (Call.transfer t)) d (bufferOf s buffer t)
   unfolding bufferOf tookBuffer tookOf
   whole-here s q t d ok ok′ k e =
       let D : List ℕ = dataRun (fresh o) [] (taken (fresh o) calls) in
       let made : List Item = items (fresh o) [] (taken (fresh o) calls) in
-      let r : Reading = readingOf (s .opening) t in
+      let r : Reading = readingOf (s .rest .opening) t in
       let v : Delivers s D buffer t r d = delivers s D buffer t r d k e in
-      let f : framesBy o (and (taken (fresh o) calls) (Call.transfer t)) ≡ (made ++ itemsBy r s D t) ++ afoot (tookBy r s t .session .track .phase) (dataBy r s D t) =
-      frames-more o calls (Offer.take buffer t) ok ∙ ap (λ (x : Session). (made ++ callItems x D (Call.transfer t)) ++ afoot (nextCall x (Call.transfer t) .track .phase) (dataNext x D (Call.transfer t))) (sym q) in
+      let f : framesBy o (and (taken (fresh o) calls) (Call.transfer t)) ≡ (made ++ itemsBy r s D t) ++ afoot (tookBy r s t .session .rest .track .phase) (dataBy r s D t) =
+      frames-more o calls (Offer.take buffer t) ok ∙ ap (λ (x : Session). (made ++ callItems x D (Call.transfer t)) ++ afoot (nextCall x (Call.transfer t) .rest .track .phase) (dataNext x D (Call.transfer t))) (sym q) in
       let x : Item = record { entry = Entry.Delivered d; load = take (d .len) (tookBufferBy r s buffer t) } in
       let cs : List Call = and (taken (fresh o) calls) (Call.transfer t) in
       let i = delivered-last o (isOpen cs) (runs (readables false (events o cs))) (made ++ v .before) x d

@@ -1,10 +1,10 @@
 -- What is demanded of a session after any calls: the statements that proofs/Theorems.antt proves.
-use Prim.Native.Nat.{ℕ, suc, _+_, _≤_}
+use Prim.Native.Nat.{ℕ, _+_}
 use mathlib.Core.Path.{_≡_}
 use mathlib.Core.Bool.{true, false}
 use mathlib.Core.List.{List, [], _∷_, _++_}
 use lib.ListN.{length, getD, take}
-use Rattle.payload.specs.declared.Opening.{Opening}
+use Rattle.sizes.specs.declared.Opening.{Opening}
 use Rattle.frames.specs.declared.Fault.the-variants.{Sound}
 use Rattle.frames.specs.declared.Ended.{Ended}
 use Rattle.frames.specs.declared.Ended.the-variants.{Nothing, Frame}
@@ -15,11 +15,9 @@ use Rattle.ledger.specs.declared.Account.{Account}
 use Rattle.ledger.specs.Entry.{Entry}
 use Rattle.ledger.specs.declared.Ledger.{Ledger}
 use Rattle.ledger.specs.Ledger.{countOf, bytesOf}
-use Rattle.session.specs.declared.Session.{Session}
-use Rattle.session.specs.Session.{bufferOf}
-use Rattle.books.specs.Rule.{Call, events, Seen, readables, runs, frameOf, strayOf, complete, dataOf, firstStamp, fault, Item, framesBy, entries, lostLine, idleLine, oneIn, partIn, total, stamps, untimed, forward, back, between, received}
-use Rattle.books.specs.Calls.{Offer, next}
+use Rattle.books.specs.Rule.{events, Seen, readables, runs, frameOf, strayOf, complete, dataOf, firstStamp, fault, Item, framesBy, entries, lostLine, idleLine, oneIn, partIn, total, stamps, untimed, forward, back, between}
 use Rattle.ledger.specs.Accounts.{accounts, placeOf, lostAt, idleAt, ticksAt, backwardAt, untimedAt}
+use Rattle.session.specs.Call.{Call}
 
 -- THE LEDGER AND THE RULE: every number of a ledger is what the rule gives from the opening and the calls taken.
 pub record Right (o : Opening) (cs : List Call) (l : Ledger) : Type 0 where
@@ -74,25 +72,6 @@ pub record Says (o : Opening) (cs : List Call) (c : Call) (a : Answer) : Type 0 
   pub d : List ℕ
   pub e : List ℕ
   pub gains : Gains o cs c (endedItems (a .ended) n d ++ fateItems (a .fate) m e)
-
--- ONE BUFFER that nobody else writes: the calls offered with it, and what it holds after them
-abbrev pub offerWith : List ℕ → Call → Offer
-offerWith b (Call.transfer t) = Offer.take b t
-offerWith b Call.lost = Offer.lost
-offerWith b Call.close = Offer.close
-
-abbrev pub bufferNext : Session → List ℕ → Call → List ℕ
-bufferNext s b (Call.transfer t) = bufferOf s b t
-bufferNext s b Call.lost = b
-bufferNext s b Call.close = b
-
-abbrev pub offers : Session → List ℕ → List Call → List Offer
-offers s b [] = []
-offers s b (k ∷ ks) = offerWith b k ∷ offers (next s (offerWith b k)) (bufferNext s b k) ks
-
-abbrev pub bufferAfter : Session → List ℕ → List Call → List ℕ
-bufferAfter s b [] = b
-bufferAfter s b (k ∷ ks) = bufferAfter (next s (offerWith b k)) (bufferNext s b k) ks
 
 -- DELIVERED IS WHOLE: after these calls the last run's frame is complete, without fault and has no stray after it; the buffer's first bytes are its payload bytes, in
 -- order, as many as the delivery says, and the delivery's stamp is the frame's first.

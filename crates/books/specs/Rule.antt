@@ -5,7 +5,7 @@ use mathlib.Core.Bool.{Bool, true, false, cond, not, _&&_, _||_, Bool·beq}
 use mathlib.Core.List.{List, [], _∷_, _++_, map}
 use lib.ListN.{length, drop}
 use lib.Dec.{ltb, eqb}
-use Rattle.payload.specs.declared.Opening.{Opening}
+use Rattle.sizes.specs.declared.Opening.{Opening}
 use Rattle.payload.specs.declared.Header.{Header}
 use Rattle.payload.specs.declared.Stamp.{Stamp}
 use Rattle.payload.specs.declared.Stamp.the-variants.{Absent, At}
@@ -19,14 +19,9 @@ use Rattle.frames.specs.declared.Fault.the-variants.{Sound, Bad}
 use Rattle.ledger.specs.declared.Account.{Account}
 use Rattle.ledger.specs.Accounts.{accounts, accountCount, placeOf, accountFor}
 use Rattle.ledger.specs.Entry.{Entry}
+use Rattle.session.specs.Call.{Call, transfer, lost, close}
 
--- THE LIST holds the calls taken in order: transfers with their bytes, lost reports, close.
-pub data Call : Type 0 where
-  transfer : List ℕ → Call
-  lost : Call
-  close : Call
-
--- What each is: idle; unreadable, of so many bytes; lost; or readable, with its header and its data.
+-- THE LIST holds the calls taken in order. What each is: idle; unreadable, of so many bytes; lost; or readable, with its header and its data.
 pub data Event : Type 0 where
   idle : Event
   unreadable : ℕ → Event

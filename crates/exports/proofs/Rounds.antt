@@ -9,18 +9,20 @@ use native.Mathlib.Numerals.{add-one}
 use native.Mathlib.Omega.{arith}
 use Rattle.session.specs.declared.Session.{Session}
 use Rattle.ledger.specs.Ledger.{bytesOf}
-use Rattle.session.specs.declared.Rest.{Rest}
 use Rattle.session.specs.declared.Taken.{Taken}
 use Rattle.session.specs.declared.RestTaken.{RestTaken}
 use Rattle.session.specs.declared.Opened.{Opened}
 use Rattle.rules.specs.Numbered.{firstFrom}
-use Rattle.session.specs.Refusals.{openingFlags}
-use Rattle.session.specs.Session.{openOf, openBy, takeOf, bufferOf, restOf, wholeOf, takenWith}
-use Rattle.books.specs.Calls.{Offer}
+use Rattle.session.specs.Refusals.{postedOf, openingFlags}
+use Rattle.session.specs.Session.{openOf, openBy, takeOf, bufferOf}
 use Rattle.books.proofs.Sized.{next-sized}
 use Rattle.exports.specs.Taking.{State, tookFirst, tookAll, opened, deliveredOf}
-use Rattle.ledger.specs.Accounts.{numberCount}
+use Rattle.sizes.specs.declared.Opening.{Opening}
+use Rattle.ledger.specs.declared.Account.{Account}
+use Rattle.ledger.specs.Accounts.{numberCount, placeOf}
 use Rattle.ledger.proofs.Places.{Sized}
+use Rattle.session.specs.Inner.{wholeOf, takenWith}
+use Rattle.session.specs.Calls.{Offer}
 
 pub round-less : (times i n at : ℕ) → i < times → (times - (i + 1)) * (n + 1) + (n - 0) < (times - i) * (n + 1) + (n - at)
 round-less times i n at h =
@@ -36,12 +38,12 @@ pub record Going (size times : ℕ) (l : List ℕ) (a : State) (b : List ℕ) (s
   pub place : at ≡ k * size
   pub state : record { session = s; buffer = b } ≡ tookFirst size l (tookAll size l a i) k
   pub ended : times ≤ i → k ≡ 0
-  pub sized : Sized (s .ledger)
+  pub sized : Sized (postedOf s)
 
-pub going-start : (frame payload size times : ℕ) (l b m : List ℕ) (o : Opened) (r : Rest) → o ≡ openOf frame payload (length b) → (m ≡ o .session .ledger .numbers) × (length m ≡ numberCount) →
-    r ≡ restOf (o .session) → Going size times l (opened frame payload b) b (wholeOf r m) 0 0
+pub going-start : (p : Opening) (size times : ℕ) (l b : List ℕ) (o : Opened) → o ≡ openOf p (length b) → length (o .session .numbers) ≡ numberCount →
+    Going size times l (opened p b) b (o .session) 0 0
 unfolding tookFirst tookAll
-going-start frame payload size times l b m o r e f g = record { k = 0; place = sym (zero-mul size); state = rw (g, f .0, e) refl; ended = λ h. refl; sized = f .1 }
+going-start p size times l b o e f = record { k = 0; place = sym (zero-mul size); state = rw e refl; ended = λ h. refl; sized = f }
 
 whole : (size n k : ℕ) → k * size + size ≤ n → n - (k * size + size) < size → n / size ≡ suc k
 whole size n k h e =
@@ -53,8 +55,8 @@ module _ (size times : ℕ) (l : List ℕ) (a : State) (b : List ℕ) (s : Sessi
   abbrev after : Session
   after = wholeOf (x .rest) m
 
-  kept : Sized (after .ledger)
-  kept = ap (λ (y : Taken). length (y .session .ledger .numbers)) v ∙ next-sized s (g .sized) (Offer.take b (take (at + size - at) (drop at l)))
+  kept : Sized (postedOf after)
+  kept = ap (λ (y : Taken). length (y .session .numbers)) v ∙ next-sized s (g .sized) (Offer.take b (take (at + size - at) (drop at l)))
 
   next : record { session = after; buffer = d } ≡ tookFirst size l (tookAll size l a i) (suc (g .k))
   unfolding tookFirst
@@ -78,32 +80,32 @@ module _ (size times : ℕ) (l : List ℕ) (a : State) (b : List ℕ) (s : Sessi
 abbrev Answered : ℕ → List ℕ → State → ℕ → ℕ → List ℕ → Type 0
 Answered size l a times r b = (r ≡ deliveredOf (tookAll size l a times)) × (b ≡ tookAll size l a times .buffer)
 
-pub all-taken : (size times : ℕ) (l : List ℕ) (a : State) (b : List ℕ) (s y : Session) (i at r : ℕ) → Going size times l a b s i at → i ≤ times → times ≤ i
-    → y ≡ s → r ≡ bytesOf (y .ledger) 0 → Answered size l a times r b
+pub all-taken : (size times : ℕ) (l : List ℕ) (a : State) (b : List ℕ) (s : Session) (i at r : ℕ) → Going size times l a b s i at → i ≤ times → times ≤ i
+    → r ≡ bytesOf (postedOf s) (placeOf Account.Delivered) → Answered size l a times r b
 unfolding tookFirst
-all-taken size times l a b s y i at r g h e f q =
+all-taken size times l a b s i at r g h e q =
     let j : i ≡ times = omega arith in
     let x : record { session = s; buffer = b } ≡ tookAll size l a times = rw (g .ended e, j) at (g .state) in
-    (q ∙ ap (λ (z : Session). bytesOf (z .ledger) 0) f ∙ ap (λ (z : State). deliveredOf z) x, ap (λ (z : State). z .buffer) x)
+    (q ∙ ap (λ (z : State). deliveredOf z) x, ap (λ (z : State). z .buffer) x)
 
 no-round : (size : ℕ) (l : List ℕ) (a : State) (i : ℕ) → length l / size ≡ 0 → a ≡ tookAll size l a i
 unfolding tookFirst tookAll
 no-round size l a zero e = refl
 no-round size l a (suc i) e = rw e (no-round size l a i e)
 
-module _ (frame payload size times : ℕ) (l b : List ℕ) where
-  none : (k : ℕ) → 0 ≡ bytesOf (openBy k frame payload .session .ledger) 0
+module _ (p : Opening) (size times : ℕ) (l b : List ℕ) where
+  none : (k : ℕ) → 0 ≡ bytesOf (postedOf (openBy k p .session)) (placeOf Account.Delivered)
   none zero = refl
   none (suc k) = refl
 
-  nothing : length l / size ≡ 0 → Answered size l (opened frame payload b) times 0 b
+  nothing : length l / size ≡ 0 → Answered size l (opened p b) times 0 b
   unfolding openOf
   nothing e =
-      let x = no-round size l (opened frame payload b) times e in
-      (none (firstFrom 45 (openingFlags frame payload (length b))) ∙ ap (λ (y : State). deliveredOf y) x, ap (λ (y : State). y .buffer) x)
+      let x = no-round size l (opened p b) times e in
+      (none (firstFrom 45 (openingFlags p (length b))) ∙ ap (λ (y : State). deliveredOf y) x, ap (λ (y : State). y .buffer) x)
 
-  pub no-size : size ≡ 0 → Answered size l (opened frame payload b) times 0 b
+  pub no-size : size ≡ 0 → Answered size l (opened p b) times 0 b
   no-size e = nothing (rw e (div-zero (length l)))
 
-  pub too-short : length l < size → Answered size l (opened frame payload b) times 0 b
+  pub too-short : length l < size → Answered size l (opened p b) times 0 b
   too-short h = nothing (div-eq-of-lt h)

@@ -4,7 +4,11 @@ use mathlib.Core.List.{List}
 use lib.ListN.{length, take, drop}
 use Rattle.session.specs.declared.Session.{Session}
 use Rattle.session.specs.Session.{openOf, takeOf, bufferOf}
+use Rattle.sizes.specs.declared.Opening.{Opening}
+use Rattle.ledger.specs.declared.Account.{Account}
+use Rattle.ledger.specs.Accounts.{placeOf}
 use Rattle.ledger.specs.Ledger.{bytesOf}
+use Rattle.session.specs.Refusals.{postedOf}
 
 pub record State : Type 0 where
   pub session : Session
@@ -28,9 +32,9 @@ unfoldable pub tookAll : ℕ → List ℕ → State → ℕ → State
 tookAll size l a zero = a
 tookAll size l a (suc i) = tookFirst size l (tookAll size l a i) (length l / size)
 
-abbrev pub opened : ℕ → ℕ → List ℕ → State
-opened frame payload b = record { session = openOf frame payload (length b) .session; buffer = b }
+abbrev pub opened : Opening → List ℕ → State
+opened o b = record { session = openOf o (length b) .session; buffer = b }
 
 -- the bytes delivered
 abbrev pub deliveredOf : State → ℕ
-deliveredOf a = bytesOf (a .session .ledger) 0
+deliveredOf a = bytesOf (postedOf (a .session)) (placeOf Account.Delivered)

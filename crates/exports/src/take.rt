@@ -2,7 +2,9 @@
 ghost use mathlib.Core.Path.{_≡_};
 ghost use Rattle.exports.specs.Taking.{opened, tookAll, deliveredOf};
 use ledger::Account;
+use ledger::Ledger;
 use session::Session;
+use sizes::Opening;
 
 // Opens a session, and takes the transfers of `size` bytes that lie one after another in `transfers`, all of them so many times. It answers the bytes delivered.
 #[no_mangle]
@@ -14,13 +16,13 @@ pub extern "C" fn palkodhen_take(
     buffer: &mut [u8],
     transfers: &[u8],
 ) -> u64
-    ensures { λ r. ⌜ r ≡ deliveredOf (tookAll size (now (transfers .entry)) (opened frame payload (now (buffer .entry))) times) ⌝ }
-    ensures { λ _. ⌜ now (buffer .exit) ≡ tookAll size (now (transfers .entry)) (opened frame payload (now (buffer .entry))) times .buffer ⌝ }
+    ensures { λ r. ⌜ r ≡ deliveredOf (tookAll size (now (transfers .entry)) (opened (record { frame = frame; payload = payload }) (now (buffer .entry))) times) ⌝ }
+    ensures { λ _. ⌜ now (buffer .exit) ≡ tookAll size (now (transfers .entry)) (opened (record { frame = frame; payload = payload }) (now (buffer .entry))) times .buffer ⌝ }
 {
-    let start = Session::open(frame, payload, buffer);
+    let start = Session::open(Opening { frame, payload }, buffer);
     let s = start.session;
-    let mut numbers = s.numbers();
-    let mut rest = s.rest();
+    let mut numbers = s.numbers;
+    let mut rest = s.rest;
     if size == 0 {
         return 0;
     }
@@ -39,7 +41,7 @@ pub extern "C" fn palkodhen_take(
             i += 1;
         }
     }
-    let last = rest.whole(numbers);
-    let l = last.ledger;
+    let last = rest.last;
+    let l = Ledger { numbers, last };
     l.bytes(Account::Delivered)
 }

@@ -6,7 +6,7 @@ use native.Mathlib.Omega.{arith}
 use lib.Dec.{ltb, eqb}
 use borrow.Author.Tests.{ltb-false}
 use Rattle.rules.specs.Pick.{pick-all}
-use Rattle.payload.specs.declared.Opening.{Opening}
+use Rattle.sizes.specs.declared.Opening.{Opening}
 use Rattle.payload.specs.declared.Header.{Header}
 use Rattle.frames.specs.declared.Reason.{Reason}
 use Rattle.payload.specs.declared.Stamp.{Stamp}
@@ -22,17 +22,8 @@ use Rattle.frames.specs.declared.Ended.the-variants.{Nothing, Frame}
 use Rattle.frames.specs.declared.Fate.{Fate}
 use Rattle.frames.specs.declared.Fate.the-variants.{Idle, Kept, Stray, Delivered, Dropped, Unreadable}
 use Rattle.frames.specs.declared.Turn.{Turn}
-use Rattle.frames.specs.Track.{firstOf, clashOf, whyOf, sameOf, filledOf, writtenOf, begunOf, faultOf, joinedOf, completeOf, fateOf, phaseOf, joinTurn, strayTurn, turnBy, turnOf, spoiltBy, spoiltOf, closedBy, closedOf, underBytes}
-
--- a frame is filled to no more than the frame size, and while it has no fault with all its data
-pub record Filled (o : Opening) (r : Run) : Type 0 where
-  pub within : r .fill ≤ o .frame
-  pub whole : r .fault ≡ Sound → r .fill ≡ r .bytes
-
-abbrev pub FilledBy : Opening → Phase → Type 0
-FilledBy o Fresh = Unit {0}
-FilledBy o (Past fid) = Unit {0}
-FilledBy o (Under r) = Filled o r
+use Rattle.frames.specs.Track.{underBytes, FilledBy, Filled}
+use Rattle.frames.specs.Inner.{firstOf, clashOf, whyOf, sameOf, filledOf, writtenOf, begunOf, faultOf, joinedOf, completeOf, fateOf, phaseOf, joinTurn, strayTurn, turnBy, turnOf, spoiltBy, spoiltOf, closedBy, closedOf}
 
 -- ---- no fault now: none before, and none by this
 first-sound : (f : Fault) (bad : Bool) (why : Reason) → firstOf f bad why ≡ Sound → (f ≡ Sound) × (bad ≡ false)

@@ -6,7 +6,7 @@ use native.Mathlib.Omega.{arith}
 use lib.Dec.{eqb}
 use borrow.Author.Tests.{eq-eqb, ne-eqb}
 use Rattle.rules.specs.Pick.{yes, no, said-yes, said-no}
-use Rattle.payload.specs.declared.Opening.{Opening}
+use Rattle.sizes.specs.declared.Opening.{Opening}
 use Rattle.payload.specs.declared.Header.{Header}
 use Rattle.payload.specs.declared.Stamp.{Stamp}
 use Rattle.frames.specs.declared.Reason.{Reason}
@@ -20,7 +20,7 @@ use Rattle.frames.specs.declared.Phase.the-variants.{Fresh, Under, Past}
 use Rattle.frames.specs.declared.Track.{Track}
 use Rattle.frames.specs.declared.Ended.the-variants.{Nothing, Frame}
 use Rattle.frames.specs.declared.Turn.{Turn}
-use Rattle.frames.specs.Track.{whyOf, sameOf, begunOf, joinTurn, strayTurn, turnOf, completeOf, closedBy, closedOf, Roomy}
+use Rattle.frames.specs.Inner.{whyOf, sameOf, begunOf, joinTurn, strayTurn, turnOf, completeOf, closedBy, closedOf, Roomy}
 
 -- ---- a readable transfer
 module _ (o : Opening) (t : Track) (h : Header) (n : ℕ) (x : Turn) where

@@ -1,154 +1,11 @@
--- What one call makes of the frame under way. (The frame rule itself is stated from the list alone, in the books.)
-use Prim.Native.Nat.{ℕ, _+_, _<_, _^_}
-use mathlib.Core.Bool.{Bool, true, false, not}
-use lib.Dec.{ltb, eqb}
-use Rattle.rules.specs.Pick.{pick}
-use Rattle.payload.specs.declared.Opening.{Opening}
-use Rattle.payload.specs.declared.Header.{Header}
-use Rattle.payload.specs.declared.Stamp.{Stamp}
-use Rattle.payload.specs.declared.Stamp.the-variants.{Absent, At}
-use Rattle.frames.specs.declared.Reason.{Reason}
-use Rattle.frames.specs.declared.Reason.the-variants.{Gap, Error, Clock, Long, Cut, Empty}
-use Rattle.frames.specs.declared.Fault.{Fault}
-use Rattle.frames.specs.declared.Fault.the-variants.{Sound, Bad}
+-- The frame under way: what the account under way has of it, and how far it is written.
+use Prim.Native.Nat.{ℕ, _≤_}
+use mathlib.Core.Path.{_≡_}
+use Rattle.sizes.specs.declared.Opening.{Opening}
+use Rattle.frames.specs.declared.Fault.the-variants.{Sound}
 use Rattle.frames.specs.declared.Run.{Run}
 use Rattle.frames.specs.declared.Phase.{Phase}
 use Rattle.frames.specs.declared.Phase.the-variants.{Fresh, Under, Past}
-use Rattle.frames.specs.declared.Track.{Track}
-use Rattle.frames.specs.declared.Ended.{Ended}
-use Rattle.frames.specs.declared.Ended.the-variants.{Nothing, Frame}
-use Rattle.frames.specs.declared.Fate.{Fate}
-use Rattle.frames.specs.declared.Fate.the-variants.{Kept, Stray, Delivered, Dropped}
-use Rattle.frames.specs.declared.Turn.{Turn}
-use Rattle.frames.specs.declared.Shut.{Shut}
-
--- the earlier fault stands
-abbrev pub firstOf : Fault → Bool → Reason → Fault
-firstOf (Bad w) bad why = Bad w
-firstOf Sound true why = Bad why
-firstOf Sound false why = Sound
-
--- a stamp that differs from the frame's first
-abbrev pub clashOf : Stamp → Stamp → Bool
-clashOf Absent b = false
-clashOf (At x) Absent = false
-clashOf (At x) (At y) = not (eqb x y)
-
--- the first stamp of two
-abbrev pub earlierOf : Stamp → Stamp → Stamp
-earlierOf Absent b = b
-earlierOf (At x) b = At x
-
--- the fault names the frame; without one, the other reason does
-abbrev pub whyOf : Fault → Reason → Reason
-whyOf Sound other = other
-whyOf (Bad why) other = why
-
-abbrev pub sameOf : Bool → Bool → Bool
-sameOf true b = b
-sameOf false b = not b
-
--- data is written straight after the frame's earlier data, if the frame has no fault up to and with this transfer
-abbrev pub filledOf : Fault → ℕ → ℕ → ℕ
-filledOf Sound fill n = fill + n
-filledOf (Bad w) fill n = fill
-
-abbrev pub writtenOf : Fault → ℕ → ℕ
-writtenOf Sound n = n
-writtenOf (Bad w) n = 0
-
--- a frame begins: with a gap, if an unreadable or lost transfer came before it with no readable one between
-abbrev pub begunOf : Bool → Bool → Run
-begunOf gap fid = record { fid = fid; fault = firstOf Sound gap Gap; bytes = 0; fill = 0; stamp = Absent }
-
--- the earliest fault once a transfer with n bytes of data has joined: error, clock, long, in this order
-abbrev pub faultOf : Opening → Run → Header → ℕ → Fault
-faultOf o r h n =
-    firstOf (firstOf (firstOf (r .fault) (h .error) Error) (clashOf (r .stamp) (h .stamp)) Clock) (ltb (o .frame) (r .bytes + n)) Long
-
-abbrev pub joinedOf : Opening → Run → Header → ℕ → Run
-joinedOf o r h n =
-    record {
-      fid = r .fid;
-      fault = faultOf o r h n;
-      bytes = r .bytes + n;
-      fill = filledOf (faultOf o r h n) (r .fill) n;
-      stamp = earlierOf (r .stamp) (h .stamp);
-    }
-
--- complete without fault: empty if it has no data, else delivered
-abbrev pub completeOf : Fault → ℕ → Stamp → Fate
-completeOf (Bad why) n s = Dropped why
-completeOf Sound n s = pick (eqb n 0) (Dropped Empty) (Delivered (record { len = n; stamp = s }))
-
-abbrev pub fateOf : Bool → Run → Fate
-fateOf true r = completeOf (r .fault) (r .bytes) (r .stamp)
-fateOf false r = Kept
-
--- after an EOF what follows in the run is stray
-abbrev pub phaseOf : Bool → Run → Phase
-phaseOf true r = Past (r .fid)
-phaseOf false r = Under r
-
--- a transfer with n bytes of data joins the frame r
-abbrev pub joinTurn : Opening → Run → Header → ℕ → Ended → ℕ → Turn
-joinTurn o r h n ended gone =
-    record {
-      track = record { phase = phaseOf (h .eof) (joinedOf o r h n); gap = false };
-      answer = record { ended = ended; fate = fateOf (h .eof) (joinedOf o r h n) };
-      gone = gone;
-      bytes = r .bytes + n;
-      at = r .fill;
-      len = writtenOf (faultOf o r h n) n;
-    }
-
-abbrev pub strayTurn : Bool → ℕ → Turn
-strayTurn fid n =
-    record {
-      track = record { phase = Past fid; gap = false };
-      answer = record { ended = Nothing; fate = Stray };
-      gone = 0;
-      bytes = n;
-      at = 0;
-      len = 0;
-    }
-
-abbrev pub turnBy : Phase → Opening → Bool → Header → ℕ → Turn
-turnBy Fresh o gap h n = joinTurn o (begunOf gap (h .fid)) h n Nothing 0
-turnBy (Under r) o gap h n =
-    pick (sameOf (r .fid) (h .fid)) (joinTurn o r h n Nothing 0)
-    (joinTurn o (begunOf gap (h .fid)) h n (Frame (whyOf (r .fault) Cut)) (r .bytes))
-turnBy (Past fid) o gap h n = pick (sameOf fid (h .fid)) (strayTurn fid n) (joinTurn o (begunOf gap (h .fid)) h n Nothing 0)
-
--- a readable transfer with n bytes of data
-unfoldable pub turnOf : Opening → Track → Header → ℕ → Turn
-turnOf o t h n = turnBy (t .phase) o (t .gap) h n
-
--- an unreadable or lost transfer: a gap for the frame under way, and for one that begins next
-abbrev pub spoiltBy : Phase → Phase
-spoiltBy Fresh = Fresh
-spoiltBy (Past fid) = Past fid
-spoiltBy (Under r) =
-    Under (record { fid = r .fid; fault = firstOf (r .fault) true Gap; bytes = r .bytes; fill = r .fill; stamp = r .stamp })
-
-unfoldable pub spoiltOf : Track → Track
-spoiltOf t = record { phase = spoiltBy (t .phase); gap = true }
-
--- close ends a frame under way
-abbrev pub closedBy : Phase → Bool → Shut
-closedBy Fresh gap = record { track = record { phase = Fresh; gap = gap }; ended = Nothing; gone = 0 }
-closedBy (Past fid) gap = record { track = record { phase = Past fid; gap = gap }; ended = Nothing; gone = 0 }
-closedBy (Under r) gap =
-    record { track = record { phase = Past (r .fid); gap = gap }; ended = Frame (whyOf (r .fault) Cut); gone = r .bytes }
-
-unfoldable pub closedOf : Track → Shut
-closedOf t = closedBy (t .phase) (t .gap)
-
--- there is room for one transfer's data more
-abbrev pub Roomy : Phase → Type 0
-Roomy Fresh = Unit {0}
-Roomy (Past fid) = Unit {0}
-Roomy (Under r) = (r .bytes < 2 ^ 62) × (r .fill < 2 ^ 62)
 
 -- the account under way: one frame and its data so far, if there is one
 abbrev pub underCount : Phase → ℕ
@@ -160,3 +17,13 @@ abbrev pub underBytes : Phase → ℕ
 underBytes Fresh = 0
 underBytes (Past fid) = 0
 underBytes (Under r) = r .bytes
+
+-- a frame is filled to no more than the frame size, and while it has no fault with all its data
+pub record Filled (o : Opening) (r : Run) : Type 0 where
+  pub within : r .fill ≤ o .frame
+  pub whole : r .fault ≡ Sound → r .fill ≡ r .bytes
+
+abbrev pub FilledBy : Opening → Phase → Type 0
+FilledBy o Fresh = Unit {0}
+FilledBy o (Past fid) = Unit {0}
+FilledBy o (Under r) = Filled o r

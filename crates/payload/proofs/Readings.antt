@@ -11,7 +11,7 @@ use Rattle.rules.specs.Pick.{pick}
 use Rattle.rules.specs.Numbered.{firstFrom, Up, Down}
 use Rattle.rules.proofs.Numbered.{up-above, none-up, none-first, first-zero, first-up, first-low, up-first}
 use Rattle.payload.specs.Transfer.{flagOf, flagsAt, needOf, transferFlags, headerOf, sorted, readingOf}
-use Rattle.payload.specs.declared.Opening.{Opening}
+use Rattle.sizes.specs.declared.Opening.{Opening}
 use Rattle.payload.specs.declared.Header.{Header}
 use Rattle.payload.specs.declared.Reading.the-variants.{Idle, Unreadable, Readable}
 

@@ -6,7 +6,7 @@ use mathlib.Core.Bool.{false}
 use Rattle.rules.specs.Pick.{pick}
 use Rattle.rules.specs.Numbered.{firstFrom}
 use Rattle.payload.specs.Transfer.{flagOf, needOf, transferFlags, stampOf, headerOf, readingOf}
-use Rattle.payload.specs.declared.Opening.{Opening}
+use Rattle.sizes.specs.declared.Opening.{Opening}
 use Rattle.payload.specs.declared.Stamp.the-variants.{Absent, At}
 use Rattle.payload.specs.declared.Reading.the-variants.{Unreadable, Readable}
 

@@ -7,7 +7,7 @@ use lib.Dec.{ltb, eqb}
 use Rattle.le.specs.Le.{le32At}
 use Rattle.rules.specs.Pick.{pick}
 use Rattle.rules.specs.Numbered.{firstFrom}
-use Rattle.payload.specs.declared.Opening.{Opening}
+use Rattle.sizes.specs.declared.Opening.{Opening}
 use Rattle.payload.specs.declared.Stamp.{Stamp}
 use Rattle.payload.specs.declared.Stamp.the-variants.{Absent, At}
 use Rattle.payload.specs.declared.Header.{Header}

@@ -7,6 +7,7 @@ ghost use lib.Dec.{ltb};
 ghost use Rattle.rules.specs.Pick.{pick};
 ghost use Rattle.rules.specs.Numbered.{firstFrom};
 ghost use Rattle.payload.specs.Transfer.{flagOf, needOf, stampOf, headerOf, transferFlags, readingOf};
+use sizes::Opening;
 
 // The bits of byte 1 that are read; D5, still, is ignored.
 const FID: u8 = 0;
@@ -27,12 +28,6 @@ const BARE: usize = 2;
 const PTS_BYTES: usize = 4;
 
 const SCR_BYTES: usize = 6;
-
-// What a session is opened with, passed whole: the negotiated frame size and payload size.
-pub struct Opening {
-    pub frame: usize,
-    pub payload: usize,
-}
 
 // A presentation time, or none.
 pub enum Stamp {

@@ -2,20 +2,20 @@
 use Prim.Native.Nat.{ℕ}
 use mathlib.Core.Path.{_≡_}
 use mathlib.Core.List.{List, [], _∷_, _++_, map}
-use lib.ListN.{length, replicate}
+use lib.ListN.{replicate}
 use Rattle.rules.specs.declared.Verdict.the-variants.{Accepted}
 use Rattle.entities.specs.Table.{noTable}
-use Rattle.control.specs.declared.Control.{Control}
 use Rattle.control.specs.Answer.{ControlIs, refusedBy}
-use Rattle.payload.specs.declared.Opening.{Opening}
+use Rattle.sizes.specs.declared.Opening.{Opening}
 use Rattle.frames.specs.declared.Fate.{Fate}
 use Rattle.ledger.specs.declared.Step.the-variants.{Forward, Backward}
 use Rattle.ledger.specs.Step.{stepOf}
 use Rattle.session.specs.declared.Outcome.{Outcome}
 use Rattle.session.specs.Refusals.{ledgerOf}
 use Rattle.session.specs.Session.{fresh, plainly, takeOf}
-use Rattle.books.specs.Rule.{Call, entries, numbersOf}
-use Rattle.books.specs.Calls.{Offer, after}
+use Rattle.books.specs.Rule.{entries, numbersOf}
+use Rattle.session.specs.Call.{Call}
+use Rattle.session.specs.Calls.{Offer, after}
 
 -- a header of n bytes in all, and a selector with ID 5 and one source
 abbrev pub header : ℕ → List ℕ

@@ -1,9 +1,8 @@
 -- Laws of a session.
 pub mod Checks
-pub mod Parts
-pub mod Row50
 pub mod Ready
 pub mod Calls
+pub mod Row50
 pub mod Refused
 pub mod Writes
 pub mod Unique

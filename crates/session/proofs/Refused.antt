@@ -8,6 +8,7 @@ use lib.ListN.{length}
 use Rattle.rules.specs.Numbered.{Row, firstFrom, firstRow, Up, Given, here, later, NoneOf}
 use Rattle.rules.proofs.Numbered.{up-above, none-up, none-first, first-up, first-low, up-first}
 use Rattle.rules.proofs.Rows.{Numbered, given-row, row-first, none-row, row-none}
+use Rattle.sizes.specs.declared.Opening.{Opening}
 use Rattle.payload.specs.declared.Reading.{Reading}
 use Rattle.payload.specs.declared.Reading.the-variants.{Idle, Unreadable, Readable}
 use Rattle.payload.specs.Transfer.{readingOf}
@@ -46,7 +47,7 @@ from-given rows k p g = (given-row g, given-positive p g)
 -- ---- take
 pub took-taken : (s : Session) (t : List ℕ) → (a : Answer) × (tookOf s t .outcome ≡ Outcome.Taken a)
 unfolding tookOf readOf
-took-taken s t = go (readingOf (s .opening) t)
+took-taken s t = go (readingOf (s .rest .opening) t)
   where
     go : (r : Reading) → (a : Answer) × (tookBy r s t .outcome ≡ Outcome.Taken a)
     go Idle = (_, refl)
@@ -164,38 +165,38 @@ module _ (s : Session) where
       go (suc n) e = refl
 
 -- ---- open: 45, 46, 47
-module _ (frame payload room : ℕ) where
-  open-to : (n k : ℕ) → openBy n frame payload .start ≡ Start.Refused k → (n ≡ k) × (0 < k)
+module _ (o : Opening) (room : ℕ) where
+  open-to : (n k : ℕ) → openBy n o .start ≡ Start.Refused k → (n ≡ k) × (0 < k)
   open-to zero k e = let z : _≡_ {A = ℕ} 0 1 = cc in absurd (omega arith)
   open-to (suc n) k e = let q : suc n ≡ k = cc in (q, omega arith)
 
-  open-from : (n k : ℕ) → (n ≡ k) × (0 < k) → openBy n frame payload .start ≡ Start.Refused k
+  open-from : (n k : ℕ) → (n ≡ k) × (0 < k) → openBy n o .start ≡ Start.Refused k
   open-from zero k p = absurd (omega arith)
   open-from (suc n) k p = rw (p .0)
 
-  open-open : (n : ℕ) → openBy n frame payload .start ≡ Start.Open → n ≡ 0
+  open-open : (n : ℕ) → openBy n o .start ≡ Start.Open → n ≡ 0
   open-open zero e = refl
   open-open (suc n) e = let z : _≡_ {A = ℕ} 0 1 = cc in absurd (omega arith)
 
   abbrev pub Breaks : ℕ → Type 0
-  Breaks k = Up 45 (openingFlags frame payload room) k
+  Breaks k = Up 45 (openingFlags o room) k
 
-  broken : (k : ℕ) → (firstFrom 45 (openingFlags frame payload room) ≡ k) × (0 < k) → Breaks k × ((j : ℕ) → j < k → Breaks j → ⊥)
+  broken : (k : ℕ) → (firstFrom 45 (openingFlags o room) ≡ k) × (0 < k) → Breaks k × ((j : ℕ) → j < k → Breaks j → ⊥)
   broken zero p = absurd (omega arith)
-  broken (suc k) p = (first-up 45 (openingFlags frame payload room) k (p .0), λ j. first-low 45 (openingFlags frame payload room) k j (p .0))
+  broken (suc k) p = (first-up 45 (openingFlags o room) k (p .0), λ j. first-low 45 (openingFlags o room) k j (p .0))
 
   -- refused by k exactly when k is broken and none below it is
-  pub open-refused-exactly : (k : ℕ) → (openOf frame payload room .start ≡ Start.Refused k) ↔ (Breaks k × ((j : ℕ) → j < k → Breaks j → ⊥))
+  pub open-refused-exactly : (k : ℕ) → (openOf o room .start ≡ Start.Refused k) ↔ (Breaks k × ((j : ℕ) → j < k → Breaks j → ⊥))
   unfolding openOf
   open-refused-exactly k = (
-    λ e. broken k (open-to (firstFrom 45 (openingFlags frame payload room)) k e),
-    λ p. open-from (firstFrom 45 (openingFlags frame payload room)) k
-        (up-first 45 (openingFlags frame payload room) k (p .0) (p .1), omega (arith, up-above 45 (openingFlags frame payload room) k (p .0))),
+    λ e. broken k (open-to (firstFrom 45 (openingFlags o room)) k e),
+    λ p. open-from (firstFrom 45 (openingFlags o room)) k
+        (up-first 45 (openingFlags o room) k (p .0) (p .1), omega (arith, up-above 45 (openingFlags o room) k (p .0))),
   )
 
-  pub open-open-exactly : (openOf frame payload room .start ≡ Start.Open) ↔ ((k : ℕ) → Breaks k → ⊥)
+  pub open-open-exactly : (openOf o room .start ≡ Start.Open) ↔ ((k : ℕ) → Breaks k → ⊥)
   unfolding openOf
   open-open-exactly = (
-    λ e. none-up 45 (openingFlags frame payload room) (omega arith) (open-open (firstFrom 45 (openingFlags frame payload room)) e),
-    λ h. rw (none-first 45 (openingFlags frame payload room) h),
+    λ e. none-up 45 (openingFlags o room) (omega arith) (open-open (firstFrom 45 (openingFlags o room)) e),
+    λ h. rw (none-first 45 (openingFlags o room) h),
   )

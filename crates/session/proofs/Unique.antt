@@ -3,9 +3,9 @@ use Prim.Native.Nat.{ℕ}
 use mathlib.Core.Path.{_≡_, sym, ap, _∙_}
 use mathlib.Core.List.{List}
 use lib.ListN.{length}
+use Rattle.sizes.specs.declared.Opening.{Opening}
 use Rattle.ledger.specs.declared.Ledger.{Ledger}
 use Rattle.session.specs.declared.Session.{Session}
-use Rattle.session.specs.declared.Rest.{Rest}
 use Rattle.session.specs.declared.RestTaken.{RestTaken}
 use Rattle.session.specs.declared.RestReported.{RestReported}
 use Rattle.session.specs.declared.RestClosed.{RestClosed}
@@ -14,10 +14,11 @@ use Rattle.session.specs.declared.Taken.{Taken}
 use Rattle.session.specs.declared.Reported.{Reported}
 use Rattle.session.specs.declared.Closed.{Closed}
 use Rattle.session.specs.Refusals.{ledgerOf}
-use Rattle.session.specs.Session.{openOf, takeOf, bufferOf, lostOf, closeOf, restOf, wholeOf, takenWith, reportedWith, closedWith}
+use Rattle.session.specs.Session.{openOf, takeOf, bufferOf, lostOf, closeOf}
+use Rattle.session.specs.Inner.{takenWith, reportedWith, closedWith}
 
-pub open-unique : (frame payload room : ℕ) (x y : Opened) → x ≡ openOf frame payload room → y ≡ openOf frame payload room → x ≡ y
-open-unique frame payload room x y p q = p ∙ sym q
+pub open-unique : (o : Opening) (room : ℕ) (x y : Opened) → x ≡ openOf o room → y ≡ openOf o room → x ≡ y
+open-unique o room x y p q = p ∙ sym q
 
 pub ledger-unique : (s : Session) (x y : Ledger) → x ≡ ledgerOf s → y ≡ ledgerOf s → x ≡ y
 ledger-unique s x y p q = p ∙ sym q
@@ -35,26 +36,20 @@ pub close-unique : (s : Session) (x y : Closed) → x ≡ closeOf s → y ≡ cl
 close-unique s x y p q = p ∙ sym q
 
 -- the same of the calls on the record's two parts
-pub rest-unique : (s : Session) (x y : Rest) → x ≡ restOf s → y ≡ restOf s → x ≡ y
-rest-unique s x y p q = p ∙ sym q
-
-pub whole-unique : (r : Rest) (m : List ℕ) (x y : Session) → x ≡ wholeOf r m → y ≡ wholeOf r m → x ≡ y
-whole-unique r m x y p q = p ∙ sym q
-
 pub rest-take-unique : (t : Taken) (x y : RestTaken) (m k : List ℕ) → takenWith x m ≡ t → takenWith y k ≡ t → (x ≡ y) × (m ≡ k)
 rest-take-unique t x y m k p q = (
-  ap (λ (z : Taken). record { rest = restOf (z .session); outcome = z .outcome }) (p ∙ sym q),
-  ap (λ (z : Taken). z .session .ledger .numbers) (p ∙ sym q),
+  ap (λ (z : Taken). record { rest = z .session .rest; outcome = z .outcome }) (p ∙ sym q),
+  ap (λ (z : Taken). z .session .numbers) (p ∙ sym q),
 )
 
 pub rest-lost-unique : (t : Reported) (x y : RestReported) (m k : List ℕ) → reportedWith x m ≡ t → reportedWith y k ≡ t → (x ≡ y) × (m ≡ k)
 rest-lost-unique t x y m k p q = (
-  ap (λ (z : Reported). record { rest = restOf (z .session); report = z .report }) (p ∙ sym q),
-  ap (λ (z : Reported). z .session .ledger .numbers) (p ∙ sym q),
+  ap (λ (z : Reported). record { rest = z .session .rest; report = z .report }) (p ∙ sym q),
+  ap (λ (z : Reported). z .session .numbers) (p ∙ sym q),
 )
 
 pub rest-close-unique : (t : Closed) (x y : RestClosed) (m k : List ℕ) → closedWith x m ≡ t → closedWith y k ≡ t → (x ≡ y) × (m ≡ k)
 rest-close-unique t x y m k p q = (
-  ap (λ (z : Closed). record { rest = restOf (z .session); closing = z .closing }) (p ∙ sym q),
-  ap (λ (z : Closed). z .session .ledger .numbers) (p ∙ sym q),
+  ap (λ (z : Closed). record { rest = z .session .rest; closing = z .closing }) (p ∙ sym q),
+  ap (λ (z : Closed). z .session .numbers) (p ∙ sym q),
 )

@@ -18,17 +18,9 @@ use Rattle.copier.proofs.Written as copied
 use Rattle.session.specs.declared.Session.{Session}
 use Rattle.session.specs.Refusals.{takeRows}
 use Rattle.session.specs.Session.{turned, tookBuffer, bufferOf}
+use Rattle.session.specs.Writes.{Wrote}
 use Rattle.session.proofs.Ready.{ready-able, sits}
 use Rattle.session.proofs.Calls.{take-ready}
-
--- new is old with the first len bytes of src from at on
-pub record Wrote (old new src : List ℕ) (at len : ℕ) : Type 0 where
-  pub inside : at + len ≤ length old
-  pub enough : len ≤ length src
-  pub same-length : length new ≡ length old
-  pub written : (i : ℕ) → i < len → getD new (at + i) 0 ≡ getD src i 0
-  pub before : (i : ℕ) → i < at → getD new i 0 ≡ getD old i 0
-  pub after : (i : ℕ) → at + len ≤ i → getD new i 0 ≡ getD old i 0
 
 wrote : (old src : List ℕ) (at len : ℕ) → at + len ≤ length old → len ≤ length src → Wrote old (paste old at src len) src at len
 wrote old src at len f e =
@@ -51,15 +43,15 @@ module _ (s : Session) (buffer t : List ℕ) where
   bare o = rw (none-row (takeRows s (length buffer) (length t)) o)
 
   -- an idle or unreadable transfer writes nothing
-  pub idle-writes-nothing : Open → readingOf (s .opening) t ≡ Idle → bufferOf s buffer t ≡ buffer
+  pub idle-writes-nothing : Open → readingOf (s .rest .opening) t ≡ Idle → bufferOf s buffer t ≡ buffer
   unfolding tookBuffer
   idle-writes-nothing o e = bare o ∙ rw e
 
-  pub unreadable-writes-nothing : (k : ℕ) → Open → readingOf (s .opening) t ≡ Unreadable k → bufferOf s buffer t ≡ buffer
+  pub unreadable-writes-nothing : (k : ℕ) → Open → readingOf (s .rest .opening) t ≡ Unreadable k → bufferOf s buffer t ≡ buffer
   unfolding tookBuffer
   unreadable-writes-nothing k o e = bare o ∙ rw e
 
-  module _ (h : Header) (o : Open) (e : readingOf (s .opening) t ≡ Readable h) where
+  module _ (h : Header) (o : Open) (e : readingOf (s .rest .opening) t ≡ Readable h) where
     abbrev pub turn : Turn
     turn = turned s h (length t - h .len)
 
@@ -72,11 +64,11 @@ module _ (s : Session) (buffer t : List ℕ) where
     faulted-writes-nothing z = pasted ∙ rw z (sym (paste-zero buffer (turn .at) (drop (h .len) t)))
 
     -- a readable transfer: the data after its header
-    pub readable-writes : length (s .ledger .numbers) ≡ numberCount → s .taken < 2 ^ 32 →
+    pub readable-writes : length (s .numbers) ≡ numberCount → s .rest .taken < 2 ^ 32 →
         Wrote buffer (bufferOf s buffer t) (drop (h .len) t) (turn .at) (turn .len)
     readable-writes places few =
         let f = take-ready s places few (length buffer) (length t) 0 (sym (none-row (takeRows s (length buffer) (length t)) o)) refl in
         let q = sits s (ready-able s (f .ready)) h (length t - h .len) turn refl in
-        let l = readable-fits (s .opening) t h e in
+        let l = readable-fits (s .rest .opening) t h e in
         rw pasted (wrote buffer (drop (h .len) t) (turn .at) (turn .len) (omega (arith, q .inside, f .whole))
         (rw length-drop (omega (arith, q .short))))

@@ -3,41 +3,42 @@
 mod check;
 
 ghost use mathlib.Core.Path.{_≡_};
-ghost use Prim.Native.Nat.{_-_, _+_, _<_, _≤_};
+ghost use Prim.Native.Nat.{_-_, _+_, _<_, _≤_, _^_};
 ghost use lib.ListN.{length};
-ghost use Rattle.payload.specs.Transfer.{readingOf};
 ghost use Rattle.ledger.specs.Accounts.{numberCount};
-ghost use Rattle.session.specs.Session.{openOf, newSession, countedRest, readOf, readBuffer, tookOf, tookBuffer, takeOf, bufferOf, lostOf, closeOf, restOf, wholeOf, takenWith, reportedWith, closedWith};
-ghost use Rattle.session.specs.Refusals.{transferMost, takenMost, Ready, ledgerOf};
+ghost use Rattle.ledger.specs.Inner.{ledgerWith, fateBytes, Room};
+ghost use Rattle.rule_50.specs.Rule50.{transferMost};
+ghost use Rattle.session.specs.Refusals.{takenMost, ledgerOf};
+ghost use Rattle.session.specs.Session.{openOf, newSession, takenBy, readOf, readBuffer, tookOf, tookBuffer, takeOf, bufferOf, lostOf, closeOf};
+ghost use Rattle.session.specs.Inner.{wholeOf, takenWith, reportedWith, closedWith, Ready};
 use frames::Answer;
 use frames::Ended;
-use frames::Fate;
 use frames::Phase;
 use frames::Track;
+use frames::Turn;
 use ledger::Account;
 use ledger::Ledger;
 use ledger::Numbers;
 use payload::Header;
-use payload::Opening;
 use payload::Reading;
 use payload::Stamp;
+use sizes::Opening;
 
+// A session record, in two parts: taking it apart is access to a field.
 pub struct Session {
+    pub rest: Rest,
+    // What is posted so far; the frame under way is in the track.
+    pub numbers: Numbers,
+}
+
+// All but the ledger's numbers.
+pub struct Rest {
     pub opening: Opening,
     pub closed: bool,
     // Transfers taken: idle, unreadable and lost ones too.
     pub taken: u32,
     pub track: Track,
-    // What is posted so far; the frame under way is in the track.
-    pub ledger: Ledger,
-}
-
-// A session record but for its ledger's numbers.
-pub struct Rest {
-    pub opening: Opening,
-    pub closed: bool,
-    pub taken: u32,
-    pub track: Track,
+    // The stamp of the last delivered frame that has one.
     pub last: Stamp,
 }
 
@@ -100,29 +101,35 @@ pub struct RestClosed {
     pub closing: Closing,
 }
 
-// A session with a track and a fresh ledger.
+// A session with no transfer taken and a fresh ledger.
 fn with(opening: Opening, closed: bool) -> Session
     ensures { λ r. ⌜ r ≡ newSession opening closed ⌝ }
 {
+    let l = Ledger::new();
+    let numbers = l.numbers;
+    let last = l.last;
     Session {
-        opening,
-        closed,
-        taken: 0,
-        track: Track {
-            phase: Phase::Fresh,
-            gap: false,
+        rest: Rest {
+            opening,
+            closed,
+            taken: 0,
+            track: Track {
+                phase: Phase::Fresh,
+                gap: false,
+            },
+            last,
         },
-        ledger: Ledger::new(),
+        numbers,
     }
 }
 
 impl Session {
     // Opens a session on the negotiated sizes, with the buffer that frames will be written to.
     // A refused opening gives a closed session with no sizes, which every call refuses by 50.
-    pub fn open(frame: usize, payload: usize, buffer: &[u8]) -> Opened
-        ensures { λ r. ⌜ r ≡ openOf frame payload (length (now (buffer .entry))) ⌝ }
+    pub fn open(o: Opening, buffer: &[u8]) -> Opened
+        ensures { λ r. ⌜ r ≡ openOf o (length (now (buffer .entry))) ⌝ }
     {
-        let number = check::opening_refusal(frame, payload, buffer.len());
+        let number = check::opening_refusal(o, buffer.len());
         if number != 0 {
             let session = with(
                 Opening {
@@ -136,7 +143,7 @@ impl Session {
                 start: Start::Refused(number),
             };
         }
-        let session = with(Opening { frame, payload }, false);
+        let session = with(o, false);
         Opened {
             session,
             start: Start::Open,
@@ -147,35 +154,13 @@ impl Session {
     pub fn ledger(self) -> Ledger
         ensures { λ r. ⌜ r ≡ ledgerOf self ⌝ }
     {
-        let l = self.ledger;
-        let t = self.track;
-        let p = t.phase;
+        let rest = self.rest;
+        let numbers = self.numbers;
+        let last = rest.last;
+        let track = rest.track;
+        let p = track.phase;
+        let l = Ledger { numbers, last };
         l.shown(p)
-    }
-
-    // The numbers of its ledger, without the frame under way.
-    pub fn numbers(self) -> Numbers
-        ensures { λ r. ⌜ (r ≡ self .ledger .numbers) × (length r ≡ numberCount) ⌝ }
-    {
-        let l = self.ledger;
-        l.numbers
-    }
-
-    // The record but for its ledger's numbers.
-    pub fn rest(self) -> Rest
-        ensures { λ r. ⌜ r ≡ restOf self ⌝ }
-    {
-        let opening = self.opening;
-        let track = self.track;
-        let l = self.ledger;
-        let last = l.last;
-        Rest {
-            opening,
-            closed: self.closed,
-            taken: self.taken,
-            track,
-            last,
-        }
     }
 
     // Takes one transfer. A refused call changes no byte of the buffer and gives the session back as it was.
@@ -183,14 +168,16 @@ impl Session {
         ensures { λ r. ⌜ r ≡ takeOf self (length (now (buffer .entry))) (now (t .entry)) ⌝ }
         ensures { λ _. ⌜ now (buffer .exit) ≡ bufferOf self (now (buffer .entry)) (now (t .entry)) ⌝ }
     {
-        let l = self.ledger;
-        let mut numbers = l.numbers;
-        let rest = self.rest();
+        let rest = self.rest;
+        let mut numbers = self.numbers;
         let taken = rest.take(&mut numbers, buffer, t);
         let next = taken.rest;
         let outcome = taken.outcome;
         Taken {
-            session: next.whole(numbers),
+            session: Session {
+                rest: next,
+                numbers,
+            },
             outcome,
         }
     }
@@ -199,14 +186,16 @@ impl Session {
     pub fn lost(self) -> Reported
         ensures { λ r. ⌜ r ≡ lostOf self ⌝ }
     {
-        let l = self.ledger;
-        let mut numbers = l.numbers;
-        let rest = self.rest();
+        let rest = self.rest;
+        let mut numbers = self.numbers;
         let reported = rest.lost(&mut numbers);
         let next = reported.rest;
         let report = reported.report;
         Reported {
-            session: next.whole(numbers),
+            session: Session {
+                rest: next,
+                numbers,
+            },
             report,
         }
     }
@@ -215,48 +204,41 @@ impl Session {
     pub fn close(self) -> Closed
         ensures { λ r. ⌜ r ≡ closeOf self ⌝ }
     {
-        let l = self.ledger;
-        let mut numbers = l.numbers;
-        let rest = self.rest();
+        let rest = self.rest;
+        let mut numbers = self.numbers;
         let closed = rest.close(&mut numbers);
         let next = closed.rest;
         let closing = closed.closing;
         Closed {
-            session: next.whole(numbers),
+            session: Session {
+                rest: next,
+                numbers,
+            },
             closing,
         }
     }
 }
 
 impl Rest {
-    // The record, with its ledger's numbers.
-    pub fn whole(self, numbers: Numbers) -> Session
-        ensures { λ r. ⌜ r ≡ wholeOf self numbers ⌝ }
+    // One more taken, as the turn says: its answer is posted, whether the transfer is idle, unreadable or readable.
+    fn posted(self, m: &mut Numbers, turn: Turn) -> RestTaken
+        requires { ⌜ (Room (2 ^ 63 + 2 ^ 59) (now m)) × (turn .gone ≤ 2 ^ 50) × (fateBytes (turn .answer .fate) (turn .bytes) ≤ 2 ^ 50) × (self .taken < takenMost) ⌝ }
+        ensures { λ r. ⌜ takenWith r (now (m .exit)) ≡ takenBy (wholeOf self (now (m .entry))) (ledgerWith (now (m .entry)) (self .last)) turn ⌝ }
     {
+        let answer = turn.answer;
+        let was = self.last;
+        let last = Ledger::answered(m, was, answer, turn.gone, turn.bytes);
         let opening = self.opening;
-        let track = self.track;
-        let last = self.last;
-        Session {
-            opening,
-            closed: self.closed,
-            taken: self.taken,
-            track,
-            ledger: Ledger { numbers, last },
-        }
-    }
-
-    // One more taken, with this track and last stamp.
-    fn counted(self, track: Track, last: Stamp) -> Rest
-        requires { ⌜ self .taken < takenMost ⌝ }
-        ensures { λ r. ⌜ r ≡ countedRest self track last ⌝ }
-    {
-        let opening = self.opening;
-        Rest {
-            opening,
-            closed: self.closed,
-            taken: self.taken + 1,
-            track,
-            last,
+        let track = turn.track;
+        RestTaken {
+            rest: Rest {
+                opening,
+                closed: self.closed,
+                taken: self.taken + 1,
+                track,
+                last,
+            },
+            outcome: Outcome::Taken(answer),
         }
     }
 
@@ -274,15 +256,8 @@ impl Rest {
         let at = turn.at;
         let k = turn.len;
         copier::put(buffer, at, &t[from..from + k]);
-        let answer = turn.answer;
-        let was = self.last;
         Ledger::entered(m, Account::Headers, from as u64);
-        let last = Ledger::answered(m, was, answer, turn.gone, turn.bytes);
-        let next = turn.track;
-        RestTaken {
-            rest: self.counted(next, last),
-            outcome: Outcome::Taken(answer),
-        }
+        self.posted(m, turn)
     }
 
     // A transfer that nothing refuses.
@@ -293,29 +268,10 @@ impl Rest {
     {
         let o = self.opening;
         let track = self.track;
-        let last = self.last;
         let reading = payload::read(o, t);
         match reading {
-            Reading::Idle => {
-                Ledger::plus(m, Ledger::IDLE, 1);
-                RestTaken {
-                    rest: self.counted(track, last),
-                    outcome: Outcome::Taken(Answer {
-                        ended: Ended::Nothing,
-                        fate: Fate::Idle,
-                    }),
-                }
-            }
-            Reading::Unreadable(number) => {
-                Ledger::entered(m, Account::Unreadable, t.len() as u64);
-                RestTaken {
-                    rest: self.counted(track.spoilt(), last),
-                    outcome: Outcome::Taken(Answer {
-                        ended: Ended::Nothing,
-                        fate: Fate::Unreadable(number),
-                    }),
-                }
-            }
+            Reading::Idle => self.posted(m, track.idle()),
+            Reading::Unreadable(number) => self.posted(m, track.unread(number, t.len())),
             Reading::Readable(h) => self.read(m, buffer, t, h),
         }
     }
@@ -327,8 +283,8 @@ impl Rest {
         ensures { λ r. ⌜ takenWith r (now (m .exit)) ≡ takeOf (wholeOf self (now (m .entry))) (length (now (buffer .entry))) (now (t .entry)) ⌝ }
         ensures { λ _. ⌜ now (buffer .exit) ≡ bufferOf (wholeOf self (now (m .entry))) (now (buffer .entry)) (now (t .entry)) ⌝ }
     {
-        let posted = check::posted_broken(m, self.taken);
-        let number = check::take_refusal(posted, self, buffer.len(), t.len());
+        let broken = check::broken(self, m);
+        let number = check::take_refusal(broken, self, buffer.len(), t.len());
         if number != 0 {
             return RestTaken {
                 rest: self,
@@ -343,19 +299,26 @@ impl Rest {
         requires { ⌜ length (now m) ≡ numberCount ⌝ }
         ensures { λ r. ⌜ reportedWith r (now (m .exit)) ≡ lostOf (wholeOf self (now (m .entry))) ⌝ }
     {
-        let posted = check::posted_broken(m, self.taken);
-        let number = check::lost_refusal(posted, self);
+        let broken = check::broken(self, m);
+        let number = check::lost_refusal(broken, self.closed, self.taken);
         if number != 0 {
             return RestReported {
                 rest: self,
                 report: Report::Refused(number),
             };
         }
+        let opening = self.opening;
         let track = self.track;
         let last = self.last;
         Ledger::plus(m, Ledger::LOST, 1);
         RestReported {
-            rest: self.counted(track.spoilt(), last),
+            rest: Rest {
+                opening,
+                closed: self.closed,
+                taken: self.taken + 1,
+                track: track.spoilt(),
+                last,
+            },
             report: Report::Noted,
         }
     }
@@ -365,8 +328,8 @@ impl Rest {
         requires { ⌜ length (now m) ≡ numberCount ⌝ }
         ensures { λ r. ⌜ closedWith r (now (m .exit)) ≡ closeOf (wholeOf self (now (m .entry))) ⌝ }
     {
-        let posted = check::posted_broken(m, self.taken);
-        let number = check::close_refusal(posted, self);
+        let broken = check::broken(self, m);
+        let number = check::close_refusal(broken, self.closed);
         if number != 0 {
             return RestClosed {
                 rest: self,

@@ -5,7 +5,7 @@ use mathlib.Core.Bool.{Bool, true, false, _||_, true≢false}
 use native.Mathlib.Omega.{arith}
 use lib.Dec.{eqb, ltb}
 use borrow.Author.Tests.{eq-eqb, ne-eqb, lt-ltb, eqb-false, ltb-false}
-use Rattle.sizes.specs.Sizes.{frameMost, payloadLeast, payloadMost, frameSizeBroken, payloadSizeBroken}
+use Rattle.sizes.specs.Sizes.{frameMost, payloadLeast, payloadMost, frameSizeBroken, payloadSizeBroken, Between}
 
 pub frame-none : (n : ℕ) → n ≡ 0 → true ≡ frameSizeBroken n
 unfolding frameSizeBroken
@@ -30,10 +30,6 @@ or-left false b h = refl
 or-right : (a b : Bool) → (a || b) ≡ false → b ≡ false
 or-right true b h = absurd (true≢false h)
 or-right false b h = h
-
-pub record Between (least n most : ℕ) : Type 0 where
-  pub low : least ≤ n
-  pub high : n ≤ most
 
 not-zero : (n : ℕ) → (n ≡ 0 → ⊥) → 1 ≤ n
 not-zero n h = omega arith

@@ -12,9 +12,6 @@ use Rattle.payload.specs.Transfer.{readingOf}
 use Rattle.session.specs.declared.Session.{Session}
 use Rattle.session.specs.Session.{fresh, readOf, tookBy, tookOf}
 use Rattle.rules.proofs.Rows.{or-first}
-use Rattle.books.specs.Rule.{Call}
-use Rattle.books.specs.Calls.{refusal, next, nextCall}
-use Rattle.books.specs.Demands.{offerWith, bufferNext}
 use Rattle.books.proofs.Taken.{next-taken}
 use Rattle.books.proofs.Whole.{same-call}
 use Rattle.books.proofs.Sound.{took-taken}
@@ -25,25 +22,27 @@ use Rattle.trace.specs.declared.State.the-variants.{Good, Bad, Refused}
 use Rattle.trace.specs.declared.Trace.{Trace}
 use Rattle.trace.proofs.Pieces.{traced-more}
 use Rattle.trace.proofs.Right.{good, state-of, on-good, on-bad, on-refused}
+use Rattle.session.specs.Call.{Call}
+use Rattle.session.specs.Calls.{refusal, next, nextCall, offerWith, bufferNext}
 
 -- ---- each good record that is taken counts one
-took-closed : (s : Session) (t : List ℕ) (r : Reading) → tookBy r s t .session .closed ≡ s .closed
+took-closed : (s : Session) (t : List ℕ) (r : Reading) → tookBy r s t .session .rest .closed ≡ s .rest .closed
 unfolding readOf
 took-closed s t Idle = refl
 took-closed s t (Unreadable k) = refl
 took-closed s t (Readable h) = refl
 
-call-number : (s : Session) (c : Call) → s .closed ≡ false → numberOf (nextCall s c) ≡ numberOf s + 1
+call-number : (s : Session) (c : Call) → s .rest .closed ≡ false → numberOf (nextCall s c) ≡ numberOf s + 1
 unfolding tookOf
 call-number s (Call.transfer t) e =
-    rw (took-taken s t (readingOf (s .opening) t), took-closed s t (readingOf (s .opening) t), e) (omega arith)
+    rw (took-taken s t (readingOf (s .rest .opening) t), took-closed s t (readingOf (s .rest .opening) t), e) (omega arith)
 call-number s Call.lost e = rw e (omega arith)
 call-number s Call.close e = rw e (omega arith)
 
-next-number : (s : Session) (b r : List ℕ) → (s .closed || recordBad r) ≡ false → refusal s (offerWith b (recordCall r)) ≡ 0 → numberOf (next s (offerWith b (recordCall r))) ≡ numberOf s + 1
+next-number : (s : Session) (b r : List ℕ) → (s .rest .closed || recordBad r) ≡ false → refusal s (offerWith b (recordCall r)) ≡ 0 → numberOf (next s (offerWith b (recordCall r))) ≡ numberOf s + 1
 next-number s b r e q =
     ap numberOf (next-taken s (offerWith b (recordCall r)) q ∙ ap (nextCall s) (same-call b (recordCall r)))
-    ∙ call-number s (recordCall r) (or-first (s .closed) (recordBad r) e)
+    ∙ call-number s (recordCall r) (or-first (s .rest .closed) (recordBad r) e)
 
 -- ---- the first bad record from a session on
 pub record BadFrom (s : Session) (b : List ℕ) (rs : List (List ℕ)) (n : ℕ) : Type 0 where
@@ -52,7 +51,7 @@ pub record BadFrom (s : Session) (b : List ℕ) (rs : List (List ℕ)) (n : ℕ)
   pub rest : List (List ℕ)
   pub split : rs ≡ before ++ (worst ∷ rest)
   pub fine : traced (good s) b before .state ≡ Good
-  pub broken : (traced (good s) b before .session .closed || recordBad worst) ≡ true
+  pub broken : (traced (good s) b before .session .rest .closed || recordBad worst) ≡ true
   pub number : n ≡ numberOf s + length before
 
 not-good : (n : ℕ) → Good ≡ Bad n → ⊥
@@ -67,9 +66,9 @@ same-bad m n e = cc
 to-bad : (rs : List (List ℕ)) (s : Session) (b : List ℕ) (n : ℕ) → traced (good s) b rs .state ≡ Bad n → BadFrom s b rs n
 to-bad [] s b n e = absurd (not-good n e)
 to-bad (r ∷ rs) s b n e =
-    go (s .closed || recordBad r) refl (refusal s (offerWith b (recordCall r))) refl (to-bad rs (next s (offerWith b (recordCall r))) (bufferNext s b (recordCall r)) n)
+    go (s .rest .closed || recordBad r) refl (refusal s (offerWith b (recordCall r))) refl (to-bad rs (next s (offerWith b (recordCall r))) (bufferNext s b (recordCall r)) n)
   where
-    go : (x : Bool) → (s .closed || recordBad r) ≡ x → (k : ℕ) → refusal s (offerWith b (recordCall r)) ≡ k
+    go : (x : Bool) → (s .rest .closed || recordBad r) ≡ x → (k : ℕ) → refusal s (offerWith b (recordCall r)) ≡ k
         → (traced (good (next s (offerWith b (recordCall r)))) (bufferNext s b (recordCall r)) rs .state ≡ Bad n → BadFrom (next s (offerWith b (recordCall r))) (bufferNext s b (recordCall r)) rs n)
         → BadFrom s b (r ∷ rs) n
     go true q k z rec =
@@ -84,7 +83,7 @@ to-bad (r ∷ rs) s b n e =
           rest = i .rest;
           split = ap (r ∷_) (i .split);
           fine = state-of step ∙ i .fine;
-          broken = ap (λ (t : Trace). t .session .closed || recordBad (i .worst)) step ∙ i .broken;
+          broken = ap (λ (t : Trace). t .session .rest .closed || recordBad (i .worst)) step ∙ i .broken;
           number = i .number ∙ omega (arith, next-number s b r q z);
         }
 
@@ -98,9 +97,9 @@ good-not-refused k n e = let z : _≡_ {A = ℕ} 0 1 = cc in omega arith
 good-number : (rs : List (List ℕ)) (s : Session) (b : List ℕ) → traced (good s) b rs .state ≡ Good → numberOf (traced (good s) b rs .session) ≡ numberOf s + length rs
 good-number [] s b e = omega arith
 good-number (r ∷ rs) s b e =
-    go (s .closed || recordBad r) refl (refusal s (offerWith b (recordCall r))) refl (good-number rs (next s (offerWith b (recordCall r))) (bufferNext s b (recordCall r)))
+    go (s .rest .closed || recordBad r) refl (refusal s (offerWith b (recordCall r))) refl (good-number rs (next s (offerWith b (recordCall r))) (bufferNext s b (recordCall r)))
   where
-    go : (x : Bool) → (s .closed || recordBad r) ≡ x → (k : ℕ) → refusal s (offerWith b (recordCall r)) ≡ k
+    go : (x : Bool) → (s .rest .closed || recordBad r) ≡ x → (k : ℕ) → refusal s (offerWith b (recordCall r)) ≡ k
         → (traced (good (next s (offerWith b (recordCall r)))) (bufferNext s b (recordCall r)) rs .state ≡ Good
         → numberOf (traced (good (next s (offerWith b (recordCall r)))) (bufferNext s b (recordCall r)) rs .session) ≡ numberOf (next s (offerWith b (recordCall r))) + length rs)
         → numberOf (traced (good s) b (r ∷ rs) .session) ≡ numberOf s + suc (length rs)

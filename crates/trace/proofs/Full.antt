@@ -9,13 +9,10 @@ use lib.Dec.{ltb, eqb}
 use borrow.Author.Tests.{le-ltb, ltb-false}
 use Rattle.rules.specs.Numbered.{orElse, firstRow}
 use Rattle.session.specs.declared.Session.{Session}
-use Rattle.session.specs.Refusals.{sizesBroken, recordBroken, lostRows, closeRows, takeRows}
+use Rattle.session.specs.Refusals.{recordBroken, lostRows, closeRows, takeRows}
 use Rattle.session.specs.Session.{fresh}
-use Rattle.sizes.specs.Sizes.{frameSizeBroken, payloadSizeBroken}
+use Rattle.sizes.specs.Sizes.{frameSizeBroken, payloadSizeBroken, sizesBroken}
 use Rattle.rules.proofs.Rows.{or-first, or-second}
-use Rattle.books.specs.Rule.{Call}
-use Rattle.books.specs.Calls.{Offer, refusal, next, after, taken}
-use Rattle.books.specs.Demands.{offerWith, bufferNext, offers, bufferAfter}
 use Rattle.books.proofs.Theorems.{never-stuck}
 use Rattle.books.proofs.Whole.{Kept, kept-all}
 use Rattle.trace.specs.Record.{lengthAt, bytesAt, recordBad, callBy, recordCall, kindAt}
@@ -24,6 +21,8 @@ use Rattle.trace.specs.declared.State.{State}
 use Rattle.trace.specs.declared.State.the-variants.{Good, Bad, Refused}
 use Rattle.trace.specs.declared.Trace.{Trace}
 use Rattle.trace.proofs.Right.{good, state-of, on-good, on-bad, on-refused}
+use Rattle.session.specs.Call.{Call}
+use Rattle.session.specs.Calls.{Offer, refusal, next, after, taken, offerWith, bufferNext, offers, bufferAfter}
 
 third : (a b c d : Bool) → (a || (b || (c || d))) ≡ false → c ≡ false
 third a b c d e = or-first c d (or-second b (c || d) (or-second a (b || (c || d)) e))
@@ -40,11 +39,11 @@ picked : (b : Bool) (k : ℕ) → orElse b 52 0 ≡ suc k → suc k ≡ 52
 picked true k e = sym e
 picked false k e = absurd (omega arith)
 
-call-full : (s : Session) (b : List ℕ) (n k : ℕ) (r : List ℕ) → recordBroken s ≡ false → s .closed ≡ false → s .opening .frame ≤ length b → length (bytesAt r) ≤ 65536
+call-full : (s : Session) (b : List ℕ) (n k : ℕ) (r : List ℕ) → recordBroken s ≡ false → s .rest .closed ≡ false → s .rest .opening .frame ≤ length b → length (bytesAt r) ≤ 65536
     → refusal s (offerWith b (callBy n r)) ≡ suc k → suc k ≡ 52
 call-full s b zero k r a c m l e =
-    picked (eqb (s .taken) 4294967295) k (sym (rw (a, c, le-ltb (length b) (s .opening .frame) m, le-ltb 65536 (length (bytesAt r)) l)) ∙ e)
-call-full s b (suc zero) k r a c m l e = picked (eqb (s .taken) 4294967295) k (sym (rw (a, c)) ∙ e)
+    picked (eqb (s .rest .taken) 4294967295) k (sym (rw (a, c, le-ltb (length b) (s .rest .opening .frame) m, le-ltb 65536 (length (bytesAt r)) l)) ∙ e)
+call-full s b (suc zero) k r a c m l e = picked (eqb (s .rest .taken) 4294967295) k (sym (rw (a, c)) ∙ e)
 call-full s b (suc (suc n)) k r a c m l e = absurd (none (sym (rw (a, c)) ∙ e))
   where
     none : _≡_ {A = ℕ} 0 (suc k) → ⊥
@@ -75,7 +74,7 @@ module _ (b₀ : List ℕ) (room : 256 ≤ length b₀) where
   unfolding sizesBroken frameSizeBroken payloadSizeBroken
   sound s b w = ap recordBroken (w .session) ∙ never-stuck sizes refl (offers (fresh sizes) b₀ (w .calls))
 
-  wide : (s : Session) (b : List ℕ) → Along s b → s .opening .frame ≤ length b
+  wide : (s : Session) (b : List ℕ) → Along s b → s .rest .opening .frame ≤ length b
   wide s b w =
       rw (w .session, w .buffer) (kept-all (w .calls) (fresh sizes) [] b₀ (record { holds = tt; fit = tt; held = tt; room = room }) .room)
 
@@ -91,15 +90,15 @@ module _ (b₀ : List ℕ) (room : 256 ≤ length b₀) where
   full-from : (rs : List (List ℕ)) (s : Session) (b : List ℕ) (k n : ℕ) → Along s b → traced (good s) b rs .state ≡ Refused k n → k ≡ 52
   full-from [] s b k n w e = absurd (not-good k n e)
   full-from (r ∷ rs) s b k n w e =
-      go (s .closed || recordBad r) refl (refusal s (offerWith b (recordCall r))) refl (full-from rs (next s (offerWith b (recordCall r))) (bufferNext s b (recordCall r)) k n (along-next s b (recordCall r) w))
+      go (s .rest .closed || recordBad r) refl (refusal s (offerWith b (recordCall r))) refl (full-from rs (next s (offerWith b (recordCall r))) (bufferNext s b (recordCall r)) k n (along-next s b (recordCall r) w))
     where
-      go : (x : Bool) → (s .closed || recordBad r) ≡ x → (j : ℕ) → refusal s (offerWith b (recordCall r)) ≡ j
+      go : (x : Bool) → (s .rest .closed || recordBad r) ≡ x → (j : ℕ) → refusal s (offerWith b (recordCall r)) ≡ j
           → (traced (good (next s (offerWith b (recordCall r)))) (bufferNext s b (recordCall r)) rs .state ≡ Refused k n → k ≡ 52) → k ≡ 52
       go true q j z rec = absurd (not-bad (numberOf s) k n (sym (state-of (on-bad s b r q rs)) ∙ e))
       go false q zero z rec = rec (sym (state-of (on-good s b r q z rs)) ∙ e)
       go false q (suc j) z rec =
           same-number (suc j) k (numberOf s) n (sym (state-of (on-refused s b r q j z rs)) ∙ e)
-          ∙ call-full s b (kindAt r) j r (sound s b w) (or-first (s .closed) (recordBad r) q) (wide s b w) (short r (or-second (s .closed) (recordBad r) q)) z
+          ∙ call-full s b (kindAt r) j r (sound s b w) (or-first (s .rest .closed) (recordBad r) q) (wide s b w) (short r (or-second (s .rest .closed) (recordBad r) q)) z
 
   -- the ledger program refuses a good record by 52 alone
   pub refused-full : (rs : List (List ℕ)) (k n : ℕ) → traced newTrace b₀ rs .state ≡ Refused k n → k ≡ 52

@@ -13,9 +13,7 @@ use Rattle.payload.specs.declared.Reading.{Reading}
 use Rattle.session.specs.declared.Session.{Session}
 use Rattle.session.specs.Refusals.{ledgerOf}
 use Rattle.session.specs.Session.{fresh}
-use Rattle.books.specs.Rule.{Call, entries, numbersOf}
-use Rattle.books.specs.Calls.{Offer, refusal, next, after, callOf, unless, taken, nextCall, run}
-use Rattle.books.specs.Demands.{offerWith, bufferNext, offers, bufferAfter}
+use Rattle.books.specs.Rule.{entries, numbersOf}
 use Rattle.books.proofs.Theorems.{numbers-right}
 use Rattle.books.proofs.Whole.{same-call}
 use Rattle.trace.specs.Record.{recordBad, recordCall}
@@ -23,6 +21,8 @@ use Rattle.trace.specs.Trace.{sizes, newTrace, numberOf, offered, readBy
 use Rattle.trace.specs.declared.State.{State}
 use Rattle.trace.specs.declared.State.the-variants.{Good, Bad, Refused}
 use Rattle.trace.specs.declared.Trace.{Trace}
+use Rattle.session.specs.Call.{Call}
+use Rattle.session.specs.Calls.{Offer, refusal, next, after, callOf, unless, taken, nextCall, run, offerWith, bufferNext, offers, bufferAfter}
 
 -- ---- a trace that went wrong stays as it is
 stays-bad : (rs : List (List ℕ)) (s : Session) (n : ℕ) (b : List ℕ) → traced (record { session = s; state = Bad n }) b rs ≡ record { session = s; state = Bad n }
@@ -54,11 +54,11 @@ good s = record { session = s; state = Good }
 
 -- ---- one record
 module _ (s : Session) (b r : List ℕ) where
-  pub step-bad : (s .closed || recordBad r) ≡ true → stepOf (good s) b r ≡ record { session = s; state = Bad (numberOf s) }
+  pub step-bad : (s .rest .closed || recordBad r) ≡ true → stepOf (good s) b r ≡ record { session = s; state = Bad (numberOf s) }
   unfolding stepOf
   step-bad e = ap (λ (x : Bool). readBy x s b (recordCall r)) e
 
-  module _ (e : (s .closed || recordBad r) ≡ false) where
+  module _ (e : (s .rest .closed || recordBad r) ≡ false) where
     pub step-refused : (k : ℕ) → refusal s (offerWith b (recordCall r)) ≡ suc k → stepOf (good s) b r ≡ record { session = s; state = Refused (suc k) (numberOf s) }
     unfolding stepOf
     step-refused k q = ap (λ (x : Bool). readBy x s b (recordCall r)) e ∙ ap (λ (n : ℕ). offered n s (next s (offerWith b (recordCall r)))) q
@@ -78,15 +78,15 @@ module _ (s : Session) (b r : List ℕ) where
     pub on-refused : (k : ℕ) → refusal s (offerWith b (recordCall r)) ≡ suc k → (rs : List (List ℕ)) → traced (good s) b (r ∷ rs) ≡ record { session = s; state = Refused (suc k) (numberOf s) }
     on-refused k q rs = ap (λ (t : Trace). traced t (stepBuffer (good s) b r) rs) (step-refused k q) ∙ stays-refused rs s (suc k) (numberOf s) (stepBuffer (good s) b r)
 
-  pub on-bad : (s .closed || recordBad r) ≡ true → (rs : List (List ℕ)) → traced (good s) b (r ∷ rs) ≡ record { session = s; state = Bad (numberOf s) }
+  pub on-bad : (s .rest .closed || recordBad r) ≡ true → (rs : List (List ℕ)) → traced (good s) b (r ∷ rs) ≡ record { session = s; state = Bad (numberOf s) }
   on-bad e rs = ap (λ (t : Trace). traced t (stepBuffer (good s) b r) rs) (step-bad e) ∙ stays-bad rs s (numberOf s) (stepBuffer (good s) b r)
 
 pub good-taken : (rs : List (List ℕ)) (s : Session) (b : List ℕ) → traced (good s) b rs .state ≡ Good → Taken s b rs
 good-taken [] s b e = record { session = refl; calls = refl }
 good-taken (r ∷ rs) s b e =
-    go (s .closed || recordBad r) refl (refusal s (offerWith b (recordCall r))) refl (good-taken rs (next s (offerWith b (recordCall r))) (bufferNext s b (recordCall r)))
+    go (s .rest .closed || recordBad r) refl (refusal s (offerWith b (recordCall r))) refl (good-taken rs (next s (offerWith b (recordCall r))) (bufferNext s b (recordCall r)))
   where
-    go : (x : Bool) → (s .closed || recordBad r) ≡ x → (k : ℕ) → refusal s (offerWith b (recordCall r)) ≡ k
+    go : (x : Bool) → (s .rest .closed || recordBad r) ≡ x → (k : ℕ) → refusal s (offerWith b (recordCall r)) ≡ k
         → (traced (good (next s (offerWith b (recordCall r)))) (bufferNext s b (recordCall r)) rs .state ≡ Good → Taken (next s (offerWith b (recordCall r))) (bufferNext s b (recordCall r)) rs)
         → Taken s b (r ∷ rs)
     go true q k z rec = absurd (good-bad (numberOf s) (sym (state-of (on-bad s b r q rs)) ∙ e))

@@ -11,10 +11,8 @@ use lib.Dec.{ltb}
 use borrow.Author.Tests.{lt-ltb, le-ltb, ltb-true, ltb-false}
 use Rattle.rules.specs.Pick.{pick}
 use Rattle.session.specs.declared.Session.{Session}
+use Rattle.session.specs.Refusals.{postedOf}
 use Rattle.session.specs.declared.Rest.{Rest}
-use Rattle.session.specs.Session.{restOf, wholeOf}
-use Rattle.books.specs.Calls.{refusal, next}
-use Rattle.books.specs.Demands.{offerWith}
 use Rattle.books.proofs.Sized.{next-sized}
 use Rattle.trace.specs.Record.{recordBad, recordCall, recordsBy, recordsOf, endOf}
 use Rattle.trace.specs.Trace.{numberOf, offered, readBy, stepOf, stepBuffer, traced, tracedBuffer, goingWith, goodOf, goodWith, isDecided}
@@ -24,6 +22,8 @@ use Rattle.trace.specs.declared.Trace.{Trace}
 use Rattle.trace.specs.declared.Going.{Going}
 use Rattle.ledger.specs.Accounts.{numberCount}
 use Rattle.ledger.proofs.Places.{Sized}
+use Rattle.session.specs.Inner.{wholeOf}
+use Rattle.session.specs.Calls.{refusal, next, offerWith}
 
 -- ---- the records of what is left
 enough : (j k : ℕ) (l : List ℕ) → length l ≤ j → length l ≤ k → recordsBy j l ≡ recordsBy k l
@@ -117,17 +117,17 @@ not-good t e rs b = go (t .state) refl e
     go (Bad n) q f = rw (with-state (Bad n) q) (bad n rs)
     go (Refused k n) q f = rw (with-state (Refused k n) q) (refused k n rs)
 
--- ---- the numbers stay twenty-seven
-module _ (s : Session) (z : Sized (s .ledger)) where
-  step-sized : (b r : List ℕ) → Sized (stepOf (record { session = s; state = Good }) b r .session .ledger)
+-- ---- the numbers stay as many
+module _ (s : Session) (z : Sized (postedOf s)) where
+  step-sized : (b r : List ℕ) → Sized (postedOf (stepOf (record { session = s; state = Good }) b r .session))
   unfolding stepOf
-  step-sized b r = go (s .closed || recordBad r)
+  step-sized b r = go (s .rest .closed || recordBad r)
     where
-      by-row : (k : ℕ) (n : Session) → Sized (n .ledger) → Sized (offered k s n .session .ledger)
+      by-row : (k : ℕ) (n : Session) → Sized (postedOf n) → Sized (postedOf (offered k s n .session))
       by-row zero n h = h
       by-row (suc k) n h = z
 
-      go : (x : Bool) → Sized (readBy x s b (recordCall r) .session .ledger)
+      go : (x : Bool) → Sized (postedOf (readBy x s b (recordCall r) .session))
       go true = z
       go false = by-row (refusal s (offerWith b (recordCall r))) (next s (offerWith b (recordCall r))) (next-sized s z (offerWith b (recordCall r)))
 
@@ -143,12 +143,6 @@ good-state : (z : State) → isDecided z ≡ false → z ≡ Good
 good-state Good e = refl
 good-state (Bad n) e = absurd (true≢false e)
 good-state (Refused k n) e = absurd (true≢false e)
-
--- a good trace in two parts is the trace itself
-pub run-whole : (s : Session) (r : Rest) (m b l : List ℕ) (y : Trace) (d : List ℕ) → r ≡ restOf s → m ≡ s .ledger .numbers →
-    (y ≡ traced (goodWith r m) b (recordsOf l)) × (d ≡ tracedBuffer (goodWith r m) b (recordsOf l)) →
-    (y ≡ traced (goodOf s) b (recordsOf l)) × (d ≡ tracedBuffer (goodOf s) b (recordsOf l))
-run-whole s r m b l y d e f z = (z .0 ∙ rw (e, f), z .1 ∙ rw (e, f))
 
 module _ (t : Trace) (b l : List ℕ) where
   -- a trace that is good goes on
@@ -179,11 +173,11 @@ module _ (t : Trace) (b l : List ℕ) where
 
   module _ (r : Rest) (m c : List ℕ) (at : ℕ) (on : Reading-on t b l r m c at) where
     -- all is read
-    pub run-ends : (y : Session) → length l ≤ at → y ≡ wholeOf r m → (goodOf y ≡ traced t b (recordsOf l)) × (c ≡ tracedBuffer t b (recordsOf l))
+    pub run-ends : length l ≤ at → (goodWith r m ≡ traced t b (recordsOf l)) × (c ≡ tracedBuffer t b (recordsOf l))
     unfolding recordsOf
-    run-ends y h w =
+    run-ends h =
         let z = drop-of-length-le l {i = at} h in (
-          ap goodOf w ∙ sym (ap (λ (y : List ℕ). traced (goodWith r m) c (recordsOf y)) z) ∙ on .trace,
+          sym (ap (λ (y : List ℕ). traced (goodWith r m) c (recordsOf y)) z) ∙ on .trace,
           sym (ap (λ (y : List ℕ). tracedBuffer (goodWith r m) c (recordsOf y)) z) ∙ on .buffer,
         )
 
@@ -205,13 +199,8 @@ module _ (t : Trace) (b l : List ℕ) where
           ∙ on .buffer
 
       -- it decides
-      pub run-decided : (x : Bool) (y : Session) → x ≡ isDecided (g .state) → x ≡ true → y ≡ wholeOf (g .rest) k →
-          (record { session = y; state = g .state } ≡ traced t b (recordsOf l)) × (d ≡ tracedBuffer t b (recordsOf l))
-      run-decided x y e f w =
-          let z = not-good (goingWith g k) (sym e ∙ f) (recordsOf (drop end l)) d in (
-            ap (λ (v : Session). record { session = v; state = g .state }) w ∙ sym (z .0) ∙ after-trace,
-            sym (z .1) ∙ after-buffer,
-          )
+      pub run-decided : (x : Bool) → x ≡ isDecided (g .state) → x ≡ true → (goingWith g k ≡ traced t b (recordsOf l)) × (d ≡ tracedBuffer t b (recordsOf l))
+      run-decided x e f = let z = not-good (goingWith g k) (sym e ∙ f) (recordsOf (drop end l)) d in (sym (z .0) ∙ after-trace, sym (z .1) ∙ after-buffer)
 
       -- the trace goes on
       pub run-on : (x : Bool) → x ≡ isDecided (g .state) → x ≡ false → Reading-on t b l (g .rest) k d end
@@ -220,7 +209,7 @@ module _ (t : Trace) (b l : List ℕ) where
             trace = ap (λ (y : Trace). traced y d (recordsOf (drop end l))) good ∙ after-trace;
             buffer = ap (λ (y : Trace). tracedBuffer y d (recordsOf (drop end l))) good ∙ after-buffer;
             within = u .within;
-            sized = ap (λ (y : Trace). length (y .session .ledger .numbers)) p ∙ step-sized (wholeOf r m) (on .sized) c (take (end - at) (drop at l));
+            sized = ap (λ (y : Trace). length (y .session .numbers)) p ∙ step-sized (wholeOf r m) (on .sized) c (take (end - at) (drop at l));
           }
         where
           good : goodWith (g .rest) k ≡ goingWith g k

@@ -28,13 +28,11 @@ use Rattle.session.specs.declared.Closed.{Closed}
 use Rattle.session.specs.declared.Closing.{Closing}
 use Rattle.session.specs.declared.Opened.{Opened}
 use Rattle.session.specs.Refusals.{openingFlags, takeRows, lostRows, closeRows, ledgerOf}
-use Rattle.session.specs.Session.{fresh, openOf, readOf, tookBy, tookOf, takeBy, takeOf, lostBy, lostOf, closeBy, closeOf, wholeOf, takenWith, reportedWith, closedWith}
+use Rattle.session.specs.Session.{fresh, openOf, readOf, tookBy, tookOf, takeBy, takeOf, lostBy, lostOf, closeBy, closeOf}
 use Rattle.payload.specs.declared.Reading.{Reading}
 use Rattle.payload.specs.declared.Reading.the-variants.{Idle, Unreadable, Readable}
 use Rattle.payload.specs.Transfer.{readingOf}
 use Rattle.rules.proofs.Rows.{or-first, or-second}
-use Rattle.books.specs.Rule.{Call}
-use Rattle.books.specs.Demands.{bufferNext}
 use Rattle.trace.specs.Record.{kindAt, lengthAt, bytesAt, anySet, recordBad, callBy, recordCall}
 use Rattle.trace.specs.Trace.{sizes, newTrace, numberOf, offered, readCall, readBy, keptBy, stepBy, stepBufferBy, stepOf, stepBuffer, printBy, reportOf, goingWith, numberRest, answeredBy}
 use Rattle.trace.specs.declared.State.{State}
@@ -42,6 +40,9 @@ use Rattle.trace.specs.declared.State.the-variants.{Good, Bad, Refused}
 use Rattle.trace.specs.declared.Trace.{Trace}
 use Rattle.trace.specs.declared.Going.{Going}
 use Rattle.trace.specs.declared.Printed.{Printed}
+use Rattle.session.specs.Inner.{wholeOf, takenWith, reportedWith, closedWith}
+use Rattle.session.specs.Call.{Call}
+use Rattle.session.specs.Calls.{bufferNext}
 
 -- ---- the next record's number
 pub number-closed : (r : Rest) → r .closed ≡ true → r .taken + 2 ≡ numberRest r
@@ -79,7 +80,7 @@ same-refused j k e = cc
 
 take-refused : (s : Session) (t : List ℕ) (n k : ℕ) → takeBy n s t .outcome ≡ Outcome.Refused k → k ≡ n
 unfolding tookOf
-take-refused s t zero k e = absurd (took-taken s t (readingOf (s .opening) t) k e)
+take-refused s t zero k e = absurd (took-taken s t (readingOf (s .rest .opening) t) k e)
 take-refused s t (suc n) k e = same-refused (suc n) k e
 
 take-taken : (s : Session) (t : List ℕ) (n : ℕ) (a : Answer) → takeBy n s t .outcome ≡ Outcome.Taken a → 0 ≡ n
@@ -254,26 +255,26 @@ Stepped t b r x y = (x ≡ stepOf t b r) × (y ≡ stepBuffer t b r)
 
 module _ (t : Trace) (b r : List ℕ) where
   module _ (e : t .state ≡ Good) where
-    read-law : (x : Bool) → (t .session .closed || recordBad r) ≡ x → stepOf t b r ≡ readBy x (t .session) b (recordCall r)
+    read-law : (x : Bool) → (t .session .rest .closed || recordBad r) ≡ x → stepOf t b r ≡ readBy x (t .session) b (recordCall r)
     unfolding stepOf
     read-law x q = ap (λ (z : State). stepBy z (t .session) b r) e ∙ ap (λ (z : Bool). readBy z (t .session) b (recordCall r)) q
 
-    kept-law : (x : Bool) → (t .session .closed || recordBad r) ≡ x → stepBuffer t b r ≡ keptBy x (t .session) b (recordCall r)
+    kept-law : (x : Bool) → (t .session .rest .closed || recordBad r) ≡ x → stepBuffer t b r ≡ keptBy x (t .session) b (recordCall r)
     unfolding stepBuffer
     kept-law x q = ap (λ (z : State). stepBufferBy z (t .session) b r) e ∙ ap (λ (z : Bool). keptBy z (t .session) b (recordCall r)) q
 
-    worst : (n : ℕ) → (t .session .closed || recordBad r) ≡ true → n ≡ numberOf (t .session) → Stepped t b r (record { session = t .session; state = Bad n }) b
+    worst : (n : ℕ) → (t .session .rest .closed || recordBad r) ≡ true → n ≡ numberOf (t .session) → Stepped t b r (record { session = t .session; state = Bad n }) b
     worst n q m = (ap (λ (k : ℕ). record { session = t .session; state = Bad k }) m ∙ sym (read-law true q), sym (kept-law true q))
 
-    pub step-closed : (n : ℕ) → t .session .closed ≡ true → n ≡ numberOf (t .session) → Stepped t b r (record { session = t .session; state = Bad n }) b
+    pub step-closed : (n : ℕ) → t .session .rest .closed ≡ true → n ≡ numberOf (t .session) → Stepped t b r (record { session = t .session; state = Bad n }) b
     step-closed n c m = worst n (ap (λ (z : Bool). z || recordBad r) c) m
 
-    pub step-worst : (n : ℕ) (x : Bool) → t .session .closed ≡ false → x ≡ recordBad r → x ≡ true → n ≡ numberOf (t .session) → Stepped t b r (record { session = t .session; state = Bad n }) b
+    pub step-worst : (n : ℕ) (x : Bool) → t .session .rest .closed ≡ false → x ≡ recordBad r → x ≡ true → n ≡ numberOf (t .session) → Stepped t b r (record { session = t .session; state = Bad n }) b
     step-worst n x c f g m = worst n (ap (λ (z : Bool). z || recordBad r) c ∙ (sym f ∙ g)) m
 
-    pub step-called : (x : Bool) (y : Trace) (z : List ℕ) → t .session .closed ≡ false → x ≡ recordBad r → x ≡ false → y ≡ readCall (t .session) b (recordCall r) → z ≡ bufferNext (t .session) b (recordCall r) → Stepped t b r y z
+    pub step-called : (x : Bool) (y : Trace) (z : List ℕ) → t .session .rest .closed ≡ false → x ≡ recordBad r → x ≡ false → y ≡ readCall (t .session) b (recordCall r) → z ≡ bufferNext (t .session) b (recordCall r) → Stepped t b r y z
     step-called x y z c f g u v =
-        let q : (t .session .closed || recordBad r) ≡ false = ap (λ (w : Bool). w || recordBad r) c ∙ (sym f ∙ g) in
+        let q : (t .session .rest .closed || recordBad r) ≡ false = ap (λ (w : Bool). w || recordBad r) c ∙ (sym f ∙ g) in
         (u ∙ sym (read-law false q), v ∙ sym (kept-law false q))
 
 -- ---- the end
@@ -292,10 +293,10 @@ module _ (t : Trace) (l : Ledger) where
   finish-refused k n e q = ended (Refused k n) e refl q
 
 -- ---- the beginning
-opened-new : openOf 256 62 256 .session ≡ fresh sizes
+opened-new : openOf sizes 256 .session ≡ fresh sizes
 unfolding openOf openingFlags firstFrom frameSizeBroken payloadSizeBroken
 opened-new = refl
 
-pub new-is : (x : Opened) (n : ℕ) → x ≡ openOf 256 62 n → n ≡ 256 → _≡_ {A = Trace} (record { session = x .session; state = Good }) newTrace
+pub new-is : (x : Opened) (n : ℕ) → x ≡ openOf sizes n → n ≡ 256 → _≡_ {A = Trace} (record { session = x .session; state = Good }) newTrace
 new-is x n e q =
-    ap (λ (s : Session). record { session = s; state = Good }) (ap (λ (y : Opened). y .session) e ∙ ap (λ (m : ℕ). openOf 256 62 m .session) q ∙ opened-new)
+    ap (λ (s : Session). record { session = s; state = Good }) (ap (λ (y : Opened). y .session) e ∙ ap (λ (m : ℕ). openOf sizes m .session) q ∙ opened-new)

@@ -5,7 +5,7 @@ use mathlib.Core.Bool.{Bool, true, false, _||_, not, _&&_}
 use lib.ListN.{length, getD, take, drop}
 use lib.Dec.{ltb, eqb}
 use Rattle.rules.specs.Pick.{pick}
-use Rattle.books.specs.Rule.{Call}
+use Rattle.session.specs.Call.{Call}
 
 -- kind (0 transfer, 1 lost, 2 close), length 0 to 62, the bytes, zero fill
 abbrev pub kindAt : List ℕ → ℕ

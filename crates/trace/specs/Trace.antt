@@ -3,22 +3,22 @@ use Prim.Native.Nat.{ℕ, zero, suc, _+_}
 use mathlib.Core.List.{List, [], _∷_}
 use mathlib.Core.Bool.{Bool, true, false, _||_}
 use lib.ListN.{length}
-use Rattle.payload.specs.declared.Opening.{Opening}
+use Rattle.sizes.specs.declared.Opening.{Opening}
 use Rattle.ledger.specs.declared.Ledger.{Ledger}
 use Rattle.ledger.specs.Ledger.{noLedger}
 use Rattle.session.specs.declared.Session.{Session}
 use Rattle.session.specs.declared.Rest.{Rest}
 use Rattle.session.specs.Refusals.{ledgerOf}
-use Rattle.session.specs.Session.{fresh, wholeOf}
-use Rattle.books.specs.Rule.{Call}
-use Rattle.books.specs.Calls.{refusal, next}
-use Rattle.books.specs.Demands.{offerWith, bufferNext}
+use Rattle.session.specs.Session.{fresh}
 use Rattle.trace.specs.Record.{recordBad, recordCall}
 use Rattle.trace.specs.declared.State.{State}
 use Rattle.trace.specs.declared.State.the-variants.{Good, Bad, Refused}
 use Rattle.trace.specs.declared.Trace.{Trace}
 use Rattle.trace.specs.declared.Going.{Going}
 use Rattle.trace.specs.declared.Printed.{Printed}
+use Rattle.session.specs.Inner.{wholeOf}
+use Rattle.session.specs.Call.{Call}
+use Rattle.session.specs.Calls.{refusal, next, offerWith, bufferNext}
 
 -- frame size 256, payload size 62
 abbrev pub sizes : Opening
@@ -33,7 +33,7 @@ closes true = 2
 closes false = 1
 
 abbrev pub numberOf : Session → ℕ
-numberOf s = s .taken + closes (s .closed)
+numberOf s = s .rest .taken + closes (s .rest .closed)
 
 -- a good record's call: taken, with the next session, or refused by a number
 abbrev pub offered : ℕ → Session → Session → Trace
@@ -49,7 +49,7 @@ readBy true s buffer c = record { session = s; state = Bad (numberOf s) }
 readBy false s buffer c = readCall s buffer c
 
 abbrev pub stepBy : State → Session → List ℕ → List ℕ → Trace
-stepBy Good s buffer r = readBy (s .closed || recordBad r) s buffer (recordCall r)
+stepBy Good s buffer r = readBy (s .rest .closed || recordBad r) s buffer (recordCall r)
 stepBy (Bad n) s buffer r = record { session = s; state = Bad n }
 stepBy (Refused k n) s buffer r = record { session = s; state = Refused k n }
 
@@ -63,7 +63,7 @@ keptBy true s buffer c = buffer
 keptBy false s buffer c = bufferNext s buffer c
 
 abbrev pub stepBufferBy : State → Session → List ℕ → List ℕ → List ℕ
-stepBufferBy Good s buffer r = keptBy (s .closed || recordBad r) s buffer (recordCall r)
+stepBufferBy Good s buffer r = keptBy (s .rest .closed || recordBad r) s buffer (recordCall r)
 stepBufferBy (Bad n) s buffer r = buffer
 stepBufferBy (Refused k n) s buffer r = buffer
 

@@ -1,4 +1,4 @@
-// A trace of 64-byte records, read one record at a time, and what the ledger program prints of it.
+// A trace of 64-byte records, read as many at a time as come, and what the ledger program prints of it.
 pub mod record;
 
 ghost use mathlib.Core.Path.{_≡_};
@@ -6,11 +6,11 @@ ghost use Prim.Native.Nat.{_≤_};
 ghost use mathlib.Core.List.{[]};
 ghost use lib.ListN.{length};
 ghost use Rattle.ledger.specs.Accounts.{numberCount};
-ghost use Rattle.session.specs.Session.{wholeOf};
 ghost use Rattle.trace.specs.Record.{lengthAt, recordCall, recordsOf, endOf};
 ghost use Rattle.trace.specs.Trace.{newTrace, readCall, stepOf, stepBuffer, traced, tracedBuffer, goingWith, goodOf, goodWith, numberRest, answeredBy, isDecided, reportOf};
-ghost use Rattle.books.specs.Rule.{Call};
-ghost use Rattle.books.specs.Demands.{bufferNext};
+ghost use Rattle.session.specs.Inner.{wholeOf};
+ghost use Rattle.session.specs.Call.{Call};
+ghost use Rattle.session.specs.Calls.{bufferNext};
 use ledger::Ledger;
 use ledger::Numbers;
 use session::Closing;
@@ -18,11 +18,13 @@ use session::Outcome;
 use session::Report;
 use session::Rest;
 use session::Session;
+use sizes::Opening;
 
 // The sizes that every trace is read with.
-pub const FRAME: usize = 256;
-
-pub const PAYLOAD: usize = 62;
+const SIZES: Opening = Opening {
+    frame: 256,
+    payload: 62,
+};
 
 // How a trace stands.
 pub enum State {
@@ -183,8 +185,8 @@ fn follow(s: Session, buffer: &mut [u8], records: &[u8]) -> Trace
     ensures { λ x. ⌜ x ≡ traced (goodOf s) (now (buffer .entry)) (recordsOf (now (records .entry))) ⌝ }
     ensures { λ _. ⌜ now (buffer .exit) ≡ tracedBuffer (goodOf s) (now (buffer .entry)) (recordsOf (now (records .entry))) ⌝ }
 {
-    let mut numbers = s.numbers();
-    let mut rest = s.rest();
+    let mut numbers = s.numbers;
+    let mut rest = s.rest;
     let mut at = 0;
     while at < records.len() {
         let end = end_of(at, records.len());
@@ -193,14 +195,14 @@ fn follow(s: Session, buffer: &mut [u8], records: &[u8]) -> Trace
         let state = going.state;
         if decided(state) {
             return Trace {
-                session: rest.whole(numbers),
+                session: Session { rest, numbers },
                 state,
             };
         }
         at = end;
     }
     Trace {
-        session: rest.whole(numbers),
+        session: Session { rest, numbers },
         state: State::Good,
     }
 }
@@ -211,7 +213,7 @@ impl Trace {
         ensures { λ r. ⌜ r ≡ newTrace ⌝ }
     {
         let room = [0u8; 256];
-        let opened = Session::open(FRAME, PAYLOAD, &room);
+        let opened = Session::open(SIZES, &room);
         let session = opened.session;
         Trace {
             session,

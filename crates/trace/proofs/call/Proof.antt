@@ -1,10 +1,10 @@
 use Prim.Native.Nat.{_+_, _-_}
 use denote.Ref.{now}
 use native.Mathlib.Omega.{arith}
-use Rattle.session.specs.Session.{wholeOf}
 use Rattle.trace.proofs.Steps.{call-transfer, call-lost, call-close}
 use borrow.Author.Needs.{needs}
 use Rattle.trace.proofs.call.Statement.{statement}
+use Rattle.session.specs.Inner.{wholeOf}
 use Rattle.trace.proofs.call.Tie as tie
 
 shared-slice-read-kind : tie.Need-shared-slice-read-kind

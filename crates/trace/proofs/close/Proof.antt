@@ -1,9 +1,9 @@
 use mathlib.Core.List.{[]}
 use denote.Ref.{now}
-use Rattle.session.specs.Session.{wholeOf}
 use Rattle.trace.proofs.Steps.{close-refused, close-closed}
 use borrow.Author.Needs.{needs}
 use Rattle.trace.proofs.close.Statement.{statement}
+use Rattle.session.specs.Inner.{wholeOf}
 use Rattle.trace.proofs.close.Tie as tie
 
 close-requires : tie.Need-close-requires

@@ -4,7 +4,7 @@ use native.Mathlib.Omega.{arith}
 use denote.Ref.{now}
 use lib.ListN.{length}
 use Rattle.trace.specs.Trace.{goodWith}
-use Rattle.trace.proofs.Runs.{Reading-on, cut-at, run-begins, run-whole, run-decided, run-on, run-ends}
+use Rattle.trace.proofs.Runs.{Reading-on, cut-at, run-begins, run-decided, run-on, run-ends}
 use borrow.Author.Needs.{needs}
 use Rattle.trace.proofs.follow.Statement.{statement}
 use Rattle.trace.proofs.follow.Tie as tie
@@ -15,16 +15,10 @@ Inv-loop buffer₀ records numbers₀ rest₀ at₀ buffer numbers rest at = Rea
 abbrev μ-loop : tie.MeasureT-loop
 μ-loop buffer₀ records numbers₀ rest₀ at₀ buffer numbers rest at = length records - at
 
-numbers-requires : tie.Need-numbers-requires Inv-loop μ-loop
-numbers-requires c κs = search needs
-
-rest-requires : tie.Need-rest-requires Inv-loop μ-loop
-rest-requires c κs = search needs
-
 loop-holds : tie.Need-loop-holds Inv-loop μ-loop
 loop-holds c =
     let s = c .before .before .before .before in
-    (run-begins _ (now (s .args .buffer)) (now (s .args .records)) _ _ refl (c .before .numbers .ensures .1), refl)
+    (run-begins _ (now (s .args .buffer)) (now (s .args .records)) _ _ refl (search needs), refl)
 
 end-of-requires : tie.Need-end-of-requires Inv-loop μ-loop
 end-of-requires c κs = search needs
@@ -53,20 +47,16 @@ step-requires c κs = c .before .before .before .before .before .loop .inv .0 .s
 decided-requires : tie.Need-decided-requires Inv-loop μ-loop
 decided-requires c κs = search needs
 
-whole-requires : tie.Need-whole-requires Inv-loop μ-loop
-whole-requires c κs = search needs
-
 same-length : tie.Need-same-length Inv-loop μ-loop
 same-length c = search needs
 
 returns : tie.Need-returns Inv-loop μ-loop
 returns c =
-    let s = c .before .before .before .before .before .before .before .before .before .before .before .before .before .before .before .before .before in
-    let u = cut-at (now (s .args .records)) (c .before .before .before .before .before .before .before .before .before .before .before .before .loop .at) (c .before .before .before .before .before .before .before .before .before .before .end-of .result) (c .before .before .before .before .before .before .before .before .before .before .before .loop-test .taken) (c .before .before .before .before .before .before .before .before .before .before .end-of .ensures) in
-    let x = c .before .before .before .before .before .before .step in
-    run-whole (s .args .s) _ _ (now (s .args .buffer)) (now (s .args .records)) _ _ (c .before .before .before .before .before .before .before .before .before .before .before .before .before .rest .ensures) (c .before .before .before .before .before .before .before .before .before .before .before .before .before .before .numbers .ensures .0)
-    (run-decided _ (now (s .args .buffer)) (now (s .args .records)) _ _ _ _ (c .before .before .before .before .before .before .before .before .before .before .before .before .loop .inv .0) _ u (x .result) _ _ (x .ensures .0) (x .ensures .1) _ _
-    (c .before .before .decided .ensures) (c .before .if1 .taken) (c .whole .ensures))
+    let s = c .before .before .before .before .before .before .before .before .before .before .before .before .before .before .before .before in
+    let u = cut-at (now (s .args .records)) (c .before .before .before .before .before .before .before .before .before .before .before .loop .at) (c .before .before .before .before .before .before .before .before .before .end-of .result) (c .before .before .before .before .before .before .before .before .before .before .loop-test .taken) (c .before .before .before .before .before .before .before .before .before .end-of .ensures) in
+    let x = c .before .before .before .before .before .step in
+    run-decided _ (now (s .args .buffer)) (now (s .args .records)) _ _ _ _ (c .before .before .before .before .before .before .before .before .before .before .before .loop .inv .0) _ u (x .result) _ _ (x .ensures .0) (x .ensures .1) _
+    (c .before .decided .ensures) (c .if1 .taken)
 
 loop-less : tie.Need-loop-less Inv-loop μ-loop
 loop-less c =
@@ -85,18 +75,13 @@ loop-again c =
       let q : length (x .last .1 .1 .0) ≡ length (o .buffer) = search needs in omega (arith, q, o .inv .1),
     )
 
-whole-requires-2 : tie.Need-whole-requires-2 Inv-loop μ-loop
-whole-requires-2 c κs = search needs
-
 same-length-2 : tie.Need-same-length-2 Inv-loop μ-loop
 same-length-2 c = search needs
 
 returns-2 : tie.Need-returns-2 Inv-loop μ-loop
 returns-2 c =
-    let s = c .before .before .before .before .before .before .before in
-    run-whole (s .args .s) _ _ (now (s .args .buffer)) (now (s .args .records)) _ _ (c .before .before .before .rest .ensures) (c .before .before .before .before .numbers .ensures .0)
-    (run-ends _ (now (s .args .buffer)) (now (s .args .records)) _ _ _ _ (c .before .before .loop .inv .0) _ (c .before .loop-test .left)
-    (c .whole2 .ensures))
+    let s = c .before .before .before .before .before .before in
+    run-ends _ (now (s .args .buffer)) (now (s .args .records)) _ _ _ _ (c .before .loop .inv .0) (c .loop-test .left)
 
 pub follow-spec : {M : Type 1} → statement M
 follow-spec =
@@ -104,8 +89,6 @@ follow-spec =
     (tie.spec
     Inv-loop
     μ-loop
-    numbers-requires
-    rest-requires
     loop-holds
     end-of-requires
     sub-step
@@ -113,11 +96,9 @@ follow-spec =
     part-step-end
     step-requires
     decided-requires
-    whole-requires
     same-length
     returns
     loop-less
     loop-again
-    whole-requires-2
     same-length-2
     returns-2)

@@ -1,9 +1,9 @@
 use mathlib.Core.List.{[]}
 use denote.Ref.{now}
-use Rattle.session.specs.Session.{wholeOf}
 use Rattle.trace.proofs.Steps.{lost-refused, lost-noted}
 use borrow.Author.Needs.{needs}
 use Rattle.trace.proofs.lost.Statement.{statement}
+use Rattle.session.specs.Inner.{wholeOf}
 use Rattle.trace.proofs.lost.Tie as tie
 
 lost-requires : tie.Need-lost-requires

@@ -1,8 +1,8 @@
 use denote.Ref.{now}
-use Rattle.session.specs.Session.{wholeOf}
 use Rattle.trace.proofs.Steps.{transfer-refused, transfer-taken}
 use borrow.Author.Needs.{needs}
 use Rattle.trace.proofs.transfer.Statement.{statement}
+use Rattle.session.specs.Inner.{wholeOf}
 use Rattle.trace.proofs.transfer.Tie as tie
 
 take-requires : tie.Need-take-requires

@@ -2,17 +2,17 @@ use mathlib.Core.Path.{_≡_}
 use Prim.Native.Nat.{_+_, _*_, _-_, _≤_, _<_}
 use lib.ListN.{length}
 use native.Mathlib.Omega.{arith}
-use Rattle.session.specs.Session.{wholeOf}
 use Rattle.exports.specs.Taking.{opened}
 use Rattle.exports.proofs.Rounds.{round-less, Going, going-start, going-more, going-round, all-taken, no-size, too-short}
 use borrow.Author.Needs.{needs}
 use Rattle.exports.proofs.take.palkodhen_take.Statement.{statement}
+use Rattle.session.specs.Inner.{wholeOf}
 use Rattle.exports.proofs.take.palkodhen_take.Tie as tie
 
 abbrev Inv-loop : tie.InvT-loop
 Inv-loop frame payload size times buffer₀ transfers numbers₀ rest₀ i₀ at₀ buffer numbers rest i at =
     (length buffer ≡ length buffer₀) × (0 < size) × (at + size ≤ length transfers) × (i ≤ times)
-    × Going size times transfers (opened frame payload buffer₀) buffer (wholeOf rest numbers) i at
+    × Going size times transfers (opened (record { frame = frame; payload = payload }) buffer₀) buffer (wholeOf rest numbers) i at
 
 abbrev μ-loop : tie.MeasureT-loop
 μ-loop frame payload size times buffer₀ transfers numbers₀ rest₀ i₀ at₀ buffer numbers rest i at = (times - i) * (length transfers + 1) + (length transfers - at)
@@ -20,27 +20,21 @@ abbrev μ-loop : tie.MeasureT-loop
 open-requires : tie.Need-open-requires Inv-loop μ-loop
 open-requires c κs = search needs
 
-numbers-requires : tie.Need-numbers-requires Inv-loop μ-loop
-numbers-requires c κs = search needs
-
-rest-requires : tie.Need-rest-requires Inv-loop μ-loop
-rest-requires c κs = search needs
-
 same-length : tie.Need-same-length Inv-loop μ-loop
 same-length c = search needs
 
 returns : tie.Need-returns Inv-loop μ-loop
-returns c = no-size _ _ _ _ _ _ (c .if1 .taken)
+returns c = no-size _ _ _ _ _ (c .if1 .taken)
 
 same-length-2 : tie.Need-same-length-2 Inv-loop μ-loop
 same-length-2 c = search needs
 
 returns-2 : tie.Need-returns-2 Inv-loop μ-loop
-returns-2 c = too-short _ _ _ _ _ _ (c .if2 .taken)
+returns-2 c = too-short _ _ _ _ _ (c .if2 .taken)
 
 loop-holds : tie.Need-loop-holds Inv-loop μ-loop
 loop-holds c =
-    let g = going-start _ _ _ _ _ _ _ _ _ (c .before .before .before .before .before .«open» .ensures) (c .before .before .before .numbers .ensures) (c .before .before .rest .ensures) in
+    let g = going-start _ _ _ _ _ _ (c .before .before .before .before .before .«open» .ensures) (search needs) in
     (search needs, search needs, search needs, search needs, g)
 
 add-end : tie.Need-add-end Inv-loop μ-loop
@@ -84,9 +78,6 @@ loop-again-2 c =
     let q : length (x .last .1 .1 .0) ≡ length (o .buffer) = search needs in
     (omega (arith, q, o .inv .0), o .inv .1, search needs, o .inv .3, going-more _ _ _ _ _ _ _ _ (o .inv .4) _ (x .result) _ (x .ensures .0) (x .ensures .1) (c .before .before .before .before .before .before .before .before .loop-test .taken))
 
-whole-requires : tie.Need-whole-requires Inv-loop μ-loop
-whole-requires c κs = search needs
-
 bytes-requires : tie.Need-bytes-requires Inv-loop μ-loop
 bytes-requires c κs = search needs
 
@@ -95,8 +86,8 @@ same-length-3 c = search needs
 
 returns-3 : tie.Need-returns-3 Inv-loop μ-loop
 returns-3 c =
-    let o = c .before .before .before .before .loop in
-    all-taken _ _ _ _ _ _ _ _ _ _ (o .inv .4) (o .inv .3) (c .before .before .before .loop-test .left) (c .before .before .whole .ensures) (c .bytes .ensures)
+    let o = c .before .before .loop in
+    all-taken _ _ _ _ _ _ _ _ _ (o .inv .4) (o .inv .3) (c .before .loop-test .left) (c .bytes .ensures)
 
 pub palkodhen-take-spec : {M : Type 1} → statement M
 palkodhen-take-spec =
@@ -105,8 +96,6 @@ palkodhen-take-spec =
     Inv-loop
     μ-loop
     open-requires
-    numbers-requires
-    rest-requires
     same-length
     returns
     same-length-2
@@ -123,7 +112,6 @@ palkodhen-take-spec =
     loop-again
     loop-less-2
     loop-again-2
-    whole-requires
     bytes-requires
     same-length-3
     returns-3)

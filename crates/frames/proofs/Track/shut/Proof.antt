@@ -1,7 +1,7 @@
 use Rattle.frames.proofs.Turns.{closed-fresh, closed-past}
-use Rattle.frames.specs.Track.{closedOf}
 use borrow.Author.Needs.{needs}
 use Rattle.frames.proofs.Track.shut.Statement.{statement}
+use Rattle.frames.specs.Inner.{closedOf}
 use Rattle.frames.proofs.Track.shut.Tie as tie
 
 enum-told : tie.Need-enum-told

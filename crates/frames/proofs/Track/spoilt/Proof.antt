@@ -1,6 +1,6 @@
-use Rattle.frames.specs.Track.{spoiltOf}
 use borrow.Author.Needs.{needs}
 use Rattle.frames.proofs.Track.spoilt.Statement.{statement}
+use Rattle.frames.specs.Inner.{spoiltOf}
 use Rattle.frames.proofs.Track.spoilt.Tie as tie
 
 enum-told : tie.Need-enum-told

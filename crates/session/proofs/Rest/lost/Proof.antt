@@ -2,16 +2,15 @@ use denote.Ref.{now}
 use native.Mathlib.Omega.{arith}
 use Rattle.ledger.specs.Accounts.{lostAt}
 use Rattle.ledger.proofs.Rooms.{adding}
-use Rattle.session.specs.Session.{wholeOf}
-use Rattle.session.proofs.Parts.{lost-found}
-use Rattle.session.proofs.Calls.{lost-ready, lost-refused, lost-noted}
+use Rattle.session.specs.Inner.{wholeOf}
+use Rattle.session.proofs.Calls.{lost-found, lost-ready, lost-refused, lost-noted}
 use Rattle.session.proofs.Ready.{ready-able}
 use borrow.Author.Needs.{needs}
 use Rattle.session.proofs.Rest.lost.Statement.{statement}
 use Rattle.session.proofs.Rest.lost.Tie as tie
 
-posted-broken-requires : tie.Need-posted-broken-requires
-posted-broken-requires c κs = search needs
+broken-requires : tie.Need-broken-requires
+broken-requires c κs = search needs
 
 lost-refusal-requires : tie.Need-lost-refusal-requires
 lost-refusal-requires c κs = search needs
@@ -19,38 +18,40 @@ lost-refusal-requires c κs = search needs
 returns : tie.Need-returns
 returns c =
     let s = c .before .before .before .before in
-    lost-refused (s .args .self) (now (s .args .m)) _ (lost-found (s .args .self) (now (s .args .m)) (search needs) _ (c .before .before .posted-broken .ensures) _ (c .before .lost-refusal .ensures)) (c .if1 .taken)
+    let e = lost-found (s .args .self) (now (s .args .m)) _ (c .before .before .broken .ensures) _ (c .before .lost-refusal .ensures) in
+    lost-refused (s .args .self) (now (s .args .m)) _ e (c .if1 .taken)
 
 plus-requires : tie.Need-plus-requires
 plus-requires c κs =
-    let s = c .before .before .before .before .before .before in
-    let r = wholeOf (s .args .self) (now (s .args .m)) in
-    let e = lost-found (s .args .self) (now (s .args .m)) (search needs) _ (c .before .before .before .before .posted-broken .ensures) _ (c .before .before .before .lost-refusal .ensures) in
-    adding _ _ lostAt 1 (ready-able r (lost-ready r (search needs) (search needs) _ e (omega arith)) .room) (omega arith) (omega arith) (omega arith)
+    let s = c .before .before .before .before .before .before .before in
+    let e = lost-found (s .args .self) (now (s .args .m)) _ (c .before .before .before .before .before .broken .ensures) _ (c .before .before .before .before .lost-refusal .ensures) in
+    let r = lost-ready (wholeOf (s .args .self) (now (s .args .m))) (search needs) (search needs) _ e (omega arith) in
+    adding _ _ lostAt 1 (ready-able (wholeOf (s .args .self) (now (s .args .m))) r .room) (omega arith) (omega arith) (omega arith)
+
+add-t13 : tie.Need-add-t13
+add-t13 c =
+    let s = c .before .before .before .before .before .before .before .before .before in
+    let e = lost-found (s .args .self) (now (s .args .m)) _ (c .before .before .before .before .before .before .before .broken .ensures) _ (c .before .before .before .before .before .before .lost-refusal .ensures) in
+    let r = lost-ready (wholeOf (s .args .self) (now (s .args .m))) (search needs) (search needs) _ e (omega arith) in
+    omega (arith, r .more)
 
 spoilt-requires : tie.Need-spoilt-requires
 spoilt-requires c κs = search needs
 
-counted-requires : tie.Need-counted-requires
-counted-requires c κs =
-    let s = c .before .before .before .before .before .before .before .before in
-    let e = lost-found (s .args .self) (now (s .args .m)) (search needs) _ (c .before .before .before .before .before .before .posted-broken .ensures) _ (c .before .before .before .before .before .lost-refusal .ensures) in
-    lost-ready (wholeOf (s .args .self) (now (s .args .m))) (search needs) (search needs) _ e (omega arith) .more
-
 returns-2 : tie.Need-returns-2
 returns-2 c =
-    let s = c .before .before .before .before .before .before .before .before .before in
-    lost-noted (s .args .self) (now (s .args .m)) _ (lost-found (s .args .self) (now (s .args .m)) (search needs) _ (c .before .before .before .before .before .before .before .posted-broken .ensures) _ (c .before .before .before .before .before .before .lost-refusal .ensures)) _ _ _ (omega arith) (c .before .before .plus .ensures) (c .before .spoilt .ensures)
-    (c .counted .ensures)
+    let s = c .before .before .before .before .before .before .before .before .before .before in
+    let e = lost-found (s .args .self) (now (s .args .m)) _ (c .before .before .before .before .before .before .before .before .broken .ensures) _ (c .before .before .before .before .before .before .before .lost-refusal .ensures) in
+    lost-noted (s .args .self) (now (s .args .m)) _ e _ _ (omega arith) (c .before .before .plus .ensures) (c .spoilt .ensures)
 
 pub lost-spec : {M : Type 1} → statement M
 lost-spec =
     tie.close
     (tie.spec
-    posted-broken-requires
+    broken-requires
     lost-refusal-requires
     returns
     plus-requires
+    add-t13
     spoilt-requires
-    counted-requires
     returns-2)

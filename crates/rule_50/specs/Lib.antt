@@ -1,0 +1,2 @@
+pub mod Rule50
+pub mod Inner

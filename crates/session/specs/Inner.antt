@@ -1,0 +1,34 @@
+-- What the inner contracts cite: the calls on the record's two parts, of which the numbers are lent. Nothing here needs to be believed.
+use Prim.Native.Nat.{ℕ, _<_}
+use mathlib.Core.Path.{_≡_}
+use mathlib.Core.Bool.{false}
+use mathlib.Core.List.{List}
+use lib.ListN.{length}
+use Rattle.ledger.specs.Accounts.{numberCount}
+use Rattle.session.specs.declared.Session.{Session}
+use Rattle.session.specs.declared.Rest.{Rest}
+use Rattle.session.specs.declared.RestTaken.{RestTaken}
+use Rattle.session.specs.declared.RestReported.{RestReported}
+use Rattle.session.specs.declared.RestClosed.{RestClosed}
+use Rattle.session.specs.declared.Taken.{Taken}
+use Rattle.session.specs.declared.Reported.{Reported}
+use Rattle.session.specs.declared.Closed.{Closed}
+use Rattle.session.specs.Refusals.{takenMost, recordBroken}
+
+abbrev pub wholeOf : Rest → List ℕ → Session
+wholeOf r numbers = record { rest = r; numbers = numbers }
+
+abbrev pub takenWith : RestTaken → List ℕ → Taken
+takenWith x numbers = record { session = wholeOf (x .rest) numbers; outcome = x .outcome }
+
+abbrev pub reportedWith : RestReported → List ℕ → Reported
+reportedWith x numbers = record { session = wholeOf (x .rest) numbers; report = x .report }
+
+abbrev pub closedWith : RestClosed → List ℕ → Closed
+closedWith x numbers = record { session = wholeOf (x .rest) numbers; closing = x .closing }
+
+-- what a session that is not refused by 50, 53 or 52 gives: no sum can wrap, and the data goes within the frame
+pub record Ready (s : Session) : Type 0 where
+  pub sound : recordBroken s ≡ false
+  pub more : s .rest .taken < takenMost
+  pub places : length (s .numbers) ≡ numberCount
