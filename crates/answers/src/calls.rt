@@ -12,8 +12,8 @@ use session::Closing;
 use session::Outcome;
 use session::Report;
 use session::Session;
-use sizes::Opening;
 use session::Start;
+use sizes::Opening;
 
 // The session after a call, and whether the call was read.
 struct Next {

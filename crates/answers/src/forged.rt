@@ -12,13 +12,13 @@ use frames::Run;
 use frames::Track;
 use ledger::Ledger;
 use ledger::Numbers;
-use sizes::Opening;
 use payload::Stamp;
 use session::Closing;
 use session::Outcome;
 use session::Report;
 use session::Rest;
 use session::Session;
+use sizes::Opening;
 
 pub fn run() -> bool {
     let s = record();

@@ -1,23 +1,19 @@
 -- Each number of the ledger that a session shows is the rule's.
-use Prim.Native.Nat.{ℕ, zero, suc, _+_, _-_, _*_, _≤_, _<_}
+use Prim.Native.Nat.{ℕ, _+_, _-_, _≤_, _<_}
 use mathlib.Core.Path.{_≡_, refl, sym, _∙_, ap, subst}
-use mathlib.Core.Bool.{Bool, true, false, cond, true≢false}
+use mathlib.Core.Bool.{Bool, true, false}
 use mathlib.Core.List.{List, [], _∷_, _++_, map, append-nil}
-use mathlib.Core.Logic.{⊎-elim}
-use native.Mathlib.Nat.{add-zero, zero-add, add-assoc}
+use native.Mathlib.Nat.{add-zero, zero-add}
 use native.Mathlib.Omega.{arith}
-use lib.ListN.{length, drop, getD, set, replicate, length-set, getD-replicate}
-use lib.Seq.{getD-set-same, getD-set-other}
-use lib.Dec.{eqb, lit<}
-use borrow.Author.Tests.{eq-eqb, ne-eqb, eqb-true, eqb-false}
+use lib.ListN.{length, drop, getD-replicate}
+use lib.Dec.{eqb}
+use borrow.Author.Tests.{ne-eqb, eqb-true, eqb-false}
 use Rattle.sizes.specs.declared.Opening.{Opening}
 use Rattle.payload.specs.declared.Stamp.{Stamp}
-use Rattle.payload.specs.declared.Stamp.the-variants.{Absent, At}
 use Rattle.payload.specs.declared.Reading.{Reading}
 use Rattle.payload.specs.declared.Reading.the-variants.{Idle, Unreadable, Readable}
 use Rattle.payload.specs.Transfer.{readingOf}
 use Rattle.frames.specs.declared.Reason.{Reason}
-use Rattle.frames.specs.declared.Reason.the-variants.{Gap, Error, Clock, Long, Cut, Empty}
 use Rattle.frames.specs.declared.Phase.{Phase}
 use Rattle.frames.specs.declared.Phase.the-variants.{Fresh, Under, Past}
 use Rattle.frames.specs.declared.Ended.{Ended}
@@ -25,17 +21,15 @@ use Rattle.frames.specs.declared.Ended.the-variants.{Nothing, Frame}
 use Rattle.frames.specs.declared.Fate.{Fate}
 use Rattle.frames.specs.declared.Turn.{Turn}
 use Rattle.frames.specs.Track.{underCount, underBytes}
-use Rattle.ledger.specs.declared.Account.{Account}
 use Rattle.ledger.specs.Entry.{Entry}
-use Rattle.ledger.specs.declared.Ledger.{Ledger}
-use Rattle.ledger.specs.Ledger.{noLedger, shownOf}
+use Rattle.ledger.specs.Ledger.{noLedger}
 use Rattle.session.specs.declared.Session.{Session}
 use Rattle.session.specs.Refusals.{postedOf, ledgerOf}
 use Rattle.session.specs.Session.{fresh}
-use Rattle.books.specs.Rule.{Event, idle, unreadable, missing, readable, events, isOpen, Item, entryOf, framesBy, loose, entries, lostLine, idleLine, lineOf, bytesIn, oneIn, partIn, total, stampsOf, stamps, noStamp, untimed, forward, back, between}
+use Rattle.books.specs.Rule.{Event, idle, unreadable, missing, readable, events, Item, entryOf, framesBy, loose, entries, lostLine, idleLine, oneIn, partIn, total, stamps, untimed, forward, back, between}
 use Rattle.books.specs.Demands.{Right, endedItems, fateItems}
 use Rattle.books.proofs.Made.{base, turnItems}
-use Rattle.books.proofs.Posts.{posts, posts-sized, since, stampIn, gain, place-law, step-law, count-gain, bytes-gain, single-gain, total-append}
+use Rattle.books.proofs.Posts.{posts-sized, since, stampIn, gain, place-law, step-law, count-gain, bytes-gain, single-gain, total-append}
 use Rattle.books.proofs.Taken.{Proper}
 use Rattle.books.proofs.History.{itemsBy, callItems, dataNext, items, dataRun, afoot, items-right, posted, run-posts, posted-total, posted-stamps, map-append, stamps-append}
 use Rattle.ledger.specs.Accounts.{accountCount, numberCount, underAt, accountFor, placeOf, countAt, bytesAt, lostAt, idleAt, ticksAt, backwardAt, untimedAt}

@@ -1,13 +1,11 @@
 -- Each answer is the rule's: what a call says of an ended frame and of its own transfer is what the rule gains by that call.
-use Prim.Native.Nat.{ℕ, zero, suc, _+_, _-_}
+use Prim.Native.Nat.{ℕ, zero, suc, _-_}
 use mathlib.Core.Path.{_≡_, refl, sym, _∙_, ap, subst}
-use mathlib.Core.Bool.{Bool, true, false}
 use mathlib.Core.List.{List, [], _∷_, _++_, append-assoc, append-nil}
 use native.Mathlib.Omega.{arith}
 use lib.ListN.{length}
 use Rattle.rules.specs.Numbered.{firstRow}
 use Rattle.sizes.specs.declared.Opening.{Opening}
-use Rattle.payload.specs.declared.Header.{Header}
 use Rattle.payload.specs.declared.Reading.{Reading}
 use Rattle.payload.specs.declared.Reading.the-variants.{Idle, Unreadable, Readable}
 use Rattle.payload.specs.Transfer.{readingOf}
@@ -22,11 +20,10 @@ use Rattle.session.specs.declared.Outcome.{Outcome}
 use Rattle.session.specs.declared.Report.{Report}
 use Rattle.session.specs.declared.Closing.{Closing}
 use Rattle.session.specs.Refusals.{takeRows, lostRows, closeRows}
-use Rattle.session.specs.Session.{fresh, plainly, readOf, tookBy, tookOf, takeBy, takeOf, lostBy, lostOf, closeBy, closeOf, shutOf}
+use Rattle.session.specs.Session.{fresh, plainly, readOf, tookBy, tookOf, takeBy, takeOf, lostBy, lostOf, closeBy, closeOf}
 use Rattle.books.specs.Rule.{Item, framesBy}
 use Rattle.books.specs.Demands.{endedItems, fateItems, UnderWay, Gains, Says}
 use Rattle.books.specs.Demands
-use Rattle.books.proofs.Made.{base, turnItems}
 use Rattle.books.proofs.Taken.{after-run, taken-proper, Proper}
 use Rattle.books.proofs.History.{itemsBy, dataBy, callItems, dataNext, items, dataRun, afoot}
 use Rattle.books.proofs.Accounts.{frames-made}

@@ -1,11 +1,11 @@
 -- The bounds of each number, from the rule: none is above what rule 50 allows.
-use Prim.Native.Nat.{ℕ, zero, suc, _+_, _-_, _*_, _^_, _≤_, _<_}
-use mathlib.Core.Path.{_≡_, refl, sym, _∙_, ap}
-use mathlib.Core.Bool.{Bool, true, false, cond, not, _&&_}
-use mathlib.Core.List.{List, [], _∷_, _++_, map, append-nil}
+use Prim.Native.Nat.{ℕ, suc, _+_, _*_, _^_, _≤_, _<_}
+use mathlib.Core.Path.{_≡_, refl, _∙_, ap}
+use mathlib.Core.Bool.{Bool, true, false, cond, _&&_}
+use mathlib.Core.List.{List, [], _∷_, map, append-nil, _++_}
 use mathlib.Core.Logic.{⊎-elim}
 use native.Mathlib.Omega.{arith}
-use native.Mathlib.Nat.{le-trans, add-zero, zero-add}
+use native.Mathlib.Nat.{le-trans, zero-add}
 use lib.Dec.{T, eqb, ltb, ltb→lt}
 use lib.ListN.{length, length-append, length-map}
 use borrow.Author.Tests.{ne-eqb}
@@ -20,13 +20,14 @@ use Rattle.frames.specs.declared.Fault.the-variants.{Sound, Bad}
 use Rattle.ledger.specs.declared.Account.{Account}
 use Rattle.ledger.specs.Accounts.{placeOf, accountFor}
 use Rattle.ledger.specs.Entry.{Entry}
-use Rattle.books.specs.Rule.{Event, idle, unreadable, missing, readable, events, isOpen, Seen, readables, runs, frameOf, strayOf, complete, dataOf, firstStamp, fault, Item, verdict, settled, strays, judge, nothing, judged, framesOf, framesBy, loose, entryOf, entries, lineOf, bytesIn, oneIn, partIn, total, stampList, stampsOf, stamps, noStamp, untimed, step, forward, back, between, received}
-use Rattle.books.proofs.Runs.{concat, runs-concat, Longest, runs-longest}
+use Rattle.books.specs.Rule.{Event, idle, unreadable, missing, readable, events, isOpen, Seen, readables, runs, frameOf, strayOf, complete, dataOf, firstStamp, fault, Item, verdict, strays, judge, nothing, judged, framesOf, framesBy, loose, entryOf, entries, lineOf, bytesIn, oneIn, partIn, total, stampList, stampsOf, stamps, noStamp, untimed, step, forward, back, between, received}
+use Rattle.books.proofs.Runs.{runs-concat, runs-longest}
 use Rattle.books.proofs.Posts.{total-append}
 use Rattle.books.proofs.History.{map-append, stamps-append}
 use Rattle.books.proofs.Accounts.{loose-stamped}
 use Rattle.books.proofs.Received.{entries-bytes}
 use Rattle.session.specs.Call.{Call}
+use Rattle.books.specs.Longest.{concat, Longest}
 
 total-le : (m l : Entry → ℕ) (xs : List Entry) → ((x : Entry) → m x ≤ l x) → total m xs ≤ total l xs
 total-le m l [] h = omega arith

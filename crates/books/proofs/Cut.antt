@@ -1,10 +1,8 @@
 -- The first run, and what is left of the list after it; and the rule on a list whose first run is part read.
-use Prim.Native.Nat.{ℕ, zero, suc, _+_}
+use Prim.Native.Nat.{ℕ, _+_}
 use mathlib.Core.Path.{_≡_, refl, sym, _∙_, ap}
-use mathlib.Core.Bool.{Bool, true, false, cond, not, _&&_, _||_, Bool·beq}
+use mathlib.Core.Bool.{Bool, true, false, cond, _&&_, Bool·beq}
 use mathlib.Core.List.{List, [], _∷_, _++_, append-assoc, append-nil}
-use native.Mathlib.Nat.{add-zero, zero-add, add-assoc}
-use native.Mathlib.Omega.{arith}
 use lib.ListN.{length, length-append}
 use lib.Dec.{ltb, eqb}
 use borrow.Author.Tests.{eq-eqb}
@@ -14,7 +12,7 @@ use Rattle.payload.specs.declared.Header.{Header}
 use Rattle.payload.specs.declared.Stamp.{Stamp}
 use Rattle.payload.specs.declared.Stamp.the-variants.{Absent, At}
 use Rattle.frames.specs.declared.Reason.{Reason}
-use Rattle.frames.specs.declared.Reason.the-variants.{Gap, Error, Clock, Long, Cut, Empty}
+use Rattle.frames.specs.declared.Reason.the-variants.{Gap, Error, Clock, Long, Empty}
 use Rattle.frames.specs.declared.Fault.{Fault}
 use Rattle.frames.specs.declared.Fault.the-variants.{Sound, Bad}
 use Rattle.frames.specs.declared.Run.{Run}
@@ -22,7 +20,7 @@ use Rattle.frames.specs.declared.Phase.{Phase}
 use Rattle.frames.specs.declared.Phase.the-variants.{Fresh, Under, Past}
 use Rattle.frames.specs.declared.Fate.{Fate}
 use Rattle.ledger.specs.Entry.{Entry}
-use Rattle.books.specs.Rule.{Seen, same, ahead, runs, frameOf, strayOf, complete, dataOf, _orStamp_, firstStamp, _or_, when, differs, faultAt, gapAfter, faultFrom, Item, verdict, settled, strays, judge, nothing, judged}
+use Rattle.books.specs.Rule.{Seen, ahead, runs, frameOf, strayOf, complete, dataOf, _orStamp_, firstStamp, _or_, when, differs, faultAt, faultFrom, Item, settled, strays, nothing, judged}
 use Rattle.books.specs.Demands.{fateItems}
 use Rattle.frames.specs.Inner.{firstOf, clashOf, earlierOf, faultOf, joinedOf, completeOf, fateOf, phaseOf}
 

@@ -1,9 +1,8 @@
 -- Over all the calls taken: the items that the answers enter are the rule's, and the ledger is what they post.
-use Prim.Native.Nat.{ℕ, zero, suc, _+_, _-_}
+use Prim.Native.Nat.{ℕ, _+_, _-_}
 use mathlib.Core.Path.{_≡_, refl, sym, _∙_, ap}
-use mathlib.Core.Bool.{Bool, true, false, cond, _&&_}
+use mathlib.Core.Bool.{Bool, true, false}
 use mathlib.Core.List.{List, [], _∷_, _++_, map, append-assoc, append-nil}
-use native.Mathlib.Nat.{add-zero, zero-add}
 use native.Mathlib.Omega.{arith}
 use lib.ListN.{length, drop, length-drop}
 use Rattle.rules.specs.Pick.{pick}
@@ -27,15 +26,15 @@ use Rattle.ledger.specs.declared.Ledger.{Ledger}
 use Rattle.ledger.specs.Ledger.{postOf, endedOf, fatedOf, answeredOf}
 use Rattle.session.specs.declared.Session.{Session}
 use Rattle.session.specs.Refusals.{postedOf}
-use Rattle.session.specs.Session.{readOf, tookBy, tookOf, missedOf, shutOf}
-use Rattle.books.specs.Rule.{Event, idle, unreadable, missing, readable, eventBy, events, isOpen, _or_, Item, entryOf, loose, total, stamps, stampsOf}
+use Rattle.session.specs.Session.{readOf, tookBy, tookOf, missedOf}
+use Rattle.books.specs.Rule.{Event, readable, eventBy, events, isOpen, _or_, Item, entryOf, loose, total, stamps, stampsOf}
 use Rattle.books.specs.Demands.{endedItems, fateItems}
 use Rattle.books.proofs.Made.{base, turnItems, Framed, turn-framed}
 use Rattle.books.proofs.Cut.{cont}
 use Rattle.books.proofs.Owed.{owed, Holds, read-law, idle-law, spoil-law, unread-law, spoil-holds, read-holds}
 use Rattle.books.proofs.Posts.{posts, posts-append, total-append}
-use Rattle.books.proofs.Taken.{Last, Proper}
-use Rattle.frames.specs.Inner.{sameOf, begunOf, joinTurn, strayTurn, turnBy, turnOf, spoiltBy, spoiltOf, closedBy, closedOf, whyOf}
+use Rattle.books.proofs.Taken.{Proper}
+use Rattle.frames.specs.Inner.{sameOf, begunOf, joinTurn, strayTurn, turnBy, turnOf, spoiltOf, closedBy, closedOf, whyOf}
 use Rattle.session.specs.Call.{Call}
 use Rattle.session.specs.Calls.{nextCall, run}
 

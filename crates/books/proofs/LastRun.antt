@@ -1,5 +1,5 @@
 -- Where the rule's items end in a delivered frame, that frame is the last run's, whole.
-use Prim.Native.Nat.{ℕ, suc}
+use Prim.Native.Nat.{ℕ}
 use mathlib.Core.Path.{_≡_, refl, sym, _∙_, ap}
 use mathlib.Core.Bool.{Bool, true, false, cond, _&&_}
 use mathlib.Core.List.{List, [], _∷_, _++_}
@@ -14,7 +14,7 @@ use Rattle.frames.specs.declared.Fault.{Fault}
 use Rattle.frames.specs.declared.Fault.the-variants.{Sound, Bad}
 use Rattle.frames.specs.declared.Delivery.{Delivery}
 use Rattle.ledger.specs.Entry.{Entry}
-use Rattle.books.specs.Rule.{Seen, frameOf, strayOf, complete, dataOf, firstStamp, fault, Item, verdict, settled, strays, judge, nothing, judged}
+use Rattle.books.specs.Rule.{Seen, frameOf, strayOf, complete, dataOf, firstStamp, fault, Item, verdict, settled, strays, judge, judged}
 
 -- the last of a list
 abbrev Ends : Item → List Item → Type 0

@@ -1,5 +1,5 @@
 -- What the tracker's turn enters, with the data D that the frame under way has had so far and the data E that the transfer's frame has with it.
-use Prim.Native.Nat.{ℕ, _+_}
+use Prim.Native.Nat.{ℕ}
 use mathlib.Core.Bool.{Bool, true, false, cond, Bool·beq}
 use mathlib.Core.List.{List, [], _++_}
 use lib.Dec.{eqb}

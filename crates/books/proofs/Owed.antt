@@ -1,33 +1,27 @@
 -- One call: what the rule owes before it is what the answer enters, and what the rule owes after it.
-use Prim.Native.Nat.{ℕ, zero, suc, _+_}
+use Prim.Native.Nat.{ℕ, _+_}
 use mathlib.Core.Path.{_≡_, refl, sym, _∙_, ap}
-use mathlib.Core.Bool.{Bool, true, false, cond, not, _&&_, Bool·beq}
-use mathlib.Core.List.{List, [], _∷_, _++_, append-assoc, append-nil}
-use native.Mathlib.Nat.{add-zero, zero-add}
-use native.Mathlib.Omega.{arith}
+use mathlib.Core.Bool.{Bool, true, false, cond, _&&_, Bool·beq}
+use mathlib.Core.List.{List, [], _∷_, _++_, append-nil}
 use lib.ListN.{length, length-append}
 use Rattle.rules.specs.Pick.{pick}
 use Rattle.sizes.specs.declared.Opening.{Opening}
 use Rattle.payload.specs.declared.Header.{Header}
-use Rattle.payload.specs.declared.Stamp.{Stamp}
-use Rattle.payload.specs.declared.Stamp.the-variants.{Absent, At}
+use Rattle.payload.specs.declared.Stamp.the-variants.{Absent}
 use Rattle.frames.specs.declared.Reason.the-variants.{Gap, Cut}
 use Rattle.frames.specs.declared.Fault.{Fault}
 use Rattle.frames.specs.declared.Fault.the-variants.{Sound, Bad}
 use Rattle.frames.specs.declared.Run.{Run}
 use Rattle.frames.specs.declared.Phase.{Phase}
 use Rattle.frames.specs.declared.Phase.the-variants.{Fresh, Under, Past}
-use Rattle.frames.specs.declared.Track.{Track}
-use Rattle.frames.specs.declared.Ended.{Ended}
 use Rattle.frames.specs.declared.Ended.the-variants.{Nothing, Frame}
-use Rattle.frames.specs.declared.Fate.{Fate}
 use Rattle.frames.specs.declared.Turn.{Turn}
 use Rattle.ledger.specs.Entry.{Entry}
-use Rattle.books.specs.Rule.{Event, idle, unreadable, missing, readable, Seen, spoiled, readables, runs, frameOf, _orStamp_, _or_, when, Item, judged, nothing, gapBefore}
+use Rattle.books.specs.Rule.{Event, idle, unreadable, missing, readable, Seen, spoiled, readables, runs, _or_, when, Item, judged, nothing}
 use Rattle.books.specs.Demands.{endedItems, fateItems}
 use Rattle.books.proofs.Made.{base, turnItems}
-use Rattle.books.proofs.Cut.{first, later, runs-cut, cont, pass, onward, or-sound, first-or, take-law}
-use Rattle.frames.specs.Inner.{firstOf, whyOf, sameOf, begunOf, faultOf, joinedOf, fateOf, phaseOf, joinTurn, strayTurn, turnBy, turnOf, spoiltBy}
+use Rattle.books.proofs.Cut.{first, later, runs-cut, cont, pass, onward, or-sound, take-law}
+use Rattle.frames.specs.Inner.{firstOf, whyOf, sameOf, begunOf, joinedOf, fateOf, phaseOf, joinTurn, strayTurn, turnBy, spoiltBy}
 
 -- what the rule owes, from a phase, whether a gap is pending, the data so far, and the events to come; p is whether the session stays open
 abbrev pub owed : Opening → Bool → Phase → Bool → List ℕ → List Event → List Item

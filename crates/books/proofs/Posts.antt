@@ -1,27 +1,24 @@
 -- What a list of entries, posted one after the other, comes to at each place of the ledger.
-use Prim.Native.Nat.{ℕ, zero, suc, _+_, _-_, _*_, _%_, _^_, _≤_, _<_}
+use Prim.Native.Nat.{ℕ, _+_, _-_, _*_, _^_, _≤_, _<_}
 use mathlib.Core.Path.{_≡_, refl, sym, _∙_, ap}
 use mathlib.Core.Bool.{Bool, true, false, cond}
 use mathlib.Core.List.{List, [], _∷_, _++_}
 use native.Mathlib.Nat.{add-zero, zero-add, add-assoc}
 use native.Mathlib.Omega.{arith}
-use lib.ListN.{length, getD, set, length-set}
-use lib.Seq.{getD-set-same, getD-set-other}
 use lib.Dec.{ltb, eqb}
-use borrow.Author.Tests.{eq-eqb, ne-eqb, eqb-true, eqb-false}
+use borrow.Author.Tests.{ne-eqb}
 use Rattle.rules.specs.Pick.{pick}
 use Rattle.payload.specs.declared.Stamp.{Stamp}
 use Rattle.payload.specs.declared.Stamp.the-variants.{Absent, At}
 use Rattle.frames.specs.declared.Reason.{Reason}
-use Rattle.frames.specs.declared.Reason.the-variants.{Gap, Error, Clock, Long, Cut, Empty}
 use Rattle.ledger.specs.declared.Account.{Account}
 use Rattle.ledger.specs.Entry.{Entry}
 use Rattle.ledger.specs.declared.Step.the-variants.{Forward, Backward}
 use Rattle.ledger.specs.declared.Ledger.{Ledger}
 use Rattle.ledger.specs.Step.{aheadOf}
-use Rattle.ledger.specs.Ledger.{plusOf, enteredOf, steppedOf, lastIs, timedBy, timedOf, postOf}
+use Rattle.ledger.specs.Ledger.{enteredOf, steppedOf, timedBy, timedOf, postOf}
 use Rattle.ledger.proofs.Places.{at, Sized, place-lt, plus-sized, plus-at, plus-last, entryGain, entered-sized, entered-at, entered-last, count-gains, bytes-gains, others-keep}
-use Rattle.books.specs.Rule.{lostLine, idleLine, lineOf, bytesIn, oneIn, partIn, total, stampList, stampsOf, stamps, noStamp, untimed, step, forward, back, between}
+use Rattle.books.specs.Rule.{lostLine, idleLine, oneIn, partIn, total, stampList, stampsOf, stamps, noStamp, step, forward, back, between}
 use Rattle.ledger.specs.Accounts.{accountCount, placeOf, accountFor, countAt, bytesAt, lostAt, idleAt, ticksAt, backwardAt, untimedAt}
 
 -- ---- the time

@@ -1,29 +1,9 @@
 -- That `runs` cuts a list into the longest runs of equal FID, and `frameOf` and `strayOf` a run in two.
 use mathlib.Core.Path.{_≡_, refl, sym, _∙_, ap}
-use mathlib.Core.Bool.{Bool, true, false, cond, not, Bool·beq}
+use mathlib.Core.Bool.{Bool, true, false, cond, Bool·beq}
 use mathlib.Core.List.{List, [], _∷_, _++_}
-use lib.Dec.{T}
+use Rattle.books.specs.Longest.{concat, Alike, Unlike, Longest}
 use Rattle.books.specs.Rule.{Seen, same, ahead, runs, frameOf, strayOf}
-
-abbrev pub concat : List (List Seen) → List Seen
-concat [] = []
-concat (r ∷ rs) = r ++ concat rs
-
--- all of a run have the FID of t
-abbrev pub Alike : Seen → List Seen → Type 0
-Alike t [] = Unit {0}
-Alike t (u ∷ us) = T (same t u) × Alike t us
-
--- the next run, if there is one, has not
-abbrev pub Unlike : Seen → List (List Seen) → Type 0
-Unlike t [] = Unit {0}
-Unlike t ([] ∷ rs) = ⊥
-Unlike t ((u ∷ us) ∷ rs) = T (not (same t u))
-
-abbrev pub Longest : List (List Seen) → Type 0
-Longest [] = Unit {0}
-Longest ([] ∷ rs) = ⊥
-Longest ((t ∷ ts) ∷ rs) = Alike t ts × Unlike t rs × Longest rs
 
 pub runs-concat : (ts : List Seen) → concat (runs ts) ≡ ts
 runs-concat [] = refl

@@ -12,7 +12,7 @@ use Rattle.frames.specs.declared.Fate.{Fate}
 use Rattle.frames.specs.declared.Turn.{Turn}
 use Rattle.ledger.specs.declared.Ledger.{Ledger}
 use Rattle.ledger.specs.Entry.{Entry}
-use Rattle.ledger.specs.Ledger.{postOf, endedOf, fatedOf, answeredOf}
+use Rattle.ledger.specs.Ledger.{postOf, endedOf, fatedOf}
 use Rattle.session.specs.declared.Session.{Session}
 use Rattle.session.specs.Refusals.{postedOf, takeRows, lostRows, closeRows}
 use Rattle.session.specs.Session.{turned, readOf, tookBy, tookOf, takeBy, takeOf, lostBy, lostOf, closeBy, closeOf}

@@ -1,14 +1,14 @@
 -- A session reached from a fresh one is never refused by 50.
 use Prim.Native.Nat.{ℕ, zero, suc, _+_, _-_, _*_, _^_, _≤_, _<_}
-use mathlib.Core.Path.{_≡_, refl, sym, _∙_, ap, subst}
-use mathlib.Core.Bool.{Bool, true, false, not, _||_}
-use mathlib.Core.List.{List, [], _∷_, _++_}
+use mathlib.Core.Path.{_≡_, refl, sym, _∙_, subst}
+use mathlib.Core.Bool.{Bool, true, false, _||_}
+use mathlib.Core.List.{List, [], _∷_}
 use native.Mathlib.Omega.{arith}
 use lib.ListN.{length}
-use lib.Dec.{ltb, eqb}
+use lib.Dec.{ltb}
 use borrow.Author.Tests.{le-ltb, eq-eqb, ltb-false}
 use Rattle.rules.specs.Pick.{pick}
-use Rattle.rules.specs.Numbered.{Row, firstRow, NoneOf, anyBelow}
+use Rattle.rules.specs.Numbered.{firstRow, NoneOf}
 use Rattle.rules.proofs.Rows.{Numbered, row-none, any-none}
 use Rattle.sizes.specs.declared.Opening.{Opening}
 use Rattle.payload.specs.declared.Header.{Header}
@@ -23,19 +23,18 @@ use Rattle.frames.specs.declared.Run.{Run}
 use Rattle.frames.specs.declared.Phase.{Phase}
 use Rattle.frames.specs.declared.Phase.the-variants.{Fresh, Under, Past}
 use Rattle.frames.specs.declared.Ended.the-variants.{Nothing, Frame}
-use Rattle.ledger.specs.declared.Ledger.{Ledger}
 use Rattle.session.specs.declared.Session.{Session}
 use Rattle.session.specs.Refusals.{recordBroken, ledgerOf, takeRows}
 use Rattle.session.specs.Session.{fresh, readOf, tookBy, tookOf}
-use Rattle.books.specs.Rule.{lostLine, idleLine, events, entries, total, oneIn, received}
+use Rattle.books.specs.Rule.{lostLine, idleLine, events, received}
 use Rattle.books.specs.Demands.{Right}
 use Rattle.books.proofs.Taken.{Proper}
 use Rattle.books.proofs.Accounts.{count-right, bytes-right, all-right}
 use Rattle.books.proofs.Bounds.{count-bound, bytes-bound, ticks-bound, backward-bound, untimed-bound}
-use Rattle.books.proofs.History.{next-opening, proper-rest}
-use Rattle.ledger.specs.Accounts.{accountCount, lostAt, idleAt, ticksAt, backwardAt, untimedAt}
+use Rattle.books.proofs.History.{next-opening}
+use Rattle.ledger.specs.Accounts.{accountCount}
 use Rattle.sizes.specs.Sizes.{sizesBroken}
-use Rattle.frames.specs.Inner.{firstOf, clashOf, sameOf, whyOf, begunOf, joinedOf, filledOf, faultOf, phaseOf, joinTurn, strayTurn, turnBy, turnOf, spoiltBy, spoiltOf, closedBy, closedOf}
+use Rattle.frames.specs.Inner.{firstOf, clashOf, sameOf, whyOf, begunOf, joinedOf, filledOf, phaseOf, joinTurn, strayTurn, turnBy, turnOf, spoiltBy, spoiltOf, closedBy, closedOf}
 use Rattle.rule_50.specs.Rule50.{rule50, unequal, fillBroken, accountBroken, accountsBroken, countsBroken}
 use Rattle.session.specs.Call.{Call}
 use Rattle.session.specs.Calls.{Offer, refusal, next, callOf, unless, taken, nextCall, run}

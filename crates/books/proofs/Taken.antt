@@ -1,15 +1,12 @@
 -- Refused calls are no part of the history: the session after any calls is the one after the calls taken; and nothing is taken after close.
-use Prim.Native.Nat.{ℕ, zero, suc, _<_}
-use mathlib.Core.Path.{_≡_, refl, sym, _∙_, ap}
+use Prim.Native.Nat.{ℕ, zero, suc}
+use mathlib.Core.Path.{_≡_, refl, _∙_, ap}
 use mathlib.Core.Bool.{Bool, true, false}
-use mathlib.Core.List.{List, [], _∷_, _++_}
-use native.Mathlib.Omega.{arith}
-use lib.ListN.{length}
-use lib.Dec.{ltb, eqb}
-use Rattle.rules.specs.Numbered.{Row, orElse, firstRow}
+use mathlib.Core.List.{List, [], _∷_}
+use Rattle.rules.specs.Numbered.{orElse}
 use Rattle.session.specs.declared.Session.{Session}
-use Rattle.session.specs.Refusals.{recordBroken, takeRows, lostRows, closeRows}
-use Rattle.session.specs.Session.{takeBy, takeOf, tookOf, lostBy, lostOf, closeBy, closeOf}
+use Rattle.session.specs.Refusals.{recordBroken}
+use Rattle.session.specs.Session.{takeBy, takeOf, lostBy, lostOf, closeBy, closeOf}
 use Rattle.session.specs.Call.{Call}
 use Rattle.session.specs.Calls.{Offer, refusal, next, after, callOf, unless, taken, nextCall, run}
 

@@ -2,13 +2,13 @@
 -- admissible sizes.
 use Prim.Native.Nat.{ℕ, zero, suc, _≤_}
 use mathlib.Core.Path.{_≡_, refl, sym, _∙_, ap, subst, fun-ext}
-use mathlib.Core.Bool.{Bool, true, false}
+use mathlib.Core.Bool.{false}
 use mathlib.Core.List.{List, [], _∷_, _++_, map}
 use native.Mathlib.Omega.{arith}
 use lib.ListN.{length, getD, replicate}
-use lib.Dec.{ltb, eqb}
+use lib.Dec.{eqb}
 use borrow.Author.Tests.{le-ltb}
-use Rattle.rules.specs.Numbered.{firstFrom, firstRow, orElse, Down}
+use Rattle.rules.specs.Numbered.{firstFrom, orElse, Down}
 use Rattle.rules.proofs.Numbered.{first-zero}
 use Rattle.sizes.specs.declared.Opening.{Opening}
 use Rattle.frames.specs.declared.Answer.{Answer}
@@ -16,14 +16,12 @@ use Rattle.frames.specs.declared.Delivery.{Delivery}
 use Rattle.frames.specs.declared.Ended.{Ended}
 use Rattle.frames.specs.declared.Fate.{Fate}
 use Rattle.ledger.specs.declared.Account.{Account}
-use Rattle.ledger.specs.declared.Ledger.{Ledger}
-use Rattle.ledger.specs.Ledger.{bytesOf}
 use Rattle.session.specs.declared.Session.{Session}
 use Rattle.session.specs.declared.Start.{Start}
 use Rattle.session.specs.declared.Outcome.{Outcome}
 use Rattle.session.specs.declared.Report.{Report}
 use Rattle.session.specs.declared.Closing.{Closing}
-use Rattle.session.specs.Refusals.{openingFlags, recordBroken, ledgerOf, takeRows}
+use Rattle.session.specs.Refusals.{openingFlags, recordBroken, ledgerOf}
 use Rattle.session.specs.Session.{fresh, openBy, openOf, takeOf, bufferBy, bufferOf, lostOf, closeOf}
 use Rattle.books.specs.Rule.{entries, numbersOf, stamps, forward, between, received}
 use Rattle.books.specs.Demands.{Right, over, allBytes, endedItems, Gains, Says, Whole}
@@ -35,7 +33,7 @@ use Rattle.books.proofs.Answers.{transfer-says, lost-says, close-says}
 use Rattle.books.proofs.Whole.{delivered-whole}
 use Rattle.books.proofs.Print.{run-numbers}
 use Rattle.books.proofs.Samples.{opening, transfers, printed, by-rule, by-session}
-use Rattle.ledger.specs.Accounts.{placeOf, ticksAt, accounts}
+use Rattle.ledger.specs.Accounts.{ticksAt, accounts}
 use Rattle.sizes.specs.Sizes.{sizesBroken}
 use Rattle.session.specs.Call.{Call}
 use Rattle.session.specs.Calls.{Offer, refusal, next, after, taken, run, offers, bufferAfter}

@@ -1,11 +1,10 @@
 -- With one buffer that nobody else writes, a delivered frame is whole: the buffer's first bytes are its payload bytes, in order.
-use Prim.Native.Nat.{ℕ, zero, suc, _+_, _-_, _≤_, _<_}
+use Prim.Native.Nat.{ℕ, zero, suc, _+_, _-_, _≤_}
 use mathlib.Core.Path.{_≡_, refl, sym, _∙_, ap, subst}
 use mathlib.Core.Bool.{Bool, true, false, cond, Bool·beq}
 use mathlib.Core.List.{List, [], _∷_, _++_, append-assoc, append-nil}
 use native.Mathlib.Omega.{arith}
-use native.Mathlib.Nat.{add-zero}
-use lib.ListN.{length, take, drop, length-drop, length-append}
+use lib.ListN.{length, take, drop, length-drop}
 use lib.Seq.{paste, paste-zero, length-paste, take-paste}
 use lib.Dec.{ltb, eqb}
 use Rattle.rules.specs.Pick.{pick}
@@ -16,7 +15,6 @@ use Rattle.payload.specs.declared.Stamp.{Stamp}
 use Rattle.payload.specs.declared.Reading.{Reading}
 use Rattle.payload.specs.declared.Reading.the-variants.{Idle, Unreadable, Readable}
 use Rattle.payload.specs.Transfer.{readingOf}
-use Rattle.frames.specs.declared.Reason.{Reason}
 use Rattle.frames.specs.declared.Reason.the-variants.{Gap, Error, Clock, Long, Cut, Empty}
 use Rattle.frames.specs.declared.Fault.{Fault}
 use Rattle.frames.specs.declared.Fault.the-variants.{Sound, Bad}
@@ -36,14 +34,14 @@ use Rattle.session.specs.Refusals.{takeRows}
 use Rattle.session.specs.Session.{fresh, readOf, tookBy, tookOf, tookBufferBy, tookBuffer, bufferBy, bufferOf, takeOf}
 use Rattle.books.specs.Rule.{events, isOpen, readables, runs, Item, framesBy}
 use Rattle.books.specs.Demands.{endedItems, fateItems, Whole}
-use Rattle.books.proofs.Made.{base, turnItems}
-use Rattle.books.proofs.Owed.{Holds, same-beq, spoil-holds, read-holds}
+use Rattle.books.proofs.Made.{base}
+use Rattle.books.proofs.Owed.{Holds, same-beq, spoil-holds}
 use Rattle.books.proofs.Taken.{next-taken, next-refused, after-run}
-use Rattle.books.proofs.History.{itemsBy, dataBy, dataNext, dataRun, items, callItems, afoot, next-opening, read-keeps}
+use Rattle.books.proofs.History.{itemsBy, dataBy, dataNext, dataRun, items, callItems, afoot, read-keeps}
 use Rattle.books.proofs.Sound.{Snug, Fit, fit-took, fit-next, snug-begun, snug-joined}
 use Rattle.books.proofs.LastRun.{delivered-last}
 use Rattle.books.proofs.Answers.{and, answerBy, taken-answer, frames-more}
-use Rattle.frames.specs.Inner.{firstOf, clashOf, sameOf, whyOf, begunOf, joinedOf, faultOf, filledOf, writtenOf, completeOf, fateOf, phaseOf, joinTurn, strayTurn, turnBy, turnOf, spoiltBy, spoiltOf, closedBy, closedOf}
+use Rattle.frames.specs.Inner.{firstOf, clashOf, sameOf, whyOf, begunOf, joinedOf, filledOf, writtenOf, completeOf, fateOf, phaseOf, joinTurn, strayTurn, turnBy, turnOf, spoiltBy, spoiltOf, closedBy, closedOf}
 use Rattle.session.specs.Call.{Call}
 use Rattle.session.specs.Calls.{Offer, refusal, next, after, callOf, unless, taken, nextCall, run, offerWith, bufferNext, offers, bufferAfter}
 

@@ -3,8 +3,8 @@ ghost use mathlib.Core.Path.{_≡_};
 ghost use Prim.Native.Nat.{_+_, _<_, _^_};
 ghost use Rattle.frames.specs.Inner.{firstOf, clashOf, earlierOf, whyOf, sameOf, begunOf, joinedOf, filledOf, writtenOf, completeOf, fateOf, phaseOf, joinTurn, plainTurn, strayTurn, turnOf, idleTurn, unreadTurn, spoiltOf, closedOf, Roomy};
 use payload::Header;
-use sizes::Opening;
 use payload::Stamp;
+use sizes::Opening;
 
 // Why a frame was not delivered. The first four are faults.
 pub enum Reason {

@@ -1,6 +1,6 @@
 -- The ledger of lent numbers: one law for each way through the code.
 use Prim.Native.Nat.{ℕ}
-use mathlib.Core.Path.{_≡_, refl, ap, _∙_}
+use mathlib.Core.Path.{_≡_, refl, _∙_}
 use mathlib.Core.List.{List}
 use Rattle.payload.specs.declared.Stamp.{Stamp}
 use Rattle.payload.specs.declared.Stamp.the-variants.{Absent, At}
@@ -12,10 +12,9 @@ use Rattle.frames.specs.declared.Fate.{Fate}
 use Rattle.ledger.specs.declared.Account.{Account}
 use Rattle.ledger.specs.declared.Step.{Step}
 use Rattle.ledger.specs.declared.Step.the-variants.{Forward, Backward}
-use Rattle.ledger.specs.declared.Ledger.{Ledger}
 use Rattle.ledger.specs.Entry.{Entry}
 use Rattle.ledger.specs.Step.{stepOf}
-use Rattle.ledger.specs.Ledger.{plusOf, enteredOf, steppedOf, timedOf, postOf, endedOf, fatedOf, answeredOf}
+use Rattle.ledger.specs.Ledger.{plusOf, steppedOf, timedOf, postOf, endedOf, fatedOf}
 use Rattle.ledger.specs.Accounts.{accountFor, lostAt, idleAt, untimedAt}
 use Rattle.ledger.specs.Inner.{plusAt, enteredIn, steppedIn, endedIn, ledgerWith}
 

@@ -4,7 +4,7 @@ use mathlib.Core.Path.{_≡_}
 use mathlib.Core.List.{List}
 use native.Mathlib.Omega.{arith}
 use native.Mathlib.Decide.{ℕ-discrete, decLt}
-use lib.ListN.{length, getD, set}
+use lib.ListN.{length, getD}
 use lib.Seq.{set-out, getD-set-same, getD-set-other}
 use Rattle.frames.specs.declared.Reason.{Reason}
 use Rattle.frames.specs.declared.Reason.the-variants.{Gap, Error, Clock, Long, Cut, Empty}
@@ -12,7 +12,7 @@ use Rattle.frames.specs.declared.Ended.{Ended}
 use Rattle.frames.specs.declared.Ended.the-variants.{Nothing, Frame}
 use Rattle.ledger.specs.declared.Account.{Account}
 use Rattle.ledger.proofs.Places.{place-lt}
-use Rattle.ledger.specs.Accounts.{accountCount, numberCount, underAt, placeOf, accountFor, countAt, bytesAt, lostAt, untimedAt}
+use Rattle.ledger.specs.Accounts.{accountCount, numberCount, underAt, placeOf, accountFor, countAt, bytesAt, lostAt}
 use Rattle.ledger.specs.Inner.{plusAt, enteredIn, endedIn, Room, Spare}
 
 -- ---- n more at a place

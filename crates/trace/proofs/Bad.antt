@@ -1,8 +1,8 @@
 -- "bad record N" is given exactly for the first bad record, counted from 1.
-use Prim.Native.Nat.{ℕ, zero, suc, _+_, _-_, _≤_, _<_}
-use mathlib.Core.Path.{_≡_, refl, sym, _∙_, ap, subst}
-use mathlib.Core.Bool.{Bool, true, false, _||_, true≢false}
-use mathlib.Core.List.{List, [], _∷_, _++_, map}
+use Prim.Native.Nat.{ℕ, zero, suc, _+_}
+use mathlib.Core.Path.{_≡_, refl, sym, _∙_, ap}
+use mathlib.Core.Bool.{Bool, true, false, _||_}
+use mathlib.Core.List.{List, [], _∷_}
 use mathlib.Core.Logic.{_↔_}
 use native.Mathlib.Omega.{arith}
 use lib.ListN.{length}
@@ -10,14 +10,13 @@ use Rattle.payload.specs.declared.Reading.{Reading}
 use Rattle.payload.specs.declared.Reading.the-variants.{Idle, Unreadable, Readable}
 use Rattle.payload.specs.Transfer.{readingOf}
 use Rattle.session.specs.declared.Session.{Session}
-use Rattle.session.specs.Session.{fresh, readOf, tookBy, tookOf}
+use Rattle.session.specs.Session.{readOf, tookBy, tookOf}
 use Rattle.rules.proofs.Rows.{or-first}
 use Rattle.books.proofs.Taken.{next-taken}
 use Rattle.books.proofs.Whole.{same-call}
 use Rattle.books.proofs.Sound.{took-taken}
 use Rattle.trace.specs.Record.{recordBad, recordCall}
-use Rattle.trace.specs.Trace.{newTrace, closes, numberOf, stepOf, stepBuffer, traced, tracedBuffer}
-use Rattle.trace.specs.declared.State.{State}
+use Rattle.trace.specs.Trace.{BadFrom, newTrace, numberOf, traced, tracedBuffer}
 use Rattle.trace.specs.declared.State.the-variants.{Good, Bad, Refused}
 use Rattle.trace.specs.declared.Trace.{Trace}
 use Rattle.trace.proofs.Pieces.{traced-more}
@@ -43,16 +42,6 @@ next-number : (s : Session) (b r : List ℕ) → (s .rest .closed || recordBad r
 next-number s b r e q =
     ap numberOf (next-taken s (offerWith b (recordCall r)) q ∙ ap (nextCall s) (same-call b (recordCall r)))
     ∙ call-number s (recordCall r) (or-first (s .rest .closed) (recordBad r) e)
-
--- ---- the first bad record from a session on
-pub record BadFrom (s : Session) (b : List ℕ) (rs : List (List ℕ)) (n : ℕ) : Type 0 where
-  pub before : List (List ℕ)
-  pub worst : List ℕ
-  pub rest : List (List ℕ)
-  pub split : rs ≡ before ++ (worst ∷ rest)
-  pub fine : traced (good s) b before .state ≡ Good
-  pub broken : (traced (good s) b before .session .rest .closed || recordBad worst) ≡ true
-  pub number : n ≡ numberOf s + length before
 
 not-good : (n : ℕ) → Good ≡ Bad n → ⊥
 not-good n e = let z : _≡_ {A = ℕ} 0 1 = cc in omega arith

@@ -1,28 +1,26 @@
 -- With a buffer of 256 bytes a good record is refused by 52 alone: where 4,294,967,295 transfers were taken.
-use Prim.Native.Nat.{ℕ, zero, suc, _+_, _-_, _≤_, _<_}
-use mathlib.Core.Path.{_≡_, refl, sym, _∙_, ap, subst}
-use mathlib.Core.Bool.{Bool, true, false, _||_, not, _&&_, true≢false}
-use mathlib.Core.List.{List, [], _∷_, _++_, map}
+use Prim.Native.Nat.{ℕ, zero, suc, _≤_}
+use mathlib.Core.Path.{_≡_, refl, sym, _∙_, ap}
+use mathlib.Core.Bool.{Bool, true, false, _||_, not}
+use mathlib.Core.List.{List, [], _∷_, _++_}
 use native.Mathlib.Omega.{arith}
-use lib.ListN.{length, take, drop, length-take}
+use lib.ListN.{length, length-take}
 use lib.Dec.{ltb, eqb}
 use borrow.Author.Tests.{le-ltb, ltb-false}
-use Rattle.rules.specs.Numbered.{orElse, firstRow}
+use Rattle.rules.specs.Numbered.{orElse}
 use Rattle.session.specs.declared.Session.{Session}
-use Rattle.session.specs.Refusals.{recordBroken, lostRows, closeRows, takeRows}
+use Rattle.session.specs.Refusals.{recordBroken}
 use Rattle.session.specs.Session.{fresh}
 use Rattle.sizes.specs.Sizes.{frameSizeBroken, payloadSizeBroken, sizesBroken}
 use Rattle.rules.proofs.Rows.{or-first, or-second}
 use Rattle.books.proofs.Theorems.{never-stuck}
-use Rattle.books.proofs.Whole.{Kept, kept-all}
+use Rattle.books.proofs.Whole.{kept-all}
 use Rattle.trace.specs.Record.{lengthAt, bytesAt, recordBad, callBy, recordCall, kindAt}
 use Rattle.trace.specs.Trace.{sizes, newTrace, numberOf, traced}
-use Rattle.trace.specs.declared.State.{State}
 use Rattle.trace.specs.declared.State.the-variants.{Good, Bad, Refused}
-use Rattle.trace.specs.declared.Trace.{Trace}
 use Rattle.trace.proofs.Right.{good, state-of, on-good, on-bad, on-refused}
 use Rattle.session.specs.Call.{Call}
-use Rattle.session.specs.Calls.{Offer, refusal, next, after, taken, offerWith, bufferNext, offers, bufferAfter}
+use Rattle.session.specs.Calls.{refusal, next, after, taken, offerWith, bufferNext, offers, bufferAfter}
 
 third : (a b c d : Bool) → (a || (b || (c || d))) ≡ false → c ≡ false
 third a b c d e = or-first c d (or-second b (c || d) (or-second a (b || (c || d)) e))

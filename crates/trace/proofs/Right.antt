@@ -1,15 +1,10 @@
 -- What is printed is right: the ledger of a good trace is the frame rule's for the calls that its records stand for; "bad record N" is given exactly for the first
 -- bad record; and a good record is refused only where 4,294,967,295 transfers were taken.
-use Prim.Native.Nat.{ℕ, zero, suc, _+_, _≤_, _<_}
-use mathlib.Core.Path.{_≡_, refl, sym, _∙_, ap, subst}
-use mathlib.Core.Bool.{Bool, true, false, _||_, not, _&&_, true≢false}
-use mathlib.Core.List.{List, [], _∷_, _++_, map}
-use mathlib.Core.Logic.{_↔_}
+use Prim.Native.Nat.{ℕ, zero, suc}
+use mathlib.Core.Path.{_≡_, refl, sym, _∙_, ap}
+use mathlib.Core.Bool.{Bool, true, false, _||_}
+use mathlib.Core.List.{List, [], _∷_, map}
 use native.Mathlib.Omega.{arith}
-use lib.ListN.{length, take, drop, length-take}
-use lib.Dec.{ltb, eqb}
-use borrow.Author.Tests.{ltb-false}
-use Rattle.payload.specs.declared.Reading.{Reading}
 use Rattle.session.specs.declared.Session.{Session}
 use Rattle.session.specs.Refusals.{ledgerOf}
 use Rattle.session.specs.Session.{fresh}
@@ -17,12 +12,11 @@ use Rattle.books.specs.Rule.{entries, numbersOf}
 use Rattle.books.proofs.Theorems.{numbers-right}
 use Rattle.books.proofs.Whole.{same-call}
 use Rattle.trace.specs.Record.{recordBad, recordCall}
-use Rattle.trace.specs.Trace.{sizes, newTrace, numberOf, offered, readBy, stepBy, stepOf, keptBy, stepBuffer, stepBufferBy, traced}
-use Rattle.trace.specs.declared.State.{State}
+use Rattle.trace.specs.Trace.{sizes, newTrace, numberOf, offered, readBy, stepOf, keptBy, stepBuffer, traced}
 use Rattle.trace.specs.declared.State.the-variants.{Good, Bad, Refused}
 use Rattle.trace.specs.declared.Trace.{Trace}
 use Rattle.session.specs.Call.{Call}
-use Rattle.session.specs.Calls.{Offer, refusal, next, after, callOf, unless, taken, nextCall, run, offerWith, bufferNext, offers, bufferAfter}
+use Rattle.session.specs.Calls.{refusal, next, after, callOf, unless, taken, offerWith, bufferNext, offers}
 
 -- ---- a trace that went wrong stays as it is
 stays-bad : (rs : List (List ℕ)) (s : Session) (n : ℕ) (b : List ℕ) → traced (record { session = s; state = Bad n }) b rs ≡ record { session = s; state = Bad n }

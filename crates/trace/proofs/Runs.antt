@@ -14,8 +14,8 @@ use Rattle.session.specs.declared.Session.{Session}
 use Rattle.session.specs.Refusals.{postedOf}
 use Rattle.session.specs.declared.Rest.{Rest}
 use Rattle.books.proofs.Sized.{next-sized}
-use Rattle.trace.specs.Record.{recordBad, recordCall, recordsBy, recordsOf, endOf}
-use Rattle.trace.specs.Trace.{numberOf, offered, readBy, stepOf, stepBuffer, traced, tracedBuffer, goingWith, goodOf, goodWith, isDecided}
+use Rattle.trace.specs.Record.{recordBad, recordCall, recordsBy, recordsOf}
+use Rattle.trace.specs.Trace.{offered, readBy, stepOf, stepBuffer, traced, tracedBuffer, goodOf}
 use Rattle.trace.specs.declared.State.{State}
 use Rattle.trace.specs.declared.State.the-variants.{Good, Bad, Refused}
 use Rattle.trace.specs.declared.Trace.{Trace}
@@ -24,6 +24,7 @@ use Rattle.ledger.specs.Accounts.{numberCount}
 use Rattle.ledger.proofs.Places.{Sized}
 use Rattle.session.specs.Inner.{wholeOf}
 use Rattle.session.specs.Calls.{refusal, next, offerWith}
+use Rattle.trace.specs.Inner.{endOf, goingWith, goodWith, isDecided}
 
 -- ---- the records of what is left
 enough : (j k : ℕ) (l : List ℕ) → length l ≤ j → length l ≤ k → recordsBy j l ≡ recordsBy k l

@@ -1,8 +1,8 @@
 -- What each branch of the code says of the definitions.
 use Prim.Native.Nat.{ℕ, zero, suc, _+_, _≤_, _<_}
 use mathlib.Core.Path.{_≡_, refl, sym, _∙_, ap}
-use mathlib.Core.Bool.{Bool, true, false, _||_, _&&_, not, true≢false, or-true}
-use mathlib.Core.List.{List, [], _∷_}
+use mathlib.Core.Bool.{Bool, true, false, _||_, _&&_, not}
+use mathlib.Core.List.{List, []}
 use native.Mathlib.Omega.{arith}
 use native.Mathlib.Numerals.{add-one}
 use lib.ListN.{length, getD, take, drop, drop-of-length-le}
@@ -33,8 +33,8 @@ use Rattle.payload.specs.declared.Reading.{Reading}
 use Rattle.payload.specs.declared.Reading.the-variants.{Idle, Unreadable, Readable}
 use Rattle.payload.specs.Transfer.{readingOf}
 use Rattle.rules.proofs.Rows.{or-first, or-second}
-use Rattle.trace.specs.Record.{kindAt, lengthAt, bytesAt, anySet, recordBad, callBy, recordCall}
-use Rattle.trace.specs.Trace.{sizes, newTrace, numberOf, offered, readCall, readBy, keptBy, stepBy, stepBufferBy, stepOf, stepBuffer, printBy, reportOf, goingWith, numberRest, answeredBy}
+use Rattle.trace.specs.Record.{kindAt, lengthAt, anySet, recordBad, callBy, recordCall}
+use Rattle.trace.specs.Trace.{sizes, newTrace, numberOf, offered, readCall, readBy, keptBy, stepBy, stepBufferBy, stepOf, stepBuffer, printBy, reportOf}
 use Rattle.trace.specs.declared.State.{State}
 use Rattle.trace.specs.declared.State.the-variants.{Good, Bad, Refused}
 use Rattle.trace.specs.declared.Trace.{Trace}
@@ -43,6 +43,7 @@ use Rattle.trace.specs.declared.Printed.{Printed}
 use Rattle.session.specs.Inner.{wholeOf, takenWith, reportedWith, closedWith}
 use Rattle.session.specs.Call.{Call}
 use Rattle.session.specs.Calls.{bufferNext}
+use Rattle.trace.specs.Inner.{goingWith, numberRest, answeredBy}
 
 -- ---- the next record's number
 pub number-closed : (r : Rest) → r .closed ≡ true → r .taken + 2 ≡ numberRest r

@@ -1,10 +1,9 @@
 -- Document 01, "The ledger program": one record of a trace. `r` is the record's bytes.
-use Prim.Native.Nat.{ℕ, zero, suc, _+_, _-_}
+use Prim.Native.Nat.{ℕ, zero, suc, _+_}
 use mathlib.Core.List.{List, [], _∷_}
-use mathlib.Core.Bool.{Bool, true, false, _||_, not, _&&_}
+use mathlib.Core.Bool.{Bool, false, _||_, not, _&&_}
 use lib.ListN.{length, getD, take, drop}
 use lib.Dec.{ltb, eqb}
-use Rattle.rules.specs.Pick.{pick}
 use Rattle.session.specs.Call.{Call}
 
 -- kind (0 transfer, 1 lost, 2 close), length 0 to 62, the bytes, zero fill
@@ -48,7 +47,3 @@ recordsBy (suc k) (b ∷ bs) = take 64 (b ∷ bs) ∷ recordsBy k (drop 64 (b �
 
 unfoldable pub recordsOf : List ℕ → List (List ℕ)
 recordsOf l = recordsBy (length l) l
-
--- where the record ends that begins at `at`, of so many bytes
-abbrev pub endOf : ℕ → ℕ → ℕ
-endOf at n = pick (ltb (n - at) 64) n (at + 64)

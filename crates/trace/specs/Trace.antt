@@ -1,22 +1,19 @@
 -- Document 01, "The ledger program": a whole trace, record by record, and what is printed of it.
 use Prim.Native.Nat.{ℕ, zero, suc, _+_}
-use mathlib.Core.List.{List, [], _∷_}
+use mathlib.Core.Path.{_≡_}
+use mathlib.Core.List.{List, [], _∷_, _++_}
 use mathlib.Core.Bool.{Bool, true, false, _||_}
 use lib.ListN.{length}
 use Rattle.sizes.specs.declared.Opening.{Opening}
-use Rattle.ledger.specs.declared.Ledger.{Ledger}
 use Rattle.ledger.specs.Ledger.{noLedger}
 use Rattle.session.specs.declared.Session.{Session}
-use Rattle.session.specs.declared.Rest.{Rest}
 use Rattle.session.specs.Refusals.{ledgerOf}
 use Rattle.session.specs.Session.{fresh}
 use Rattle.trace.specs.Record.{recordBad, recordCall}
 use Rattle.trace.specs.declared.State.{State}
 use Rattle.trace.specs.declared.State.the-variants.{Good, Bad, Refused}
 use Rattle.trace.specs.declared.Trace.{Trace}
-use Rattle.trace.specs.declared.Going.{Going}
 use Rattle.trace.specs.declared.Printed.{Printed}
-use Rattle.session.specs.Inner.{wholeOf}
 use Rattle.session.specs.Call.{Call}
 use Rattle.session.specs.Calls.{refusal, next, offerWith, bufferNext}
 
@@ -80,30 +77,6 @@ abbrev pub tracedBuffer : Trace → List ℕ → List (List ℕ) → List ℕ
 tracedBuffer t buffer [] = buffer
 tracedBuffer t buffer (r ∷ rs) = tracedBuffer (stepOf t buffer r) (stepBuffer t buffer r) rs
 
--- A TRACE IN TWO PARTS: its ledger's numbers, which are lent, and the rest
-abbrev pub goingWith : Going → List ℕ → Trace
-goingWith g numbers = record { session = wholeOf (g .rest) numbers; state = g .state }
-
-abbrev pub goodOf : Session → Trace
-goodOf s = record { session = s; state = Good }
-
-abbrev pub goodWith : Rest → List ℕ → Trace
-goodWith r numbers = goodOf (wholeOf r numbers)
-
-abbrev pub numberRest : Rest → ℕ
-numberRest r = r .taken + closes (r .closed)
-
--- a refused call leaves the rest as it was
-abbrev pub answeredBy : ℕ → Rest → Going
-answeredBy zero r = record { rest = r; state = Good }
-answeredBy (suc k) r = record { rest = r; state = Refused (suc k) (numberRest r) }
-
--- a bad or refused record decides a trace
-abbrev pub isDecided : State → Bool
-isDecided Good = false
-isDecided (Bad n) = true
-isDecided (Refused k n) = true
-
 -- what is printed: the ledger of a good trace; nothing of it otherwise
 abbrev pub printBy : State → Session → Printed
 printBy Good s = record { state = Good; ledger = ledgerOf s }
@@ -112,3 +85,17 @@ printBy (Refused k n) s = record { state = Refused k n; ledger = noLedger }
 
 unfoldable pub reportOf : Trace → Printed
 reportOf t = printBy (t .state) (t .session)
+
+-- a good trace
+abbrev pub goodOf : Session → Trace
+goodOf s = record { session = s; state = Good }
+
+-- "BAD RECORD N" is given for the first bad record from a session on: record N is bad, or comes after close, and every record before it is good and comes before close
+pub record BadFrom (s : Session) (b : List ℕ) (rs : List (List ℕ)) (n : ℕ) : Type 0 where
+  pub before : List (List ℕ)
+  pub worst : List ℕ
+  pub rest : List (List ℕ)
+  pub split : rs ≡ before ++ (worst ∷ rest)
+  pub fine : traced (goodOf s) b before .state ≡ Good
+  pub broken : (traced (goodOf s) b before .session .rest .closed || recordBad worst) ≡ true
+  pub number : n ≡ numberOf s + length before

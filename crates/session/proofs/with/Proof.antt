@@ -1,4 +1,3 @@
-
 use borrow.Author.Needs.{needs}
 use Rattle.session.proofs.with.Statement.{statement}
 use Rattle.session.proofs.with.Tie as tie

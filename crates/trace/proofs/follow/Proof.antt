@@ -3,10 +3,10 @@ use mathlib.Core.Path.{_≡_, refl}
 use native.Mathlib.Omega.{arith}
 use denote.Ref.{now}
 use lib.ListN.{length}
-use Rattle.trace.specs.Trace.{goodWith}
 use Rattle.trace.proofs.Runs.{Reading-on, cut-at, run-begins, run-decided, run-on, run-ends}
 use borrow.Author.Needs.{needs}
 use Rattle.trace.proofs.follow.Statement.{statement}
+use Rattle.trace.specs.Inner.{goodWith}
 use Rattle.trace.proofs.follow.Tie as tie
 
 abbrev Inv-loop : tie.InvT-loop

@@ -1,9 +1,9 @@
 use mathlib.Core.Path.{refl, sym, _∙_}
 use denote.Ref.{now}
-use Rattle.trace.specs.Trace.{goodWith}
 use Rattle.trace.proofs.Steps.{fine, step-closed, step-worst, step-called}
 use borrow.Author.Needs.{needs}
 use Rattle.trace.proofs.step.Statement.{statement}
+use Rattle.trace.specs.Inner.{goodWith}
 use Rattle.trace.proofs.step.Tie as tie
 
 number-requires : tie.Need-number-requires

@@ -1,7 +1,6 @@
 use Rattle.ledger.proofs.Lent.{with-ended}
 use Rattle.ledger.proofs.Rooms.{room-up, room-ended}
 use native.Mathlib.Omega.{arith}
-use borrow.Author.Needs.{needs}
 use Rattle.ledger.proofs.Ledger.answered.Statement.{statement}
 use Rattle.ledger.proofs.Ledger.answered.Tie as tie
 

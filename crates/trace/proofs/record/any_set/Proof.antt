@@ -1,6 +1,6 @@
 use Rattle.trace.proofs.Steps.{set-found, set-on, set-end}
 use Prim.Native.Nat.{_≤_, _-_}
-use mathlib.Core.Path.{_≡_, refl, _∙_, sym}
+use mathlib.Core.Path.{_≡_, refl}
 use lib.ListN.{length, drop}
 use native.Mathlib.Omega.{arith}
 use Rattle.trace.specs.Record.{anySet}
