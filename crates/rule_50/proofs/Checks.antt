@@ -119,11 +119,3 @@ module _ (o : Opening) (w : Phase) (m : ℕ) (a : Bool) (p : a ≡ sizesBroken o
     pub rest-under : (x : Bool) → b ≡ false → x ≡ underBroken w m → x ≡ restBroken o w m
     unfolding restBroken
     rest-under x f y = said-or-no a _ _ x p n (said-or-no b _ _ x q f y)
-
--- ---- the whole record, of its parts
-module _ (a b whole : Bool) (e : whole ≡ (a || b)) (s : Bool) (p : s ≡ a) where
-  pub whole-rest : s ≡ true → true ≡ whole
-  whole-rest y = said-or-yes s a b p y ∙ sym e
-
-  pub whole-posted : (x : Bool) → s ≡ false → x ≡ b → x ≡ whole
-  whole-posted x n q = said-or-no s a b x p n q ∙ sym e

@@ -94,8 +94,3 @@ unfolding rule50 restBroken postedBroken
 record-parts o p l last n places =
     rw (accounts-parts l last p n places, counts-parts l last p n places)
     (moved (sizesBroken o) (fillBroken p (o .frame)) (underBroken p n) (anyBelow accountCount (postedAccount l n)) (countsBroken (ledgerWith l Absent) n))
-
--- the last stamp is no part of it
-pub stamp-free : (o : Opening) (p : Phase) (l : List ℕ) (last : Stamp) (n : ℕ) → length l ≡ numberCount →
-    rule50 o p (shownOf (ledgerWith l last) p) n ≡ rule50 o p (shownOf (ledgerWith l Absent) p) n
-stamp-free o p l last n places = record-parts o p l last n places ∙ sym (record-parts o p l Absent n places)

@@ -4,12 +4,11 @@ use mathlib.Core.Path.{_≡_, sym, _∙_}
 use mathlib.Core.Bool.{Bool}
 use mathlib.Core.List.{List}
 use Rattle.sizes.specs.declared.Opening.{Opening}
-use Rattle.payload.specs.declared.Stamp.the-variants.{Absent}
 use Rattle.frames.specs.declared.Phase.{Phase}
-use Rattle.ledger.specs.Ledger.{shownOf}
-use Rattle.ledger.specs.Inner.{ledgerWith}
-use Rattle.rule_50.specs.Rule50.{rule50}
+use Rattle.rule_50.specs.Inner.{restBroken, postedBroken}
 
-pub broken-unique : (o : Opening) (p : Phase) (n : ℕ) (l : List ℕ) (x y : Bool) → x ≡ rule50 o p (shownOf (ledgerWith l Absent) p) n →
-    y ≡ rule50 o p (shownOf (ledgerWith l Absent) p) n → x ≡ y
-broken-unique o p n l x y e f = e ∙ sym f
+pub rest-unique : (o : Opening) (p : Phase) (n : ℕ) (x y : Bool) → x ≡ restBroken o p n → y ≡ restBroken o p n → x ≡ y
+rest-unique o p n x y e f = e ∙ sym f
+
+pub posted-unique : (l : List ℕ) (n : ℕ) (x y : Bool) → x ≡ postedBroken l n → y ≡ postedBroken l n → x ≡ y
+posted-unique l n x y e f = e ∙ sym f

@@ -1,14 +1,12 @@
 // Rule 50: what makes a session record unsound.
 ghost use mathlib.Core.Path.{_≡_};
 ghost use Prim.Native.Nat.{_<_, _^_};
-ghost use lib.ListN.{length};
 ghost use Rattle.payload.specs.declared.Stamp.the-variants.{Absent};
 ghost use Rattle.rules.specs.Numbered.{anyBelow};
 ghost use Rattle.sizes.specs.Sizes.{sizesBroken};
-ghost use Rattle.ledger.specs.Accounts.{accountCount, numberCount};
-ghost use Rattle.ledger.specs.Ledger.{shownOf};
+ghost use Rattle.ledger.specs.Accounts.{accountCount};
 ghost use Rattle.ledger.specs.Inner.{ledgerWith};
-ghost use Rattle.rule_50.specs.Rule50.{unequal, fillBroken, countsBroken, rule50};
+ghost use Rattle.rule_50.specs.Rule50.{unequal, fillBroken, countsBroken};
 ghost use Rattle.rule_50.specs.Inner.{underBroken, restBroken, postedAccount, postedBroken};
 use frames::Fault;
 use frames::Phase;
@@ -120,7 +118,7 @@ fn counts_broken(m: &Numbers, n: u64) -> bool
 }
 
 // Rule 50 of what is posted.
-fn posted_broken(m: &Numbers, taken: u32) -> bool
+pub fn posted_broken(m: &Numbers, taken: u32) -> bool
     ensures { λ r. ⌜ r ≡ postedBroken (now (m .entry)) taken ⌝ }
 {
     let n = taken as u64;
@@ -131,7 +129,7 @@ fn posted_broken(m: &Numbers, taken: u32) -> bool
 }
 
 // Rule 50 of the rest.
-fn rest_broken(o: Opening, p: Phase, taken: u32) -> bool
+pub fn rest_broken(o: Opening, p: Phase, taken: u32) -> bool
     ensures { λ r. ⌜ r ≡ restBroken o p taken ⌝ }
 {
     if sizes_broken(o) {
@@ -141,15 +139,4 @@ fn rest_broken(o: Opening, p: Phase, taken: u32) -> bool
         return true;
     }
     under_broken(p, taken as u64)
-}
-
-// Inner: rule 50 of a record: its opening, the frame under way, the transfers taken, and the lent numbers. What is required the type of the numbers says.
-pub fn broken(o: Opening, p: Phase, taken: u32, m: &Numbers) -> bool
-    requires { ⌜ length (now m) ≡ numberCount ⌝ }
-    ensures { λ r. ⌜ r ≡ rule50 o p (shownOf (ledgerWith (now (m .entry)) Absent) p) taken ⌝ }
-{
-    if rest_broken(o, p, taken) {
-        return true;
-    }
-    posted_broken(m, taken)
 }

@@ -2,7 +2,7 @@
 use Prim.Native.Nat.{ℕ, zero, suc, _+_, _-_, _≤_, _<_, _^_}
 use mathlib.Core.Path.{_≡_, refl, sym, ap, _∙_}
 use mathlib.Core.List.{List}
-use mathlib.Core.Bool.{Bool, true, false}
+use mathlib.Core.Bool.{Bool, true, false, _||_}
 use native.Mathlib.Omega.{arith}
 use native.Mathlib.Nat.{add-sub-cancel-left}
 use lib.ListN.{length, take, drop, length-drop}
@@ -20,14 +20,17 @@ use Rattle.payload.proofs.Readings.{readable-fits}
 use Rattle.frames.specs.declared.Track.{Track}
 use Rattle.frames.specs.declared.Turn.{Turn}
 use Rattle.frames.specs.declared.Shut.{Shut}
-use Rattle.frames.specs.Inner.{turnOf, idleTurn, unreadTurn, spoiltOf, closedOf}
+use Rattle.frames.specs.declared.Fate.{Fate}
+use Rattle.frames.specs.Inner.{turnOf, spoiltOf, closedOf}
 use Rattle.ledger.specs.declared.Account.{Account}
 use Rattle.ledger.specs.declared.Ledger.{Ledger}
-use Rattle.ledger.specs.Accounts.{lostAt, numberCount}
+use Rattle.ledger.specs.Accounts.{lostAt, idleAt, numberCount}
 use Rattle.ledger.specs.Ledger.{answeredOf}
 use Rattle.ledger.specs.Inner.{plusAt, enteredIn, endedIn, ledgerWith}
-use Rattle.ledger.proofs.Lent.{with-headers, with-lost, with-ended}
+use Rattle.ledger.proofs.Lent.{with-headers, with-unreadable, with-lost, with-idle, with-ended}
 use Rattle.rule_50.specs.Rule50.{transferMost}
+use Rattle.rule_50.specs.Inner.{restBroken, postedBroken}
+use Rattle.rule_50.proofs.Parts.{record-parts}
 use Rattle.session.specs.declared.Rest.{Rest}
 use Rattle.session.specs.declared.Session.{Session}
 use Rattle.session.specs.declared.Start.{Start}
@@ -36,20 +39,26 @@ use Rattle.session.specs.declared.Taken.{Taken}
 use Rattle.session.specs.declared.Report.{Report}
 use Rattle.session.specs.declared.Closing.{Closing}
 use Rattle.session.specs.Refusals.{takenMost, openingFlags, recordBroken, closeRowsBy, closeRows, lostRowsBy, lostRows, takeRowsBy, takeRows}
-use Rattle.session.specs.Session.{fresh, noSession, openBy, openOf, takenBy, readOf, readBuffer, tookOf, tookBuffer, takeBy, takeOf, bufferBy, bufferOf, lostBy, lostOf, closeBy, closeOf}
-use Rattle.session.specs.Inner.{wholeOf, takenWith, reportedWith, closedWith, Ready}
+use Rattle.session.specs.Session.{fresh, noSession, openBy, openOf, countedOf, readOf, readBuffer, plainly, tookOf, tookBuffer, takeBy, takeOf, bufferBy, bufferOf, lostBy, lostOf, closeBy, closeOf}
+use Rattle.session.specs.Inner.{wholeOf, countedRest, takenWith, reportedWith, closedWith, Ready}
 
--- ---- what the code finds of the record by its parts
-module _ (r : Rest) (l : List ℕ) (b : Bool) (e : b ≡ recordBroken (wholeOf r l)) (n : ℕ) where
-  pub close-found : n ≡ firstRow (closeRowsBy b (r .closed)) → n ≡ firstRow (closeRows (wholeOf r l))
-  close-found q = q ∙ ap (λ (x : Bool). firstRow (closeRowsBy x (r .closed))) e
+-- ---- what the code finds of the record's parts, it finds of the record
+module _ (r : Rest) (l : List ℕ) (places : length l ≡ numberCount) (posted : Bool) (e : posted ≡ postedBroken l (r .taken)) (n : ℕ) where
+  abbrev rest : Bool
+  rest = restBroken (r .opening) (r .track .phase) (r .taken)
 
-  pub lost-found : n ≡ firstRow (lostRowsBy b (r .closed) (r .taken)) → n ≡ firstRow (lostRows (wholeOf r l))
-  lost-found q = q ∙ ap (λ (x : Bool). firstRow (lostRowsBy x (r .closed) (r .taken))) e
+  found : (rest || posted) ≡ recordBroken (wholeOf r l)
+  found = ap (λ (b : Bool). rest || b) e ∙ sym (record-parts (r .opening) (r .track .phase) l (r .last) (r .taken) places)
 
-  pub take-found : (room len : ℕ) → n ≡ firstRow (takeRowsBy b (r .closed) (r .taken) (r .opening .frame) room len) →
+  pub close-found : n ≡ firstRow (closeRowsBy (rest || posted) (r .closed)) → n ≡ firstRow (closeRows (wholeOf r l))
+  close-found q = q ∙ ap (λ (x : Bool). firstRow (closeRowsBy x (r .closed))) found
+
+  pub lost-found : n ≡ firstRow (lostRowsBy (rest || posted) (r .closed) (r .taken)) → n ≡ firstRow (lostRows (wholeOf r l))
+  lost-found q = q ∙ ap (λ (x : Bool). firstRow (lostRowsBy x (r .closed) (r .taken))) found
+
+  pub take-found : (room len : ℕ) → n ≡ firstRow (takeRowsBy (rest || posted) (r .closed) (r .taken) (r .opening .frame) room len) →
       n ≡ firstRow (takeRows (wholeOf r l) room len)
-  take-found room len q = q ∙ ap (λ (x : Bool). firstRow (takeRowsBy x (r .closed) (r .taken) (r .opening .frame) room len)) e
+  take-found room len q = q ∙ ap (λ (x : Bool). firstRow (takeRowsBy x (r .closed) (r .taken) (r .opening .frame) room len)) found
 
 -- ---- a call that nothing refuses
 module _ (s : Session) where
@@ -105,46 +114,34 @@ pub put-buffer :
     (drop from t) (y .len)
 put-buffer x y from buffer t e k = let q = part-length t from (x .len) k in rw (← e, take-length, q, add-sub-cancel-left)
 
--- what a transfer leads to, once its answer is posted
-pub posted-done :
-    (r : Rest) (l m : List ℕ) (x : Turn) (last : Stamp) → ledgerWith m last ≡ answeredOf (ledgerWith l (r .last)) (x .answer) (x .gone) (x .bytes) →
-    takenWith (record {
-      rest = record { opening = r .opening; closed = r .closed; taken = r .taken + 1; track = x .track; last = last };
-      outcome = Outcome.Taken (x .answer);
-    }) m ≡ takenBy (wholeOf r l) (ledgerWith l (r .last)) x
-posted-done r l m x last q =
-    ap (λ (z : Ledger). record {
-      session =
-          record {
-            rest = record { opening = r .opening; closed = r .closed; taken = r .taken + 1; track = x .track; last = z .last };
-            numbers = z .numbers;
-          };
-      outcome = Outcome.Taken (x .answer);
-    }) q
-
--- a readable transfer, once its header is entered
-pub read-done : (r : Rest) (l k : List ℕ) (h : Header) (n : ℕ) (x : Turn) (y : Taken) → x ≡ turnOf (r .opening) (r .track) h n →
-    k ≡ enteredIn l Account.Headers (h .len) → y ≡ takenBy (wholeOf r k) (ledgerWith k (r .last)) x → y ≡ readOf (wholeOf r l) h n
+-- a readable transfer, once its header and its answer are entered
+pub read-done :
+    (r : Rest) (l k m : List ℕ) (h : Header) (n : ℕ) (x : Turn) (last : Stamp) (y : Rest) → x ≡ turnOf (r .opening) (r .track) h n →
+    k ≡ enteredIn l Account.Headers (h .len) →
+    ledgerWith m last ≡ answeredOf (ledgerWith k (r .last)) (x .answer) (x .gone) (x .bytes) →
+    y ≡ countedRest r (x .track) last →
+    takenWith (record { rest = y; outcome = Outcome.Taken (x .answer) }) m ≡ readOf (wholeOf r l) h n
 unfolding readOf
-read-done r l k h n x y e p q =
-    q
-    ∙ ap (λ (z : List ℕ). takenBy (wholeOf r l) (ledgerWith z (r .last)) x) p
-    ∙ ap (λ (z : Turn). takenBy (wholeOf r l) (ledgerWith (enteredIn l Account.Headers (h .len)) (r .last)) z) e
-    ∙ ap (λ (z : Ledger). takenBy (wholeOf r l) z (turnOf (r .opening) (r .track) h n)) (sym (with-headers l (r .last) (h .len)))
+read-done r l k m h n x last y e p q v =
+    ap (λ (z : Rest). takenWith (record { rest = z; outcome = Outcome.Taken (x .answer) }) m) v
+    ∙ ap (λ (z : Ledger). record { session = countedOf (wholeOf r l) (x .track) z; outcome = Outcome.Taken (x .answer) }) q
+    ∙ rw (p, e, with-headers l (r .last) (h .len))
 
 module _ (r : Rest) (l buffer t : List ℕ) where
   abbrev s : Session
   s = wholeOf r l
 
-  pub took-idle : (x : Reading) (w : Turn) (y : Taken) → x ≡ readingOf (r .opening) t → x ≡ Idle → w ≡ idleTurn (r .track) →
-      y ≡ takenBy s (ledgerWith l (r .last)) w → (y ≡ tookOf s t) × (buffer ≡ tookBuffer s buffer t)
+  pub took-idle : (x : Reading) (m : List ℕ) (y : Rest) → x ≡ readingOf (r .opening) t → x ≡ Idle → m ≡ plusAt l idleAt 1 →
+      y ≡ countedRest r (r .track) (r .last) →
+      (takenWith (record { rest = y; outcome = Outcome.Taken (plainly Fate.Idle) }) m ≡ tookOf s t) × (buffer ≡ tookBuffer s buffer t)
   unfolding tookOf tookBuffer
-  took-idle x w y e i v q = (rw (← e, i) (rw v at q), rw (← e, i))
+  took-idle x m y e i p q = (rw (← e, i, q, p, with-idle l (r .last)), rw (← e, i))
 
-  pub took-unreadable : (x : Reading) (k : ℕ) (w : Turn) (y : Taken) → x ≡ readingOf (r .opening) t → x ≡ Unreadable k →
-      w ≡ unreadTurn (r .track) k (length t) → y ≡ takenBy s (ledgerWith l (r .last)) w → (y ≡ tookOf s t) × (buffer ≡ tookBuffer s buffer t)
+  pub took-unreadable : (x : Reading) (k : ℕ) (m : List ℕ) (w : Track) (y : Rest) → x ≡ readingOf (r .opening) t → x ≡ Unreadable k →
+      m ≡ enteredIn l Account.Unreadable (length t) → w ≡ spoiltOf (r .track) → y ≡ countedRest r w (r .last) →
+      (takenWith (record { rest = y; outcome = Outcome.Taken (plainly (Fate.Unreadable k)) }) m ≡ tookOf s t) × (buffer ≡ tookBuffer s buffer t)
   unfolding tookOf tookBuffer
-  took-unreadable x k w y e i v q = (rw (← e, i) (rw v at q), rw (← e, i))
+  took-unreadable x k m w y e i p v q = (rw (← e, i, q, p, v, with-unreadable l (r .last) (length t)), rw (← e, i))
 
   pub took-readable : (x : Reading) (h : Header) (y : Taken) (b : List ℕ) → x ≡ readingOf (r .opening) t → x ≡ Readable h →
       y ≡ readOf s h (length t - h .len) → b ≡ readBuffer s h buffer t → (y ≡ tookOf s t) × (b ≡ tookBuffer s buffer t)

@@ -2,13 +2,14 @@
 use Prim.Native.Nat.{ℕ, zero, suc, _≤_, _<_}
 use mathlib.Core.Path.{_≡_, refl, sym, _∙_}
 use mathlib.Core.List.{List, [], _∷_, _++_}
-use mathlib.Core.Bool.{Bool, true, false}
+use mathlib.Core.Bool.{Bool, true, false, _||_}
 use native.Mathlib.Omega.{arith}
 use lib.Dec.{ltb, eqb}
 use borrow.Author.Tests.{lt-ltb, le-ltb, eq-eqb, ne-eqb}
 use Rattle.rules.specs.Numbered.{Row, firstRow}
 use Rattle.rules.proofs.Rows.{Numbered, row-here, row-later, row-before, row-after}
 use Rattle.rule_50.specs.Rule50.{transferMost}
+use Rattle.rule_50.proofs.Checks.{said-or-yes, said-or-no}
 use Rattle.session.specs.Refusals.{takenMost, closeRowsBy, lostRowsBy, takeRowsBy}
 
 rows-first : (rs qs : List Row) (n : ℕ) → n ≡ firstRow rs → (n ≡ 0 → ⊥) → n ≡ firstRow (rs ++ qs)
@@ -39,17 +40,23 @@ row51 frame room = record { number = 51; broken = ltb room frame }
 abbrev row55 : ℕ → Row
 row55 n = record { number = 55; broken = ltb transferMost n }
 
--- 50 and 53
-module _ (broken closed : Bool) where
-  pub close-50 : broken ≡ true → 50 ≡ firstRow (closeRowsBy broken closed)
-  close-50 y = row-yes (row50 broken) (row53 closed ∷ []) 50 refl y
+-- 50 and 53, of a record of which the rest and what is posted are found broken or not
+module _ (b rest posted closed : Bool) (e : b ≡ rest) where
+  pub close-rest : b ≡ true → 50 ≡ firstRow (closeRowsBy (rest || posted) closed)
+  close-rest y = row-yes (row50 (rest || posted)) (row53 closed ∷ []) 50 refl (sym (said-or-yes b rest posted e y))
 
-  module _ (n : broken ≡ false) where
-    pub close-53 : closed ≡ true → 53 ≡ firstRow (closeRowsBy broken closed)
-    close-53 y = row-no (row50 broken) (row53 closed ∷ []) 53 n (row-yes (row53 closed) [] 53 refl y)
+  module _ (n : b ≡ false) where
+    record-is : (x : Bool) → posted ≡ x → (rest || posted) ≡ x
+    record-is x q = sym (said-or-no b rest posted x e n (sym q))
 
-    pub close-none : closed ≡ false → 0 ≡ firstRow (closeRowsBy broken closed)
-    close-none y = row-no (row50 broken) (row53 closed ∷ []) 0 n (row-no (row53 closed) [] 0 y refl)
+    pub close-posted : posted ≡ true → 50 ≡ firstRow (closeRowsBy (rest || posted) closed)
+    close-posted y = row-yes (row50 (rest || posted)) (row53 closed ∷ []) 50 refl (record-is true y)
+
+    pub close-53 : posted ≡ false → closed ≡ true → 53 ≡ firstRow (closeRowsBy (rest || posted) closed)
+    close-53 m y = row-no (row50 (rest || posted)) (row53 closed ∷ []) 53 (record-is false m) (row-yes (row53 closed) [] 53 refl y)
+
+    pub close-none : posted ≡ false → closed ≡ false → 0 ≡ firstRow (closeRowsBy (rest || posted) closed)
+    close-none m y = row-no (row50 (rest || posted)) (row53 closed ∷ []) 0 (record-is false m) (row-no (row53 closed) [] 0 y refl)
 
 module _ (broken closed : Bool) (taken : ℕ) where
   abbrev closing : List Row

@@ -1,9 +1,11 @@
 -- What the inner contracts cite: the calls on the record's two parts, of which the numbers are lent. Nothing here needs to be believed.
-use Prim.Native.Nat.{ℕ, _<_}
+use Prim.Native.Nat.{ℕ, _+_, _<_}
 use mathlib.Core.Path.{_≡_}
 use mathlib.Core.Bool.{false}
 use mathlib.Core.List.{List}
 use lib.ListN.{length}
+use Rattle.payload.specs.declared.Stamp.{Stamp}
+use Rattle.frames.specs.declared.Track.{Track}
 use Rattle.ledger.specs.Accounts.{numberCount}
 use Rattle.session.specs.declared.Session.{Session}
 use Rattle.session.specs.declared.Rest.{Rest}
@@ -17,6 +19,9 @@ use Rattle.session.specs.Refusals.{takenMost, recordBroken}
 
 abbrev pub wholeOf : Rest → List ℕ → Session
 wholeOf r numbers = record { rest = r; numbers = numbers }
+
+abbrev pub countedRest : Rest → Track → Stamp → Rest
+countedRest r t last = record { opening = r .opening; closed = r .closed; taken = r .taken + 1; track = t; last = last }
 
 abbrev pub takenWith : RestTaken → List ℕ → Taken
 takenWith x numbers = record { session = wholeOf (x .rest) numbers; outcome = x .outcome }

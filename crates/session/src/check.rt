@@ -1,13 +1,11 @@
 // What refuses a call: 45 to 47 of an opening, rule 50 of a session record, and 53, 52, 51, 55 in this order.
 ghost use mathlib.Core.Path.{_≡_};
-ghost use lib.ListN.{length};
+ghost use mathlib.Core.Bool.{_||_};
 ghost use Rattle.rules.specs.Numbered.{firstFrom, firstRow};
-ghost use Rattle.ledger.specs.Accounts.{numberCount};
-ghost use Rattle.session.specs.Refusals.{openingFlags, recordBroken, closeRowsBy, lostRowsBy, takeRowsBy};
-ghost use Rattle.session.specs.Inner.{wholeOf};
+ghost use Rattle.rule_50.specs.Inner.{restBroken};
+ghost use Rattle.session.specs.Refusals.{openingFlags, closeRowsBy, lostRowsBy, takeRowsBy};
 use crate::Rest;
 use ledger::Ledger;
-use ledger::Numbers;
 use sizes::Opening;
 
 // The first of 45 to 47 that an opening breaks; 0 where none is broken.
@@ -26,49 +24,44 @@ pub fn opening_refusal(o: Opening, room: usize) -> u8
     0
 }
 
-// Rule 50 of a record.
-pub fn broken(s: Rest, m: &Numbers) -> bool
-    requires { ⌜ length (now m) ≡ numberCount ⌝ }
-    ensures { λ r. ⌜ r ≡ recordBroken (wholeOf s (now (m .entry))) ⌝ }
+// 50, 53. Posted: whether what is posted breaks rule 50.
+pub fn close_refusal(posted: bool, s: Rest) -> u8
+    ensures { λ r. ⌜ r ≡ firstRow (closeRowsBy (restBroken (s .opening) (s .track .phase) (s .taken) || posted) (s .closed)) ⌝ }
 {
     let o = s.opening;
     let t = s.track;
     let p = t.phase;
-    rule_50::broken(o, p, s.taken, m)
-}
-
-// 50, 53. Broken: whether the record breaks rule 50.
-pub fn close_refusal(broken: bool, closed: bool) -> u8
-    ensures { λ r. ⌜ r ≡ firstRow (closeRowsBy broken closed) ⌝ }
-{
-    if broken {
+    if rule_50::rest_broken(o, p, s.taken) {
         return 50;
     }
-    if closed {
+    if posted {
+        return 50;
+    }
+    if s.closed {
         return 53;
     }
     0
 }
 
 // 50, 53, 52.
-pub fn lost_refusal(broken: bool, closed: bool, taken: u32) -> u8
-    ensures { λ r. ⌜ r ≡ firstRow (lostRowsBy broken closed taken) ⌝ }
+pub fn lost_refusal(posted: bool, s: Rest) -> u8
+    ensures { λ r. ⌜ r ≡ firstRow (lostRowsBy (restBroken (s .opening) (s .track .phase) (s .taken) || posted) (s .closed) (s .taken)) ⌝ }
 {
-    let number = close_refusal(broken, closed);
+    let number = close_refusal(posted, s);
     if number != 0 {
         return number;
     }
-    if taken == Ledger::TRANSFERS {
+    if s.taken == Ledger::TRANSFERS {
         return 52;
     }
     0
 }
 
 // 50, 53, 52, 51, 55.
-pub fn take_refusal(broken: bool, s: Rest, room: usize, n: usize) -> u8
-    ensures { λ r. ⌜ r ≡ firstRow (takeRowsBy broken (s .closed) (s .taken) (s .opening .frame) room n) ⌝ }
+pub fn take_refusal(posted: bool, s: Rest, room: usize, n: usize) -> u8
+    ensures { λ r. ⌜ r ≡ firstRow (takeRowsBy (restBroken (s .opening) (s .track .phase) (s .taken) || posted) (s .closed) (s .taken) (s .opening .frame) room n) ⌝ }
 {
-    let number = lost_refusal(broken, s.closed, s.taken);
+    let number = lost_refusal(posted, s);
     if number != 0 {
         return number;
     }

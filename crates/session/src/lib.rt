@@ -3,19 +3,18 @@
 mod check;
 
 ghost use mathlib.Core.Path.{_≡_};
-ghost use Prim.Native.Nat.{_-_, _+_, _<_, _≤_, _^_};
+ghost use Prim.Native.Nat.{_-_, _+_, _<_, _≤_};
 ghost use lib.ListN.{length};
 ghost use Rattle.ledger.specs.Accounts.{numberCount};
-ghost use Rattle.ledger.specs.Inner.{ledgerWith, fateBytes, Room};
 ghost use Rattle.rule_50.specs.Rule50.{transferMost};
 ghost use Rattle.session.specs.Refusals.{takenMost, ledgerOf};
-ghost use Rattle.session.specs.Session.{openOf, newSession, takenBy, readOf, readBuffer, tookOf, tookBuffer, takeOf, bufferOf, lostOf, closeOf};
-ghost use Rattle.session.specs.Inner.{wholeOf, takenWith, reportedWith, closedWith, Ready};
+ghost use Rattle.session.specs.Session.{openOf, newSession, readOf, readBuffer, tookOf, tookBuffer, takeOf, bufferOf, lostOf, closeOf};
+ghost use Rattle.session.specs.Inner.{wholeOf, countedRest, takenWith, reportedWith, closedWith, Ready};
 use frames::Answer;
 use frames::Ended;
+use frames::Fate;
 use frames::Phase;
 use frames::Track;
-use frames::Turn;
 use ledger::Account;
 use ledger::Ledger;
 use ledger::Numbers;
@@ -220,25 +219,18 @@ impl Session {
 }
 
 impl Rest {
-    // One more taken, as the turn says: its answer is posted, whether the transfer is idle, unreadable or readable.
-    fn posted(self, m: &mut Numbers, turn: Turn) -> RestTaken
-        requires { ⌜ (Room (2 ^ 63 + 2 ^ 59) (now m)) × (turn .gone ≤ 2 ^ 50) × (fateBytes (turn .answer .fate) (turn .bytes) ≤ 2 ^ 50) × (self .taken < takenMost) ⌝ }
-        ensures { λ r. ⌜ takenWith r (now (m .exit)) ≡ takenBy (wholeOf self (now (m .entry))) (ledgerWith (now (m .entry)) (self .last)) turn ⌝ }
+    // One more taken, with this track and last stamp.
+    fn counted(self, track: Track, last: Stamp) -> Rest
+        requires { ⌜ self .taken < takenMost ⌝ }
+        ensures { λ r. ⌜ r ≡ countedRest self track last ⌝ }
     {
-        let answer = turn.answer;
-        let was = self.last;
-        let last = Ledger::answered(m, was, answer, turn.gone, turn.bytes);
         let opening = self.opening;
-        let track = turn.track;
-        RestTaken {
-            rest: Rest {
-                opening,
-                closed: self.closed,
-                taken: self.taken + 1,
-                track,
-                last,
-            },
-            outcome: Outcome::Taken(answer),
+        Rest {
+            opening,
+            closed: self.closed,
+            taken: self.taken + 1,
+            track,
+            last,
         }
     }
 
@@ -256,8 +248,15 @@ impl Rest {
         let at = turn.at;
         let k = turn.len;
         copier::put(buffer, at, &t[from..from + k]);
+        let answer = turn.answer;
+        let was = self.last;
         Ledger::entered(m, Account::Headers, from as u64);
-        self.posted(m, turn)
+        let last = Ledger::answered(m, was, answer, turn.gone, turn.bytes);
+        let next = turn.track;
+        RestTaken {
+            rest: self.counted(next, last),
+            outcome: Outcome::Taken(answer),
+        }
     }
 
     // A transfer that nothing refuses.
@@ -268,10 +267,29 @@ impl Rest {
     {
         let o = self.opening;
         let track = self.track;
+        let last = self.last;
         let reading = payload::read(o, t);
         match reading {
-            Reading::Idle => self.posted(m, track.idle()),
-            Reading::Unreadable(number) => self.posted(m, track.unread(number, t.len())),
+            Reading::Idle => {
+                Ledger::plus(m, Ledger::IDLE, 1);
+                RestTaken {
+                    rest: self.counted(track, last),
+                    outcome: Outcome::Taken(Answer {
+                        ended: Ended::Nothing,
+                        fate: Fate::Idle,
+                    }),
+                }
+            }
+            Reading::Unreadable(number) => {
+                Ledger::entered(m, Account::Unreadable, t.len() as u64);
+                RestTaken {
+                    rest: self.counted(track.spoilt(), last),
+                    outcome: Outcome::Taken(Answer {
+                        ended: Ended::Nothing,
+                        fate: Fate::Unreadable(number),
+                    }),
+                }
+            }
             Reading::Readable(h) => self.read(m, buffer, t, h),
         }
     }
@@ -283,8 +301,8 @@ impl Rest {
         ensures { λ r. ⌜ takenWith r (now (m .exit)) ≡ takeOf (wholeOf self (now (m .entry))) (length (now (buffer .entry))) (now (t .entry)) ⌝ }
         ensures { λ _. ⌜ now (buffer .exit) ≡ bufferOf (wholeOf self (now (m .entry))) (now (buffer .entry)) (now (t .entry)) ⌝ }
     {
-        let broken = check::broken(self, m);
-        let number = check::take_refusal(broken, self, buffer.len(), t.len());
+        let posted = rule_50::posted_broken(m, self.taken);
+        let number = check::take_refusal(posted, self, buffer.len(), t.len());
         if number != 0 {
             return RestTaken {
                 rest: self,
@@ -299,8 +317,8 @@ impl Rest {
         requires { ⌜ length (now m) ≡ numberCount ⌝ }
         ensures { λ r. ⌜ reportedWith r (now (m .exit)) ≡ lostOf (wholeOf self (now (m .entry))) ⌝ }
     {
-        let broken = check::broken(self, m);
-        let number = check::lost_refusal(broken, self.closed, self.taken);
+        let posted = rule_50::posted_broken(m, self.taken);
+        let number = check::lost_refusal(posted, self);
         if number != 0 {
             return RestReported {
                 rest: self,
@@ -328,8 +346,8 @@ impl Rest {
         requires { ⌜ length (now m) ≡ numberCount ⌝ }
         ensures { λ r. ⌜ closedWith r (now (m .exit)) ≡ closeOf (wholeOf self (now (m .entry))) ⌝ }
     {
-        let broken = check::broken(self, m);
-        let number = check::close_refusal(broken, self.closed);
+        let posted = rule_50::posted_broken(m, self.taken);
+        let number = check::close_refusal(posted, self);
         if number != 0 {
             return RestClosed {
                 rest: self,

@@ -10,8 +10,8 @@ use borrow.Author.Needs.{needs}
 use Rattle.session.proofs.Rest.close.Statement.{statement}
 use Rattle.session.proofs.Rest.close.Tie as tie
 
-broken-requires : tie.Need-broken-requires
-broken-requires c κs = search needs
+posted-broken-requires : tie.Need-posted-broken-requires
+posted-broken-requires c κs = search needs
 
 close-refusal-requires : tie.Need-close-refusal-requires
 close-refusal-requires c κs = search needs
@@ -19,7 +19,7 @@ close-refusal-requires c κs = search needs
 returns : tie.Need-returns
 returns c =
     let s = c .before .before .before .before in
-    let e = close-found (s .args .self) (now (s .args .m)) _ (c .before .before .broken .ensures) _ (c .before .close-refusal .ensures) in
+    let e = close-found (s .args .self) (now (s .args .m)) (search needs) _ (c .before .before .posted-broken .ensures) _ (c .before .close-refusal .ensures) in
     close-refused (s .args .self) (now (s .args .m)) _ e (c .if1 .taken)
 
 shut-requires : tie.Need-shut-requires
@@ -28,7 +28,7 @@ shut-requires c κs = search needs
 ended-requires : tie.Need-ended-requires
 ended-requires c κs =
     let s = c .before .before .before .before .before .before .before in
-    let e = close-found (s .args .self) (now (s .args .m)) _ (c .before .before .before .before .before .broken .ensures) _ (c .before .before .before .before .close-refusal .ensures) in
+    let e = close-found (s .args .self) (now (s .args .m)) (search needs) _ (c .before .before .before .before .before .posted-broken .ensures) _ (c .before .before .before .before .close-refusal .ensures) in
     let r = wholeOf (s .args .self) (now (s .args .m)) in
     let a = able _ _ (postedOf r) _ (close-sound r _ e (omega arith)) (search needs) (search needs) in (
       room-up _ _ _ (a .room) (omega arith),
@@ -38,14 +38,14 @@ ended-requires c κs =
 returns-2 : tie.Need-returns-2
 returns-2 c =
     let s = c .before .before .before .before .before .before .before .before .before .before in
-    let e = close-found (s .args .self) (now (s .args .m)) _ (c .before .before .before .before .before .before .before .before .broken .ensures) _ (c .before .before .before .before .before .before .before .close-refusal .ensures) in
+    let e = close-found (s .args .self) (now (s .args .m)) (search needs) _ (c .before .before .before .before .before .before .before .before .posted-broken .ensures) _ (c .before .before .before .before .before .before .before .close-refusal .ensures) in
     close-closed (s .args .self) (now (s .args .m)) _ e _ _ (omega arith) (c .before .before .before .before .shut .ensures) (c .before .before .ended .ensures)
 
 pub close-spec : {M : Type 1} → statement M
 close-spec =
     tie.close
     (tie.spec
-    broken-requires
+    posted-broken-requires
     close-refusal-requires
     returns
     shut-requires

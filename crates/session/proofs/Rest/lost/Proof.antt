@@ -9,8 +9,8 @@ use borrow.Author.Needs.{needs}
 use Rattle.session.proofs.Rest.lost.Statement.{statement}
 use Rattle.session.proofs.Rest.lost.Tie as tie
 
-broken-requires : tie.Need-broken-requires
-broken-requires c κs = search needs
+posted-broken-requires : tie.Need-posted-broken-requires
+posted-broken-requires c κs = search needs
 
 lost-refusal-requires : tie.Need-lost-refusal-requires
 lost-refusal-requires c κs = search needs
@@ -18,20 +18,20 @@ lost-refusal-requires c κs = search needs
 returns : tie.Need-returns
 returns c =
     let s = c .before .before .before .before in
-    let e = lost-found (s .args .self) (now (s .args .m)) _ (c .before .before .broken .ensures) _ (c .before .lost-refusal .ensures) in
+    let e = lost-found (s .args .self) (now (s .args .m)) (search needs) _ (c .before .before .posted-broken .ensures) _ (c .before .lost-refusal .ensures) in
     lost-refused (s .args .self) (now (s .args .m)) _ e (c .if1 .taken)
 
 plus-requires : tie.Need-plus-requires
 plus-requires c κs =
     let s = c .before .before .before .before .before .before .before in
-    let e = lost-found (s .args .self) (now (s .args .m)) _ (c .before .before .before .before .before .broken .ensures) _ (c .before .before .before .before .lost-refusal .ensures) in
+    let e = lost-found (s .args .self) (now (s .args .m)) (search needs) _ (c .before .before .before .before .before .posted-broken .ensures) _ (c .before .before .before .before .lost-refusal .ensures) in
     let r = lost-ready (wholeOf (s .args .self) (now (s .args .m))) (search needs) (search needs) _ e (omega arith) in
     adding _ _ lostAt 1 (ready-able (wholeOf (s .args .self) (now (s .args .m))) r .room) (omega arith) (omega arith) (omega arith)
 
 add-t13 : tie.Need-add-t13
 add-t13 c =
     let s = c .before .before .before .before .before .before .before .before .before in
-    let e = lost-found (s .args .self) (now (s .args .m)) _ (c .before .before .before .before .before .before .before .broken .ensures) _ (c .before .before .before .before .before .before .lost-refusal .ensures) in
+    let e = lost-found (s .args .self) (now (s .args .m)) (search needs) _ (c .before .before .before .before .before .before .before .posted-broken .ensures) _ (c .before .before .before .before .before .before .lost-refusal .ensures) in
     let r = lost-ready (wholeOf (s .args .self) (now (s .args .m))) (search needs) (search needs) _ e (omega arith) in
     omega (arith, r .more)
 
@@ -41,14 +41,14 @@ spoilt-requires c κs = search needs
 returns-2 : tie.Need-returns-2
 returns-2 c =
     let s = c .before .before .before .before .before .before .before .before .before .before in
-    let e = lost-found (s .args .self) (now (s .args .m)) _ (c .before .before .before .before .before .before .before .before .broken .ensures) _ (c .before .before .before .before .before .before .before .lost-refusal .ensures) in
+    let e = lost-found (s .args .self) (now (s .args .m)) (search needs) _ (c .before .before .before .before .before .before .before .before .posted-broken .ensures) _ (c .before .before .before .before .before .before .before .lost-refusal .ensures) in
     lost-noted (s .args .self) (now (s .args .m)) _ e _ _ (omega arith) (c .before .before .plus .ensures) (c .spoilt .ensures)
 
 pub lost-spec : {M : Type 1} → statement M
 lost-spec =
     tie.close
     (tie.spec
-    broken-requires
+    posted-broken-requires
     lost-refusal-requires
     returns
     plus-requires

@@ -49,35 +49,38 @@ put-requires c κs =
 
 entered-requires : tie.Need-entered-requires
 entered-requires c κs =
-    let s = c .before .before .before .before .before .before .before .before .before .before .before in
+    let s = c .before .before .before .before .before .before .before .before .before .before .before .before in
     let r = wholeOf (s .args .self) (now (s .args .m)) in
     entering _ _ _ Account.Headers _ (room-up _ _ _ (ready-able r (s .pre .0) .room) (omega arith)) (λ e. omega arith)
     (omega (arith, s .pre .2, s .pre .3))
 
-posted-requires : tie.Need-posted-requires
-posted-requires c κs =
-    let s = c .before .before .before .before .before .before .before .before .before .before .before .before .before in
+answered-requires : tie.Need-answered-requires
+answered-requires c κs =
+    let s = c .before .before .before .before .before .before .before .before .before .before .before .before .before .before in
     let r = wholeOf (s .args .self) (now (s .args .m)) in
-    let x = c .before .before .before .before .before .before .before .before .turn in
+    let x = c .before .before .before .before .before .before .before .before .before .turn in
     let a = ready-able r (s .pre .0) in (
       rw (c .before .entered .ensures) (room-entered _ _ (now (s .args .m)) Account.Headers (s .args .h .len) (a .room)
           (omega (arith, s .pre .2, s .pre .3))),
       gone-few r a (s .args .h) _ (x .result) (x .ensures),
       fate-few r a (s .args .h) _ (x .result) (x .ensures) (omega (arith, s .pre .2)),
-      s .pre .0 .more,
     )
+
+counted-requires : tie.Need-counted-requires
+counted-requires c κs = search needs
 
 same-length : tie.Need-same-length
 same-length c = search needs
 
 returns : tie.Need-returns
 returns c =
-    let s = c .before .before .before .before .before .before .before .before .before .before .before .before .before .before in
+    let s = c .before .before .before .before .before .before .before .before .before .before .before .before .before .before .before .before .before in
     let r = wholeOf (s .args .self) (now (s .args .m)) in
-    let x = c .before .before .before .before .before .before .before .before .before .turn in
+    let x = c .before .before .before .before .before .before .before .before .before .before .before .before .turn in
     let q = sits r (ready-able r (s .pre .0)) (s .args .h) _ (x .result) (x .ensures) in (
-      read-done (s .args .self) (now (s .args .m)) _ (s .args .h) _ (x .result) _ (x .ensures) (c .before .before .entered .ensures) (c .posted .ensures),
-      c .before .before .before .before .before .before .put .ensures
+      read-done (s .args .self) (now (s .args .m)) _ _ (s .args .h) _ (x .result) _ _ (x .ensures) (c .before .before .before .before .entered .ensures)
+          (c .before .before .answered .ensures) (c .counted .ensures),
+      c .before .before .before .before .before .before .before .before .before .put .ensures
           ∙ put-buffer (x .result) _ (s .args .h .len) (now (s .args .buffer)) (now (s .args .t)) (x .ensures) (omega (arith, q .short, s .pre .3)),
     )
 
@@ -93,6 +96,7 @@ read-spec =
     part-put-end
     put-requires
     entered-requires
-    posted-requires
+    answered-requires
+    counted-requires
     same-length
     returns)

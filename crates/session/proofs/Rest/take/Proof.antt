@@ -7,8 +7,8 @@ use borrow.Author.Needs.{needs}
 use Rattle.session.proofs.Rest.take.Statement.{statement}
 use Rattle.session.proofs.Rest.take.Tie as tie
 
-broken-requires : tie.Need-broken-requires
-broken-requires c κs = search needs
+posted-broken-requires : tie.Need-posted-broken-requires
+posted-broken-requires c κs = search needs
 
 take-refusal-requires : tie.Need-take-refusal-requires
 take-refusal-requires c κs = search needs
@@ -16,13 +16,13 @@ take-refusal-requires c κs = search needs
 returns : tie.Need-returns
 returns c =
     let s = c .before .before .before .before .before .before in
-    let e = take-found (s .args .self) (now (s .args .m)) _ (c .before .before .broken .ensures) _ (length (now (s .args .buffer))) (length (now (s .args .t))) (c .before .take-refusal .ensures) in
+    let e = take-found (s .args .self) (now (s .args .m)) (search needs) _ (c .before .before .posted-broken .ensures) _ (length (now (s .args .buffer))) (length (now (s .args .t))) (c .before .take-refusal .ensures) in
     take-refused (s .args .self) (now (s .args .m)) (now (s .args .buffer)) (now (s .args .t)) _ e (c .if1 .taken)
 
 took-requires : tie.Need-took-requires
 took-requires c κs =
     let s = c .before .before .before .before .before .before .before .before in
-    let e = take-found (s .args .self) (now (s .args .m)) _ (c .before .before .before .before .broken .ensures) _ (length (now (s .args .buffer))) (length (now (s .args .t))) (c .before .before .before .take-refusal .ensures) in
+    let e = take-found (s .args .self) (now (s .args .m)) (search needs) _ (c .before .before .before .before .posted-broken .ensures) _ (length (now (s .args .buffer))) (length (now (s .args .t))) (c .before .before .before .take-refusal .ensures) in
     let f = take-ready (wholeOf (s .args .self) (now (s .args .m))) (search needs) (search needs) _ _ _ e (omega arith) in
     (f .ready, f .whole, f .short)
 
@@ -32,10 +32,10 @@ same-length c = search needs
 returns-2 : tie.Need-returns-2
 returns-2 c =
     let s = c .before .before .before .before .before .before .before .before .before .before .before in
-    let e = take-found (s .args .self) (now (s .args .m)) _ (c .before .before .before .before .before .before .before .broken .ensures) _ (length (now (s .args .buffer))) (length (now (s .args .t))) (c .before .before .before .before .before .before .take-refusal .ensures) in
+    let e = take-found (s .args .self) (now (s .args .m)) (search needs) _ (c .before .before .before .before .before .before .before .posted-broken .ensures) _ (length (now (s .args .buffer))) (length (now (s .args .t))) (c .before .before .before .before .before .before .take-refusal .ensures) in
     take-taken (s .args .self) (now (s .args .m)) (now (s .args .buffer)) (now (s .args .t)) _ e _ _ (omega arith) (c .before .before .took .ensures .0) (c .before .before .took .ensures .1)
 
 pub take-spec : {M : Type 1} → statement M
 take-spec =
     tie.close
-    (tie.spec broken-requires take-refusal-requires returns took-requires same-length returns-2)
+    (tie.spec posted-broken-requires take-refusal-requires returns took-requires same-length returns-2)

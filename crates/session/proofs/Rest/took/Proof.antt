@@ -1,6 +1,8 @@
 use mathlib.Core.List.{[]}
 use denote.Ref.{now}
-use Rattle.ledger.proofs.Rooms.{room-up}
+use Rattle.ledger.specs.declared.Account.{Account}
+use Rattle.ledger.specs.Accounts.{idleAt}
+use Rattle.ledger.proofs.Rooms.{room-up, entering, adding}
 use Rattle.session.specs.Inner.{wholeOf}
 use Rattle.session.proofs.Calls.{took-idle, took-unreadable, took-readable, header-within}
 use Rattle.session.proofs.Ready.{ready-able}
@@ -15,26 +17,30 @@ read-requires c κs = search needs
 enum-told : tie.Need-enum-told
 enum-told c = search needs
 
-idle-requires : tie.Need-idle-requires
-idle-requires c κs = search needs
-
-posted-requires : tie.Need-posted-requires
-posted-requires c κs =
-    let s = c .before .before .before .before .before .before .before .before .before in
+plus-requires : tie.Need-plus-requires
+plus-requires c κs =
+    let s = c .before .before .before .before .before .before .before .before in
     let r = wholeOf (s .args .self) (now (s .args .m)) in
-    rw (c .idle .ensures) (room-up _ _ _ (ready-able r (s .pre .0) .room) (omega arith), omega arith, omega arith, s .pre .0 .more)
+    adding _ _ idleAt 1 (ready-able r (s .pre .0) .room) (omega arith) (omega arith) (omega arith)
+
+counted-requires : tie.Need-counted-requires
+counted-requires c κs = search needs
 
 enum-known-reading : tie.Need-enum-known-reading
 enum-known-reading c = search needs
 
-unread-requires : tie.Need-unread-requires
-unread-requires c κs = search needs
-
-posted-requires-2 : tie.Need-posted-requires-2
-posted-requires-2 c κs =
-    let s = c .before .before .before .before .before .before .before .before .before .before in
+entered-requires : tie.Need-entered-requires
+entered-requires c κs =
+    let s = c .before .before .before .before .before .before .before .before .before in
     let r = wholeOf (s .args .self) (now (s .args .m)) in
-    rw (c .unread .ensures) (room-up _ _ _ (ready-able r (s .pre .0) .room) (omega arith), omega arith, omega (arith, s .pre .2), s .pre .0 .more)
+    entering _ _ _ Account.Unreadable _ (room-up _ _ _ (ready-able r (s .pre .0) .room) (omega arith)) (λ e. omega arith)
+    (omega (arith, s .pre .2))
+
+spoilt-requires : tie.Need-spoilt-requires
+spoilt-requires c κs = search needs
+
+counted-requires-2 : tie.Need-counted-requires-2
+counted-requires-2 c κs = search needs
 
 enum-known-reading-2 : tie.Need-enum-known-reading-2
 enum-known-reading-2 c = search needs
@@ -52,13 +58,13 @@ returns : tie.Need-returns
 returns c =
     let s = c .before .before .before .before .before .before .before .before .before .before in
     took-idle (s .args .self) (now (s .args .m)) (now (s .args .buffer)) (now (s .args .t)) _ _ _ (c .before .before .before .before .before .read .ensures)
-    (c .before .before .before .enum-told .given .1) (c .before .idle .ensures) (c .posted .ensures)
+    (c .before .before .before .enum-told .given .1) (c .before .plus .ensures) (c .counted .ensures)
 
 returns-2 : tie.Need-returns-2
 returns-2 c =
-    let s = c .before .before .before .before .before .before .before .before .before .before .before in
-    took-unreadable (s .args .self) (now (s .args .m)) (now (s .args .buffer)) (now (s .args .t)) _ _ _ _ (c .before .before .before .before .before .before .read .ensures)
-    (c .before .before .before .before .reading .given .1) (c .before .unread .ensures) (c .posted2 .ensures)
+    let s = c .before .before .before .before .before .before .before .before .before .before .before .before in
+    took-unreadable (s .args .self) (now (s .args .m)) (now (s .args .buffer)) (now (s .args .t)) _ _ _ _ _ (c .before .before .before .before .before .before .before .read .ensures)
+    (c .before .before .before .before .before .reading .given .1) (c .before .before .entered .ensures) (c .before .spoilt .ensures) (c .counted2 .ensures)
 
 same-length : tie.Need-same-length
 same-length c = search needs
@@ -75,11 +81,12 @@ took-spec =
     (tie.spec
     read-requires
     enum-told
-    idle-requires
-    posted-requires
+    plus-requires
+    counted-requires
     enum-known-reading
-    unread-requires
-    posted-requires-2
+    entered-requires
+    spoilt-requires
+    counted-requires-2
     enum-known-reading-2
     read-requires-2
     returns
