@@ -1,3 +1,4 @@
+use Rattle.ledger.specs.Accounts.{accountCount}
 use denote.Ref.{now}
 use Prim.Native.Nat.{ℕ, _-_, _≤_, _<_}
 use mathlib.Core.Path.{_≡_, sym, _∙_}
@@ -11,10 +12,10 @@ use Rattle.rule_50.proofs.accounts_broken.Statement.{statement}
 use Rattle.rule_50.proofs.accounts_broken.Tie as tie
 
 abbrev Inv-loop : tie.InvT-loop
-Inv-loop m n k₀ k = (k ≤ 11) × ((j : ℕ) → j < k → postedAccount m n j ≡ false)
+Inv-loop m n k₀ k = (k ≤ accountCount) × ((j : ℕ) → j < k → postedAccount m n j ≡ false)
 
 abbrev μ-loop : tie.MeasureT-loop
-μ-loop m n k₀ k = 11 - k
+μ-loop m n k₀ k = accountCount - k
 
 loop-holds : tie.Need-loop-holds Inv-loop μ-loop
 loop-holds c = (omega arith, λ j h. absurd (omega arith))
