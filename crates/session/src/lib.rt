@@ -167,54 +167,39 @@ impl Session {
         ensures { λ r. ⌜ r ≡ takeOf self (length (now (buffer .entry))) (now (t .entry)) ⌝ }
         ensures { λ _. ⌜ now (buffer .exit) ≡ bufferOf self (now (buffer .entry)) (now (t .entry)) ⌝ }
     {
-        let rest = self.rest;
-        let mut numbers = self.numbers;
-        let taken = rest.take(&mut numbers, buffer, t);
+        let mut session = self;
+        let rest = session.rest;
+        let taken = rest.take(&mut session.numbers, buffer, t);
         let next = taken.rest;
+        session.rest = next;
         let outcome = taken.outcome;
-        Taken {
-            session: Session {
-                rest: next,
-                numbers,
-            },
-            outcome,
-        }
+        Taken { session, outcome }
     }
 
     // The host reports a lost transfer.
     pub fn lost(self) -> Reported
         ensures { λ r. ⌜ r ≡ lostOf self ⌝ }
     {
-        let rest = self.rest;
-        let mut numbers = self.numbers;
-        let reported = rest.lost(&mut numbers);
+        let mut session = self;
+        let rest = session.rest;
+        let reported = rest.lost(&mut session.numbers);
         let next = reported.rest;
+        session.rest = next;
         let report = reported.report;
-        Reported {
-            session: Session {
-                rest: next,
-                numbers,
-            },
-            report,
-        }
+        Reported { session, report }
     }
 
     // Ends a frame under way, and the session.
     pub fn close(self) -> Closed
         ensures { λ r. ⌜ r ≡ closeOf self ⌝ }
     {
-        let rest = self.rest;
-        let mut numbers = self.numbers;
-        let closed = rest.close(&mut numbers);
+        let mut session = self;
+        let rest = session.rest;
+        let closed = rest.close(&mut session.numbers);
         let next = closed.rest;
+        session.rest = next;
         let closing = closed.closing;
-        Closed {
-            session: Session {
-                rest: next,
-                numbers,
-            },
-            closing,
-        }
+        Closed { session, closing }
     }
 }
 
