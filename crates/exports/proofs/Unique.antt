@@ -2,8 +2,10 @@
 use Prim.Native.Nat.{ℕ}
 use mathlib.Core.Path.{_≡_, sym, ap, _∙_}
 use mathlib.Core.List.{List}
+use Rattle.sizes.specs.declared.Opening.{Opening}
 use Rattle.control.specs.declared.Control.{Control}
 use Rattle.control.proofs.Unique.{read-unique}
+use Rattle.exports.specs.Taking.{opened, tookAll, deliveredOf}
 use Rattle.exports.specs.Numbers.{numberOf, numberUnder, ControlNumber, StreamingNumber}
 
 pub control-unique : (s : List ℕ) (r t : ℕ) → ControlNumber s r → ControlNumber s t → r ≡ t
@@ -15,3 +17,9 @@ pub streaming-unique : (s b : List ℕ) (r t : ℕ) → StreamingNumber s b r �
 streaming-unique s b r t x y =
     let same = read-unique s (x .read) (y .read) in
     x .number ∙ ap (λ (c : Control). numberUnder (c .verdict) (c .table) b) same ∙ sym (y .number)
+
+pub take-unique : (o : Opening) (size times : ℕ) (b l : List ℕ) (r t : ℕ) → r ≡ deliveredOf (tookAll size l (opened o b) times) → t ≡ deliveredOf (tookAll size l (opened o b) times) → r ≡ t
+take-unique o size times b l r t e f = e ∙ sym f
+
+pub take-buffer-unique : (o : Opening) (size times : ℕ) (b l x y : List ℕ) → x ≡ tookAll size l (opened o b) times .buffer → y ≡ tookAll size l (opened o b) times .buffer → x ≡ y
+take-buffer-unique o size times b l x y e f = e ∙ sym f

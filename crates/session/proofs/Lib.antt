@@ -4,6 +4,7 @@ pub mod Ready
 pub mod Calls
 pub mod Row50
 pub mod Refused
+pub mod Lent
 pub mod Writes
 pub mod Unique
 pub mod Samples
