@@ -103,7 +103,7 @@ answerBy Idle s t = plainly Fate.Idle
 answerBy (Unreadable k) s t = plainly (Fate.Unreadable k)
 answerBy (Readable h) s t = turnOf (s .rest .opening) (s .rest .track) h (length t - h .len) .answer
 
-took-answer : (s : Session) (t : List ℕ) (r : Reading) → tookBy r s t .outcome ≡ Outcome.Taken (answerBy r s t)
+pub took-answer : (s : Session) (t : List ℕ) (r : Reading) → tookBy r s t .outcome ≡ Outcome.Taken (answerBy r s t)
 unfolding readOf
 took-answer s t Idle = refl
 took-answer s t (Unreadable k) = refl
@@ -112,7 +112,7 @@ took-answer s t (Readable h) = refl
 not-taken : (k : ℕ) (a : Answer) → Outcome.Refused k ≡ Outcome.Taken a → ⊥
 not-taken k a e = let z : _≡_ {A = ℕ} 0 1 = cc in omega arith
 
-same-answer : (a b : Answer) → Outcome.Taken a ≡ Outcome.Taken b → a ≡ b
+pub same-answer : (a b : Answer) → Outcome.Taken a ≡ Outcome.Taken b → a ≡ b
 same-answer a b e = cc
 
 -- an answer says that the call was taken, and what became of the reading

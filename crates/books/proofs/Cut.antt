@@ -59,7 +59,7 @@ onward o p Fresh a D r rs = judged o p rs
 onward o p (Past f) a D r rs = pass o p r rs
 onward o p (Under x) a D r rs = cont o p (x .fault or when a Gap) D (x .stamp) r rs
 
-or-assoc : (x y z : Fault) → x or (y or z) ≡ (x or y) or z
+pub or-assoc : (x y z : Fault) → x or (y or z) ≡ (x or y) or z
 or-assoc Sound y z = refl
 or-assoc (Bad w) y z = refl
 
@@ -67,11 +67,11 @@ pub or-sound : (x : Fault) → x or Sound ≡ x
 or-sound Sound = refl
 or-sound (Bad w) = refl
 
-stamp-assoc : (x y z : Stamp) → x orStamp (y orStamp z) ≡ (x orStamp y) orStamp z
+pub stamp-assoc : (x y z : Stamp) → x orStamp (y orStamp z) ≡ (x orStamp y) orStamp z
 stamp-assoc Absent y z = refl
 stamp-assoc (At w) y z = refl
 
-stamp-absent : (x : Stamp) → x orStamp Absent ≡ x
+pub stamp-absent : (x : Stamp) → x orStamp Absent ≡ x
 stamp-absent Absent = refl
 stamp-absent (At w) = refl
 
@@ -81,18 +81,18 @@ first-or (Bad v) b w = refl
 first-or Sound true w = refl
 first-or Sound false w = refl
 
-earlier-or : (s t : Stamp) → earlierOf s t ≡ s orStamp t
+pub earlier-or : (s t : Stamp) → earlierOf s t ≡ s orStamp t
 earlier-or Absent t = refl
 earlier-or (At x) t = refl
 
 -- a stamp is held to the frame's first, whether that came before it or is its own
-clash-or : (s t z : Stamp) → clashOf s t ≡ differs (s orStamp (t orStamp z)) t
+pub clash-or : (s t z : Stamp) → clashOf s t ≡ differs (s orStamp (t orStamp z)) t
 clash-or Absent Absent z = refl
 clash-or Absent (At x) z = rw (eq-eqb x x refl)
 clash-or (At y) Absent z = refl
 clash-or (At y) (At x) z = refl
 
-fault-or : (o : Opening) (x : Run) (h : Header) (d : ℕ) (z : Stamp) → faultOf o x h d ≡ x .fault or faultAt o (x .stamp orStamp (h .stamp orStamp z)) (x .bytes) h d
+pub fault-or : (o : Opening) (x : Run) (h : Header) (d : ℕ) (z : Stamp) → faultOf o x h d ≡ x .fault or faultAt o (x .stamp orStamp (h .stamp orStamp z)) (x .bytes) h d
 fault-or o x h d z =
     first-or (firstOf (firstOf (x .fault) (h .error) Error) (clashOf (x .stamp) (h .stamp)) Clock) (ltb (o .frame) (x .bytes + d)) Long
     ∙ ap (λ y. y or l) (first-or (firstOf (x .fault) (h .error) Error) (clashOf (x .stamp) (h .stamp)) Clock

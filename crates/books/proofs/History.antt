@@ -94,7 +94,7 @@ closed-afoot Fresh b D = refl
 closed-afoot (Past f) b D = refl
 closed-afoot (Under x) b D = refl
 
-turn-gap : (o : Opening) (h : Header) (n : ℕ) (ph : Phase) (b : Bool) → turnBy ph o b h n .track .gap ≡ false
+pub turn-gap : (o : Opening) (h : Header) (n : ℕ) (ph : Phase) (b : Bool) → turnBy ph o b h n .track .gap ≡ false
 unfolding pick
 turn-gap o h n Fresh b = refl
 turn-gap o h n (Past f) b = go (sameOf f (h .fid))

@@ -11,8 +11,12 @@ pub mod Accounts
 pub mod Received
 pub mod Bounds
 pub mod Sound
-pub mod LastRun
 pub mod Answers
+pub mod OneMore
+pub mod Grown
+pub mod Tracked
+pub mod ByList
+pub mod Held
 pub mod Whole
 pub mod Print
 pub mod Theorems

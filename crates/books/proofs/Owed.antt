@@ -46,11 +46,11 @@ onward-owed : (o : Opening) (p e : Bool) (x : Run) (D : List ℕ) (es : List Eve
 onward-owed o p true x D es = refl
 onward-owed o p false x D es = refl
 
-begun-fault : (b : Bool) → firstOf Sound b Gap ≡ when b Gap
+pub begun-fault : (b : Bool) → firstOf Sound b Gap ≡ when b Gap
 begun-fault true = refl
 begun-fault false = refl
 
-and-false : (b : Bool) → (b && false) ≡ false
+pub and-false : (b : Bool) → (b && false) ≡ false
 and-false true = refl
 and-false false = refl
 

@@ -7,6 +7,12 @@ use Rattle.rules.specs.Pick.{pick}
 use Rattle.rules.specs.Numbered.{firstFrom, anyBelow}
 use Rattle.sizes.specs.Sizes.{frameSizeBroken, payloadSizeBroken, sizesBroken}
 use Rattle.sizes.specs.declared.Opening.{Opening}
+use Rattle.payload.specs.declared.Stamp.{Stamp}
+use Rattle.frames.specs.declared.Reason.{Reason}
+use Rattle.frames.specs.declared.Ended.{Ended}
+use Rattle.frames.specs.declared.Fate.{Fate}
+use Rattle.frames.specs.declared.Answer.{Answer}
+use Rattle.books.specs.Answer.{answerOf, with}
 use Rattle.payload.specs.Transfer.{flagOf, needOf, transferFlags, stampOf, headerOf, readingOf}
 use Rattle.ledger.specs.Ledger.{plusOf, timedOf, postOf, shownOf}
 use Rattle.session.specs.Refusals.{ledgerOf}
@@ -47,3 +53,23 @@ by-session = refl
 pub all-taken : taken (fresh opening) (map (Offer.take (replicate 256 0)) transfers) ≡ map Call.transfer transfers
 unfolding pick firstFrom anyBelow frameSizeBroken payloadSizeBroken flagOf needOf transferFlags stampOf headerOf readingOf turnOf spoiltOf closedOf plusOf timedOf postOf shownOf sizesBroken fillBroken accountsBroken countsBroken rule50 readOf tookOf takeOf
 all-taken = refl
+
+-- and what each of its transfers answers
+abbrev answersFrom : List Call → List (List ℕ) → List Answer
+answersFrom cs [] = []
+answersFrom cs (t ∷ ts) = answerOf opening cs t ∷ answersFrom (with cs t) ts
+
+abbrev only : Fate → Answer
+only f = record { ended = Ended.Nothing; fate = f }
+
+pub answers-by-rule : answersFrom [] transfers
+    ≡ only Fate.Kept
+    ∷ only (Fate.Delivered (record { len = 3; stamp = Stamp.Absent }))
+    ∷ only Fate.Stray
+    ∷ only Fate.Kept
+    ∷ record { ended = Ended.Frame Reason.Cut; fate = Fate.Kept }
+    ∷ only (Fate.Unreadable 61)
+    ∷ only (Fate.Dropped Reason.Gap)
+    ∷ []
+unfolding pick firstFrom flagOf needOf transferFlags stampOf headerOf readingOf
+answers-by-rule = refl

@@ -1,6 +1,6 @@
 -- A session reached from a fresh one is never refused by 50.
 use Prim.Native.Nat.{ℕ, zero, suc, _+_, _-_, _*_, _^_, _≤_, _<_}
-use mathlib.Core.Path.{_≡_, refl, sym, _∙_, subst}
+use mathlib.Core.Path.{_≡_, refl, sym, _∙_, subst, ap}
 use mathlib.Core.Bool.{Bool, true, false, _||_}
 use mathlib.Core.List.{List, [], _∷_}
 use native.Mathlib.Omega.{arith}
@@ -28,7 +28,7 @@ use Rattle.session.specs.Refusals.{recordBroken, ledgerOf, takeRows}
 use Rattle.session.specs.Session.{fresh, readOf, tookBy, tookOf}
 use Rattle.books.specs.Rule.{lostLine, idleLine, events, received}
 use Rattle.books.specs.Demands.{Right}
-use Rattle.books.proofs.Taken.{Proper}
+use Rattle.books.proofs.Taken.{Proper, after-run}
 use Rattle.books.proofs.Accounts.{count-right, bytes-right, all-right}
 use Rattle.books.proofs.Bounds.{count-bound, bytes-bound, ticks-bound, backward-bound, untimed-bound}
 use Rattle.books.proofs.History.{next-opening}
@@ -37,7 +37,7 @@ use Rattle.sizes.specs.Sizes.{sizesBroken}
 use Rattle.frames.specs.Inner.{firstOf, clashOf, sameOf, whyOf, begunOf, joinedOf, filledOf, phaseOf, joinTurn, strayTurn, turnBy, turnOf, spoiltBy, spoiltOf, closedBy, closedOf}
 use Rattle.rule_50.specs.Rule50.{rule50, unequal, fillBroken, accountBroken, accountsBroken, countsBroken}
 use Rattle.session.specs.Call.{Call}
-use Rattle.session.specs.Calls.{Offer, refusal, next, callOf, unless, taken, nextCall, run}
+use Rattle.session.specs.Calls.{Offer, refusal, next, after, callOf, unless, taken, nextCall, run}
 
 -- ---- fill: within the frame, and in a frame without fault its bytes
 abbrev pub Snug : ℕ → Fault → ℕ → ℕ → Type 0
@@ -125,6 +125,9 @@ fill-fits frame (Under x) f = go (x .fault) f
 pub run-opening : (cs : List Call) (s : Session) → run s cs .rest .opening ≡ s .rest .opening
 run-opening [] s = refl
 run-opening (c ∷ cs) s = run-opening cs (nextCall s c) ∙ next-opening s c
+
+pub after-opening : (o : Opening) (xs : List Offer) → after (fresh o) xs .rest .opening ≡ o
+after-opening o xs = ap (λ (s : Session). s .rest .opening) (after-run (fresh o) xs) ∙ run-opening (taken (fresh o) xs) (fresh o)
 
 pub took-taken : (s : Session) (t : List ℕ) (r : Reading) → tookBy r s t .session .rest .taken ≡ s .rest .taken + 1
 unfolding readOf

@@ -2,7 +2,7 @@
 use Prim.Native.Nat.{ℕ, zero, suc}
 use mathlib.Core.Path.{_≡_, refl, _∙_, ap}
 use mathlib.Core.Bool.{Bool, true, false}
-use mathlib.Core.List.{List, [], _∷_}
+use mathlib.Core.List.{List, [], _∷_, _++_}
 use Rattle.rules.specs.Numbered.{orElse}
 use Rattle.session.specs.declared.Session.{Session}
 use Rattle.session.specs.Refusals.{recordBroken}
@@ -71,3 +71,14 @@ taken-proper s (x ∷ xs) = go x (refusal s x) refl (taken-proper (next s x) xs)
     go (Offer.take b t) zero e p = p
     go Offer.lost zero e p = p
     go Offer.close zero e p = last-of (taken (next s Offer.close) xs) (ap (λ (q : Session). taken q xs) (next-taken s Offer.close e) ∙ taken-none (nextCall s Call.close) xs refl)
+
+last-none : (cs : List Call) → Last cs → cs ≡ []
+last-none [] p = refl
+last-none (c ∷ cs) p = absurd p
+
+pub close-last : (before rest : List Call) → Proper (before ++ (Call.close ∷ rest)) → rest ≡ []
+close-last [] rest p = last-none rest p
+close-last (Call.transfer t ∷ cs) rest p = close-last cs rest p
+close-last (Call.lost ∷ cs) rest p = close-last cs rest p
+close-last (Call.close ∷ []) rest p = absurd p
+close-last (Call.close ∷ (c ∷ cs)) rest p = absurd p

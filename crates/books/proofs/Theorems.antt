@@ -2,7 +2,7 @@
 -- admissible sizes.
 use Prim.Native.Nat.{ℕ, zero, suc, _≤_}
 use mathlib.Core.Path.{_≡_, refl, sym, _∙_, ap, subst, fun-ext}
-use mathlib.Core.Bool.{false}
+use mathlib.Core.Bool.{Bool, false}
 use mathlib.Core.List.{List, [], _∷_, _++_, map}
 use native.Mathlib.Omega.{arith}
 use lib.ListN.{length, getD, replicate}
@@ -21,20 +21,23 @@ use Rattle.session.specs.declared.Start.{Start}
 use Rattle.session.specs.declared.Outcome.{Outcome}
 use Rattle.session.specs.declared.Report.{Report}
 use Rattle.session.specs.declared.Closing.{Closing}
-use Rattle.session.specs.Refusals.{openingFlags, recordBroken, ledgerOf}
+use Rattle.session.specs.Refusals.{takenMost, openingFlags, recordBroken, ledgerOf}
 use Rattle.session.specs.Session.{fresh, openBy, openOf, takeOf, bufferBy, bufferOf, lostOf, closeOf}
 use Rattle.books.specs.Rule.{entries, numbersOf, stamps, forward, between, received}
 use Rattle.books.specs.Demands.{Right, over, allBytes, endedItems, Gains, Says, Whole}
-use Rattle.books.proofs.Taken.{next-refused, after-run, taken-proper}
+use Rattle.books.specs.Answer.{answerOf, endingOf, writtenOf}
+use Rattle.books.proofs.Taken.{next-refused, after-run, Proper, taken-proper, close-last}
 use Rattle.books.proofs.Accounts.{all-right}
 use Rattle.books.proofs.Received.{entries-bytes, over-all}
-use Rattle.books.proofs.Sound.{taken-small, record-sound}
+use Rattle.books.proofs.Sound.{taken-small, record-sound, after-opening}
 use Rattle.books.proofs.Answers.{transfer-says, lost-says, close-says}
+use Rattle.books.proofs.ByList.{transfer-answers, transfer-writes, lost-answers, close-answers}
 use Rattle.books.proofs.Whole.{delivered-whole}
 use Rattle.books.proofs.Print.{run-numbers}
 use Rattle.books.proofs.Samples.{opening, transfers, printed, by-rule, by-session}
 use Rattle.ledger.specs.Accounts.{ticksAt, accounts}
 use Rattle.sizes.specs.Sizes.{sizesBroken}
+use Rattle.rule_50.specs.Rule50.{transferMost}
 use Rattle.session.specs.Call.{Call}
 use Rattle.session.specs.Calls.{Offer, refusal, next, after, taken, run, offers, bufferAfter}
 
@@ -61,6 +64,10 @@ refused-buffer s buffer t k e = ap (λ (n : ℕ). bufferBy n s buffer t) e
 pub history : (o : Opening) (xs : List Offer) → after (fresh o) xs ≡ run (fresh o) (taken (fresh o) xs)
 history o xs = after-run (fresh o) xs
 
+-- close is the last of the calls taken
+pub nothing-after-close : (o : Opening) (xs : List Offer) (before rest : List Call) → taken (fresh o) xs ≡ before ++ (Call.close ∷ rest) → rest ≡ []
+nothing-after-close o xs before rest e = close-last before rest (subst Proper e (taken-proper (fresh o) xs))
+
 -- 2. "Each account is what document 01's rule gives from the opening sizes and the list of calls alone": every count and every byte, lost, idle, ticks, backward and untimed.
 pub accounts-right : (o : Opening) (xs : List Offer) → Right o (taken (fresh o) xs) (ledgerOf (after (fresh o) xs))
 accounts-right o xs = subst (λ (s : Session). Right o (taken (fresh o) xs) (ledgerOf s)) (sym (history o xs)) (all-right o (taken (fresh o) xs) (taken-proper (fresh o) xs))
@@ -77,16 +84,33 @@ nothing-missing o xs =
 pub ticks-right : (o : Opening) (xs : List Offer) → getD (ledgerOf (after (fresh o) xs) .numbers) ticksAt 0 ≡ between forward (stamps (entries o (taken (fresh o) xs)))
 ticks-right o xs = accounts-right o xs .ticks
 
--- 4. Each answer is the rule's: what a call says of an ended frame and of its own transfer is what the rule gains by that call.
-pub answer-right : (o : Opening) (xs : List Offer) (buffer t : List ℕ) (a : Answer) → takeOf (after (fresh o) xs) (length buffer) t .outcome ≡ Outcome.Taken a → Says o (taken (fresh o) xs) (Call.transfer t) a
-answer-right = transfer-says
+-- 4. Each answer is one definition of the list: what became of a frame ended, and the transfer's own fate, with number, length and stamp.
+pub answer-right : (o : Opening) (xs : List Offer) (buffer t : List ℕ) → refusal (after (fresh o) xs) (Offer.take buffer t) ≡ 0
+    → takeOf (after (fresh o) xs) (length buffer) t .outcome ≡ Outcome.Taken (answerOf o (taken (fresh o) xs) t)
+answer-right = transfer-answers
 
-pub report-right : (o : Opening) (xs : List Offer) → lostOf (after (fresh o) xs) .report ≡ Report.Noted → Gains o (taken (fresh o) xs) Call.lost []
-report-right = lost-says
+pub report-right : (o : Opening) (xs : List Offer) → refusal (after (fresh o) xs) Offer.lost ≡ 0 → lostOf (after (fresh o) xs) .report ≡ Report.Noted
+report-right = lost-answers
 
-pub close-right : (o : Opening) (xs : List Offer) (e : Ended) → closeOf (after (fresh o) xs) .closing ≡ Closing.Closed e
+pub close-right : (o : Opening) (xs : List Offer) → refusal (after (fresh o) xs) Offer.close ≡ 0
+    → closeOf (after (fresh o) xs) .closing ≡ Closing.Closed (endingOf o (taken (fresh o) xs))
+close-right = close-answers
+
+-- "A transfer's data is written straight after the frame's earlier data .. if the frame has no fault up to and with this transfer; otherwise nothing is written."
+pub written-right : (o : Opening) (xs : List Offer) (buffer t : List ℕ) → refusal (after (fresh o) xs) (Offer.take buffer t) ≡ 0
+    → bufferOf (after (fresh o) xs) buffer t ≡ writtenOf o (taken (fresh o) xs) t buffer
+written-right = transfer-writes
+
+-- and each answer is booked: what it says of a frame ended and of its own transfer is what the rule gains by that call
+pub answer-gains : (o : Opening) (xs : List Offer) (buffer t : List ℕ) (a : Answer) → takeOf (after (fresh o) xs) (length buffer) t .outcome ≡ Outcome.Taken a → Says o (taken (fresh o) xs) (Call.transfer t) a
+answer-gains = transfer-says
+
+pub report-gains : (o : Opening) (xs : List Offer) → lostOf (after (fresh o) xs) .report ≡ Report.Noted → Gains o (taken (fresh o) xs) Call.lost []
+report-gains = lost-says
+
+pub close-gains : (o : Opening) (xs : List Offer) (e : Ended) → closeOf (after (fresh o) xs) .closing ≡ Closing.Closed e
     → (n : ℕ) × (d : List ℕ) × Gains o (taken (fresh o) xs) Call.close (endedItems e n d)
-close-right = close-says
+close-gains = close-says
 
 -- 5. "A frame handed out is exactly the payload bytes of one whole frame, in order": with one buffer that nobody else writes and that is never shorter than the frame size.
 pub whole : (o : Opening) (buffer : List ℕ) (calls : List Call) → o .frame ≤ length buffer → (t : List ℕ) (a : Answer) (d : Delivery)
@@ -94,15 +118,25 @@ pub whole : (o : Opening) (buffer : List ℕ) (calls : List Call) → o .frame �
     → Whole o (taken (fresh o) (offers (fresh o) buffer calls) ++ (Call.transfer t ∷ [])) d (bufferOf (after (fresh o) (offers (fresh o) buffer calls)) (bufferAfter (fresh o) buffer calls) t)
 whole o buffer calls room t a d e f = delivered-whole o buffer calls room t a d e f
 
--- 6. A session reached from a fresh one is never refused by 50; with a buffer of the frame size and transfers of at most 65,536 bytes, an open one is refused by 52 alone.
+-- 6. A session reached from a fresh one is never refused by 50. An open one refuses a lost report by 52 alone, so it does a transfer of at most 65,536 bytes with a buffer of the
+-- frame size, and it never refuses close.
 pub never-stuck : (o : Opening) → sizesBroken o ≡ false → (xs : List Offer) → recordBroken (after (fresh o) xs) ≡ false
 never-stuck o e xs =
     ap recordBroken (history o xs) ∙ record-sound o (taken (fresh o) xs) (taken-proper (fresh o) xs) (taken-small (fresh o) xs) e
 
-pub only-full : (o : Opening) → sizesBroken o ≡ false → (xs : List Offer) (buffer t : List ℕ) → after (fresh o) xs .rest .closed ≡ false → after (fresh o) xs .rest .opening .frame ≤ length buffer → length t ≤ 65536
-    → refusal (after (fresh o) xs) (Offer.take buffer t) ≡ orElse (eqb (after (fresh o) xs .rest .taken) 4294967295) 52 0
-only-full o e xs buffer t open₀ room small =
-    rw (never-stuck o e xs, open₀, le-ltb (length buffer) (after (fresh o) xs .rest .opening .frame) room, le-ltb 65536 (length t) small)
+module _ (o : Opening) (sizes : sizesBroken o ≡ false) (xs : List Offer) (open₀ : after (fresh o) xs .rest .closed ≡ false) where
+  abbrev full : Bool
+  full = eqb (after (fresh o) xs .rest .taken) takenMost
+
+  pub only-full : (buffer t : List ℕ) → o .frame ≤ length buffer → length t ≤ transferMost → refusal (after (fresh o) xs) (Offer.take buffer t) ≡ orElse full 52 0
+  only-full buffer t room small =
+      rw (never-stuck o sizes xs, open₀, after-opening o xs, le-ltb (length buffer) (o .frame) room, le-ltb transferMost (length t) small)
+
+  pub lost-only-full : refusal (after (fresh o) xs) Offer.lost ≡ orElse full 52 0
+  lost-only-full = rw (never-stuck o sizes xs, open₀)
+
+  pub close-never : refusal (after (fresh o) xs) Offer.close ≡ 0
+  close-never = rw (never-stuck o sizes xs, open₀)
 
 -- 7. The ledger sample of document 01, about the rule and about the session, as computed equalities.
 pub sample-by-rule : numbersOf (entries opening (map Call.transfer transfers)) ≡ printed

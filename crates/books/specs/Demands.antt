@@ -1,7 +1,7 @@
 -- What is demanded of a session after any calls: the statements that proofs/Theorems.antt proves.
 use Prim.Native.Nat.{ℕ, _+_}
 use mathlib.Core.Path.{_≡_}
-use mathlib.Core.Bool.{true, false}
+use mathlib.Core.Bool.{true}
 use mathlib.Core.List.{List, [], _∷_, _++_}
 use lib.ListN.{length, getD, take}
 use Rattle.sizes.specs.declared.Opening.{Opening}
@@ -15,9 +15,10 @@ use Rattle.ledger.specs.declared.Account.{Account}
 use Rattle.ledger.specs.Entry.{Entry}
 use Rattle.ledger.specs.declared.Ledger.{Ledger}
 use Rattle.ledger.specs.Ledger.{countOf, bytesOf}
-use Rattle.books.specs.Rule.{events, Seen, readables, runs, frameOf, strayOf, complete, dataOf, firstStamp, fault, Item, framesBy, entries, lostLine, idleLine, oneIn, partIn, total, stamps, untimed, forward, back, between}
+use Rattle.books.specs.Rule.{frameOf, strayOf, complete, dataOf, firstStamp, fault, Item, framesBy, entries, lostLine, idleLine, oneIn, partIn, total, stamps, untimed, forward, back, between}
 use Rattle.ledger.specs.Accounts.{accounts, placeOf, lostAt, idleAt, ticksAt, backwardAt, untimedAt}
 use Rattle.session.specs.Call.{Call}
+use Rattle.books.specs.Answer.{lastRun}
 
 -- THE LEDGER AND THE RULE: every number of a ledger is what the rule gives from the opening and the calls taken.
 pub record Right (o : Opening) (cs : List Call) (l : Ledger) : Type 0 where
@@ -76,12 +77,9 @@ pub record Says (o : Opening) (cs : List Call) (c : Call) (a : Answer) : Type 0 
 -- DELIVERED IS WHOLE: after these calls the last run's frame is complete, without fault and has no stray after it; the buffer's first bytes are its payload bytes, in
 -- order, as many as the delivery says, and the delivery's stamp is the frame's first.
 pub record Whole (o : Opening) (cs : List Call) (d : Delivery) (buffer : List ℕ) : Type 0 where
-  pub earlier : List (List Seen)
-  pub last : List Seen
-  pub cut : runs (readables false (events o cs)) ≡ earlier ++ (last ∷ [])
-  pub ended : complete (frameOf last) ≡ true
-  pub sound : fault o (frameOf last) ≡ Sound
-  pub alone : strayOf last ≡ []
-  pub payload : take (d .len) buffer ≡ dataOf (frameOf last)
-  pub size : d .len ≡ length (dataOf (frameOf last))
-  pub stamp : d .stamp ≡ firstStamp (frameOf last)
+  pub ended : complete (frameOf (lastRun o cs)) ≡ true
+  pub sound : fault o (frameOf (lastRun o cs)) ≡ Sound
+  pub alone : strayOf (lastRun o cs) ≡ []
+  pub payload : take (d .len) buffer ≡ dataOf (frameOf (lastRun o cs))
+  pub size : d .len ≡ length (dataOf (frameOf (lastRun o cs)))
+  pub stamp : d .stamp ≡ firstStamp (frameOf (lastRun o cs))

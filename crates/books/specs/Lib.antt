@@ -1,3 +1,4 @@
 pub mod Rule
 pub mod Longest
 pub mod Demands
+pub mod Answer

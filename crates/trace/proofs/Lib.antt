@@ -2,6 +2,7 @@ pub mod Steps
 pub mod Runs
 pub mod Pieces
 pub mod Right
-pub mod Bad
-pub mod Full
+pub mod Standing
+pub mod Exactly
+pub mod Samples
 pub mod Unique

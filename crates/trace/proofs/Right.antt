@@ -1,5 +1,4 @@
--- What is printed is right: the ledger of a good trace is the frame rule's for the calls that its records stand for; "bad record N" is given exactly for the first
--- bad record; and a good record is refused only where 4,294,967,295 transfers were taken.
+-- The ledger of a good trace is the frame rule's, for the calls that its records stand for.
 use Prim.Native.Nat.{ℕ, zero, suc}
 use mathlib.Core.Path.{_≡_, refl, sym, _∙_, ap}
 use mathlib.Core.Bool.{Bool, true, false, _||_}

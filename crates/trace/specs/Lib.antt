@@ -1,3 +1,4 @@
 pub mod Record
 pub mod Trace
+pub mod Standing
 pub mod Inner

@@ -1,0 +1,199 @@
+-- One transfer more at the end of a run, and a gap after its last: what the rule says of its frame.
+use Prim.Native.Nat.{ℕ, _+_}
+use mathlib.Core.Path.{_≡_, refl, sym, _∙_, ap}
+use mathlib.Core.Bool.{Bool, true, false, cond, not, _&&_, _||_, true≢false}
+use mathlib.Core.List.{List, [], _∷_, _++_, append-assoc, append-nil}
+use native.Mathlib.Nat.{add-zero, zero-add, add-assoc}
+use lib.ListN.{length, length-append}
+use Rattle.sizes.specs.declared.Opening.{Opening}
+use Rattle.payload.specs.declared.Stamp.{Stamp}
+use Rattle.payload.specs.declared.Stamp.the-variants.{Absent, At}
+use Rattle.frames.specs.declared.Reason.the-variants.{Gap}
+use Rattle.frames.specs.declared.Fault.{Fault}
+use Rattle.frames.specs.declared.Fault.the-variants.{Sound, Bad}
+use Rattle.rules.proofs.Rows.{or-second}
+use Rattle.books.specs.Rule.{Seen, frameOf, strayOf, complete, dataOf, _orStamp_, firstStamp, _or_, when, faultAt, gapAfter, faultFrom, gapBefore, fault}
+use Rattle.books.specs.Answer.{earlier}
+use Rattle.books.proofs.Cut.{or-sound, or-assoc, stamp-assoc, stamp-absent}
+use Rattle.books.proofs.OneMore.{spoilLast}
+
+abbrev pub and : List Seen → Seen → List Seen
+and r t = r ++ (t ∷ [])
+
+-- ---- a run without EOF is a frame
+pub frame-whole : (r : List Seen) → complete r ≡ false → frameOf r ≡ r
+frame-whole [] e = refl
+frame-whole (t ∷ ts) e = go (t .header .eof) e (frame-whole ts)
+  where
+    go : (b : Bool) → (b || complete ts) ≡ false → (complete ts ≡ false → frameOf ts ≡ ts) → _≡_ {A = List Seen} (t ∷ cond b [] (frameOf ts)) (t ∷ ts)
+    go true q rec = absurd (true≢false q)
+    go false q rec = ap (t ∷_) (rec q)
+
+pub stray-whole : (r : List Seen) → complete r ≡ false → strayOf r ≡ []
+stray-whole [] e = refl
+stray-whole (t ∷ ts) e = go (t .header .eof) e (stray-whole ts)
+  where
+    go : (b : Bool) → (b || complete ts) ≡ false → (complete ts ≡ false → strayOf ts ≡ []) → cond b ts (strayOf ts) ≡ []
+    go true q rec = absurd (true≢false q)
+    go false q rec = rec q
+
+pub complete-frame : (r : List Seen) → complete (frameOf r) ≡ complete r
+complete-frame [] = refl
+complete-frame (t ∷ ts) = go (t .header .eof) (complete-frame ts)
+  where
+    go : (b : Bool) → complete (frameOf ts) ≡ complete ts → (b || complete (cond b [] (frameOf ts))) ≡ (b || complete ts)
+    go true rec = refl
+    go false rec = rec
+
+pub complete-more : (r : List Seen) (t : Seen) → complete (and r t) ≡ (complete r || t .header .eof)
+complete-more [] t = go (t .header .eof)
+  where
+    go : (b : Bool) → (b || false) ≡ b
+    go true = refl
+    go false = refl
+complete-more (u ∷ us) t = go (u .header .eof) (complete-more us t)
+  where
+    go : (b : Bool) → complete (and us t) ≡ (complete us || t .header .eof) → (b || complete (and us t)) ≡ ((b || complete us) || t .header .eof)
+    go true rec = refl
+    go false rec = rec
+
+-- the frame goes on with the transfer, where the run has no EOF yet
+pub frame-more : (r : List Seen) (t : Seen) → complete r ≡ false → frameOf (and r t) ≡ and r t
+frame-more [] t e = go (t .header .eof)
+  where
+    go : (b : Bool) → _≡_ {A = List Seen} (t ∷ cond b [] []) (t ∷ [])
+    go true = refl
+    go false = refl
+frame-more (u ∷ us) t e = go (u .header .eof) e (frame-more us t)
+  where
+    go : (b : Bool) → (b || complete us) ≡ false → (complete us ≡ false → frameOf (and us t) ≡ and us t) → _≡_ {A = List Seen} (u ∷ cond b [] (frameOf (and us t))) (u ∷ and us t)
+    go true q rec = absurd (true≢false q)
+    go false q rec = ap (u ∷_) (rec q)
+
+pub stray-none : (r : List Seen) (t : Seen) → complete r ≡ false → strayOf (and r t) ≡ []
+stray-none [] t e = go (t .header .eof)
+  where
+    go : (b : Bool) → _≡_ {A = List Seen} (cond b [] []) []
+    go true = refl
+    go false = refl
+stray-none (u ∷ us) t e = go (u .header .eof) e (stray-none us t)
+  where
+    go : (b : Bool) → (b || complete us) ≡ false → (complete us ≡ false → strayOf (and us t) ≡ []) → cond b (and us t) (strayOf (and us t)) ≡ []
+    go true q rec = absurd (true≢false q)
+    go false q rec = rec q
+
+-- after an EOF it is stray
+pub stray-more : (r : List Seen) (t : Seen) → complete r ≡ true → strayOf (and r t) ≡ and (strayOf r) t
+stray-more [] t e = absurd (true≢false (sym e))
+stray-more (u ∷ us) t e = go (u .header .eof) e (stray-more us t)
+  where
+    go : (b : Bool) → (b || complete us) ≡ true → (complete us ≡ true → strayOf (and us t) ≡ and (strayOf us) t) → cond b (and us t) (strayOf (and us t)) ≡ and (cond b us (strayOf us)) t
+    go true q rec = refl
+    go false q rec = rec q
+
+pub earlier-more : (r : List Seen) (t : Seen) → earlier (and r t) ≡ r
+earlier-more [] t = refl
+earlier-more (u ∷ []) t = refl
+earlier-more (u ∷ (v ∷ vs)) t = ap (u ∷_) (earlier-more (v ∷ vs) t)
+
+-- ---- its data, its first stamp and its fault
+pub data-more : (r : List Seen) (t : Seen) → dataOf (and r t) ≡ dataOf r ++ t .load
+data-more [] t = append-nil (t .load)
+data-more (u ∷ us) t = ap (u .load ++_) (data-more us t) ∙ sym (append-assoc (u .load) (dataOf us) (t .load))
+
+pub stamp-more : (r : List Seen) (t : Seen) → firstStamp (and r t) ≡ firstStamp r orStamp t .header .stamp
+stamp-more [] t = stamp-absent (t .header .stamp)
+stamp-more (u ∷ us) t = ap (u .header .stamp orStamp_) (stamp-more us t) ∙ stamp-assoc (u .header .stamp) (firstStamp us) (t .header .stamp)
+
+module _ (o : Opening) where
+  -- where the frame has no stamp, none differs, whatever the first one will be
+  unstamped : (r : List Seen) (s z : Stamp) (n : ℕ) → firstStamp r ≡ Absent → faultFrom o s n r ≡ faultFrom o z n r
+  unstamped [] s z n e = refl
+  unstamped (t ∷ ts) s z n e = go (t .header .stamp) refl e (unstamped ts s z (n + length (t .load)))
+    where
+      go : (x : Stamp) → t .header .stamp ≡ x → (x orStamp firstStamp ts) ≡ Absent → (firstStamp ts ≡ Absent → faultFrom o s (n + length (t .load)) ts ≡ faultFrom o z (n + length (t .load)) ts)
+          → faultFrom o s n (t ∷ ts) ≡ faultFrom o z n (t ∷ ts)
+      go Absent q f rec = rw (q, rec f)
+      go (At x) q f rec = cc
+
+  first-held : (r : List Seen) (s : Stamp) (n : ℕ) → faultFrom o (firstStamp r orStamp s) n r ≡ faultFrom o (firstStamp r) n r
+  first-held r s n = go (firstStamp r) refl
+    where
+      go : (x : Stamp) → firstStamp r ≡ x → faultFrom o (x orStamp s) n r ≡ faultFrom o x n r
+      go Absent e = unstamped r s Absent n e
+      go (At x) e = refl
+
+  abbrev own : Stamp → ℕ → Seen → Fault
+  own s n t = faultAt o s n (t .header) (length (t .load)) or when (gapAfter t) Gap
+
+  from-more : (r : List Seen) (s : Stamp) (n : ℕ) (t : Seen) → faultFrom o s n (and r t) ≡ faultFrom o s n r or own s (n + length (dataOf r)) t
+  from-more [] s n t = rw (add-zero n, or-sound (when (gapAfter t) Gap))
+  from-more (u ∷ us) s n t =
+      let a : Fault = faultAt o s n (u .header) (length (u .load)) in
+      let g : Fault = when (gapAfter u) Gap in
+      let f : Fault = faultFrom o s (n + length (u .load)) us in
+      let x : Fault = own s ((n + length (u .load)) + length (dataOf us)) t in
+      ap (λ (y : Fault). a or (g or y)) (from-more us s (n + length (u .load)) t)
+      ∙ ap (a or_) (or-assoc g f x)
+      ∙ or-assoc a (g or f) x
+      ∙ ap (λ (k : ℕ). (a or (g or f)) or own s k t) (add-assoc n (length (u .load)) (length (dataOf us)) ∙ ap (n +_) (sym (length-append (u .load) (dataOf us))))
+
+  -- the fault of a frame that the transfer t goes on with, or starts
+  abbrev pub soFar : Seen → List Seen → Fault
+  soFar t [] = when (t .before) Gap
+  soFar t (u ∷ us) = fault o (u ∷ us)
+
+  pub fault-more : (r : List Seen) (t : Seen) → fault o (and r t) ≡ soFar t r or own (firstStamp (and r t)) (length (dataOf r)) t
+  fault-more [] t = rw (or-sound (when (gapAfter t) Gap))
+  fault-more (u ∷ us) t =
+      let r : List Seen = u ∷ us in
+      let s : Stamp = firstStamp (and r t) in
+      let g : Fault = when (u .before) Gap in
+      ap (g or_) (from-more r s 0 t ∙ ap (λ (k : ℕ). faultFrom o s 0 r or own s k t) (zero-add (length (dataOf r))))
+      ∙ or-assoc g (faultFrom o s 0 r) (own s (length (dataOf r)) t)
+      ∙ ap (λ (f : Fault). (g or f) or own s (length (dataOf r)) t) (ap (λ (z : Stamp). faultFrom o z 0 r) (stamp-more r t) ∙ first-held r (t .header .stamp) 0)
+
+-- ---- a gap after the last transfer
+pub complete-spoilt : (r : List Seen) → complete (spoilLast r) ≡ complete r
+complete-spoilt [] = refl
+complete-spoilt (t ∷ []) = refl
+complete-spoilt (t ∷ (u ∷ us)) = ap (t .header .eof ||_) (complete-spoilt (u ∷ us))
+
+pub data-spoilt : (r : List Seen) → dataOf (spoilLast r) ≡ dataOf r
+data-spoilt [] = refl
+data-spoilt (t ∷ []) = refl
+data-spoilt (t ∷ (u ∷ us)) = ap (t .load ++_) (data-spoilt (u ∷ us))
+
+pub stamp-spoilt : (r : List Seen) → firstStamp (spoilLast r) ≡ firstStamp r
+stamp-spoilt [] = refl
+stamp-spoilt (t ∷ []) = refl
+stamp-spoilt (t ∷ (u ∷ us)) = ap (t .header .stamp orStamp_) (stamp-spoilt (u ∷ us))
+
+gap-once : (a : Fault) (b c : Bool) → (b || false) ≡ false → a or (when (not b && true) Gap or Sound) ≡ (a or (when (not b && c) Gap or Sound)) or Bad Gap
+gap-once a true c e = absurd (true≢false e)
+gap-once Sound false true e = refl
+gap-once Sound false false e = refl
+gap-once (Bad w) false c e = refl
+
+from-spoilt : (o : Opening) (s : Stamp) (n : ℕ) (t : Seen) (ts : List Seen) → complete (t ∷ ts) ≡ false → faultFrom o s n (spoilLast (t ∷ ts)) ≡ faultFrom o s n (t ∷ ts) or Bad Gap
+from-spoilt o s n t [] e = gap-once (faultAt o s n (t .header) (length (t .load))) (t .header .eof) (t .after) e
+from-spoilt o s n t (u ∷ us) e =
+    let a : Fault = faultAt o s n (t .header) (length (t .load)) in
+    let g : Fault = when (gapAfter t) Gap in
+    let f : Fault = faultFrom o s (n + length (t .load)) (u ∷ us) in
+    ap (λ (y : Fault). a or (g or y)) (from-spoilt o s (n + length (t .load)) u us (or-second (t .header .eof) (complete (u ∷ us)) e))
+    ∙ ap (a or_) (or-assoc g f (Bad Gap))
+    ∙ or-assoc a (g or f) (Bad Gap)
+
+before-spoilt : (r : List Seen) → gapBefore (spoilLast r) ≡ gapBefore r
+before-spoilt [] = refl
+before-spoilt (t ∷ []) = refl
+before-spoilt (t ∷ (u ∷ us)) = refl
+
+pub fault-spoilt : (o : Opening) (t : Seen) (ts : List Seen) → complete (t ∷ ts) ≡ false → fault o (spoilLast (t ∷ ts)) ≡ fault o (t ∷ ts) or Bad Gap
+fault-spoilt o t ts e =
+    let r : List Seen = t ∷ ts in
+    ap (λ (b : Bool). when b Gap or faultFrom o (firstStamp (spoilLast r)) 0 (spoilLast r)) (before-spoilt r)
+    ∙ ap (λ (s : Stamp). when (t .before) Gap or faultFrom o s 0 (spoilLast r)) (stamp-spoilt r)
+    ∙ ap (when (t .before) Gap or_) (from-spoilt o (firstStamp r) 0 t ts e)
+    ∙ or-assoc (when (t .before) Gap) (faultFrom o (firstStamp r) 0 r) (Bad Gap)

@@ -1,0 +1,227 @@
+-- The tracker and the last run of the list: what each turn answers and writes is what the rule says of the last run.
+use Prim.Native.Nat.{ℕ, _+_}
+use mathlib.Core.Path.{_≡_, refl, sym, _∙_, ap, subst}
+use mathlib.Core.Bool.{Bool, true, false, cond, not, _||_, Bool·beq}
+use mathlib.Core.List.{List, [], _∷_}
+use lib.ListN.{length, length-append}
+use lib.Seq.{paste, paste-zero}
+use lib.Dec.{ltb, eqb}
+use Rattle.rules.specs.Pick.{pick}
+use Rattle.sizes.specs.declared.Opening.{Opening}
+use Rattle.payload.specs.declared.Header.{Header}
+use Rattle.payload.specs.declared.Stamp.{Stamp}
+use Rattle.payload.specs.declared.Stamp.the-variants.{Absent}
+use Rattle.frames.specs.declared.Reason.the-variants.{Gap, Error, Clock, Long, Cut, Empty}
+use Rattle.frames.specs.declared.Fault.{Fault}
+use Rattle.frames.specs.declared.Fault.the-variants.{Sound, Bad}
+use Rattle.frames.specs.declared.Run.{Run}
+use Rattle.frames.specs.declared.Phase.{Phase}
+use Rattle.frames.specs.declared.Phase.the-variants.{Fresh, Under, Past}
+use Rattle.frames.specs.declared.Ended.{Ended}
+use Rattle.frames.specs.declared.Ended.the-variants.{Nothing, Frame}
+use Rattle.frames.specs.declared.Fate.{Fate}
+use Rattle.frames.specs.declared.Turn.{Turn}
+use Rattle.frames.specs.Inner.{firstOf, whyOf, sameOf, begunOf, joinedOf, completeOf, fateOf, phaseOf, joinTurn, strayTurn, turnBy}
+use Rattle.frames.specs.Inner as track
+use Rattle.ledger.specs.Entry.{Entry}
+use Rattle.books.specs.Rule.{Seen, frameOf, strayOf, complete, dataOf, _orStamp_, firstStamp, _or_, when, faultAt, fault, verdict}
+use Rattle.books.specs.Answer.{frameEntry, reasonIn, endedIn, goesOn, fateIn, fateBy, fateOn, earlier, writtenBy, writtenIn}
+use Rattle.books.proofs.Cut.{or-sound, stamp-absent, earlier-or, fault-or}
+use Rattle.books.proofs.Owed.{same-beq, and-false, begun-fault}
+use Rattle.books.proofs.Sound.{Snug, Fit, snug-begun}
+use Rattle.books.proofs.OneMore.{seenWith, grown}
+use Rattle.books.proofs.Grown.{and, frame-whole, complete-frame, complete-more, frame-more, stray-none, stray-more, earlier-more, data-more, stamp-more, soFar, fault-more}
+
+-- a run of this FID
+abbrev pub Of : Bool → List Seen → Type 0
+Of f [] = ⊥
+Of f (t ∷ ts) = t .header .fid ≡ f
+
+-- a frame part read, as the tracker holds it: r has no EOF
+pub record Part (o : Opening) (q : Fault) (x : Run) (r : List Seen) : Type 0 where
+  pub going : complete r ≡ false
+  pub fault₀ : x .fault ≡ q
+  pub stamp₀ : x .stamp ≡ firstStamp r
+  pub bytes₀ : x .bytes ≡ length (dataOf r)
+
+-- what the tracker knows of the last run
+abbrev pub Tracks : Opening → Phase → List Seen → Type 0
+Tracks o Fresh r = r ≡ []
+Tracks o (Under x) r = Of (x .fid) r × Part o (fault o r) x r
+Tracks o (Past f) r = Of f r × (complete r ≡ true)
+
+-- ---- the tracker's words and the rule's
+complete-same : (q : Fault) (s : Stamp) (n : ℕ) → completeOf q n s ≡ fateIn (verdict true true q s n)
+unfolding pick
+complete-same (Bad w) s n = refl
+complete-same Sound s n = go (eqb n 0)
+  where
+    go : (b : Bool) → pick b (Fate.Dropped Empty) (Fate.Delivered (record { len = n; stamp = s })) ≡ fateIn (cond b (Entry.Dropped Empty n) (Entry.Delivered (record { len = n; stamp = s })))
+    go true = refl
+    go false = refl
+
+fate-same : (e : Bool) (y : Run) → fateOf e y ≡ fateIn (verdict true e (y .fault) (y .stamp) (y .bytes))
+fate-same true y = complete-same (y .fault) (y .stamp) (y .bytes)
+fate-same false y = refl
+
+-- where no fault comes with a transfer, there was none before it, and all the data is written
+filled : (frame : ℕ) (q : Fault) (i c l : Bool) (fill bytes : ℕ) → Snug frame q fill bytes → firstOf (firstOf (firstOf q i Error) c Clock) l Long ≡ Sound → fill ≡ bytes
+filled frame Sound i c l fill bytes g e = g .0
+filled frame (Bad w) i c l fill bytes g e = cc
+
+-- ---- a transfer joins a frame
+module _ (o : Opening) (h : Header) (d : List ℕ) (b : Bool) where
+  abbrev t : Seen
+  t = seenWith h d b
+
+  abbrev n : ℕ
+  n = length d
+
+  module _ (x : Run) (r : List Seen) (p : Part o (soFar o t r) x r) where
+    abbrev y : Run
+    y = joinedOf o x h n
+
+    joined-stamp : y .stamp ≡ firstStamp (and r t)
+    joined-stamp = earlier-or (x .stamp) (h .stamp) ∙ ap (_orStamp h .stamp) (p .stamp₀) ∙ sym (stamp-more r t)
+
+    alone : fault o (and r t) ≡ soFar o t r or faultAt o (firstStamp (and r t)) (length (dataOf r)) h n
+    alone =
+        let f : Fault = faultAt o (firstStamp (and r t)) (length (dataOf r)) h n in
+        fault-more o r t ∙ ap (λ (c : Bool). soFar o t r or (f or when c Gap)) (and-false (not (h .eof))) ∙ ap (soFar o t r or_) (or-sound f)
+
+    joined-fault : y .fault ≡ fault o (and r t)
+    joined-fault =
+        fault-or o x h n Absent
+        ∙ ap (λ (s : Stamp). x .fault or faultAt o s (x .bytes) h n) (ap (x .stamp orStamp_) (stamp-absent (h .stamp)) ∙ ap (_orStamp h .stamp) (p .stamp₀) ∙ sym (stamp-more r t))
+        ∙ ap (λ (k : ℕ). x .fault or faultAt o (firstStamp (and r t)) k h n) (p .bytes₀)
+        ∙ ap (_or faultAt o (firstStamp (and r t)) (length (dataOf r)) h n) (p .fault₀)
+        ∙ sym alone
+
+    joined-bytes : y .bytes ≡ length (dataOf (and r t))
+    joined-bytes = ap (_+ n) (p .bytes₀) ∙ sym (ap length (data-more r t) ∙ length-append (dataOf r) d)
+
+    joined-eof : complete (and r t) ≡ h .eof
+    joined-eof = complete-more r t ∙ ap (_|| h .eof) (p .going)
+
+    -- its fate is the rule's
+    entry-right : frameEntry o true (and r t) ≡ verdict true (h .eof) (y .fault) (y .stamp) (y .bytes)
+    entry-right =
+        ap (λ (f : List Seen). verdict true (complete f) (fault o f) (firstStamp f) (length (dataOf f))) (frame-more r t (p .going))
+        ∙ sym (ap (λ (q : Fault). verdict true (h .eof) q (y .stamp) (y .bytes)) joined-fault
+        ∙ ap (λ (s : Stamp). verdict true (h .eof) (fault o (and r t)) s (y .bytes)) joined-stamp
+        ∙ ap (verdict true (h .eof) (fault o (and r t)) (firstStamp (and r t))) joined-bytes
+        ∙ ap (λ (e : Bool). verdict true e (fault o (and r t)) (firstStamp (and r t)) (length (dataOf (and r t)))) (sym joined-eof))
+
+    joined-fate : fateOf (h .eof) y ≡ fateOn o (and r t)
+    joined-fate =
+        fate-same (h .eof) y ∙ ap fateIn (sym entry-right) ∙ ap (λ (ts : List Seen). fateBy ts (frameEntry o true (and r t))) (sym (stray-none r t (p .going)))
+
+    -- what the tracker knows after it
+    joined-tracks : Of (x .fid) (and r t) → Tracks o (phaseOf (h .eof) y) (and r t)
+    joined-tracks f = go (h .eof) refl
+      where
+        go : (e : Bool) → h .eof ≡ e → Tracks o (phaseOf e y) (and r t)
+        go true e = (f, joined-eof ∙ e)
+        go false e = (f, record { going = joined-eof ∙ e; fault₀ = joined-fault; stamp₀ = joined-stamp; bytes₀ = joined-bytes })
+
+    -- its data is written as the rule says
+    put : (B : List ℕ) (f : Fault) → (f ≡ Sound → x .fill ≡ length (dataOf r)) → paste B (x .fill) d (track.writtenOf f n) ≡ writtenBy [] f (length (dataOf r)) d B
+    put B Sound e = ap (λ (k : ℕ). paste B k d n) (e refl)
+    put B (Bad w) e = sym (paste-zero B (x .fill) d)
+
+    joined-written : Snug (o .frame) (x .fault) (x .fill) (x .bytes) → (B : List ℕ) → paste B (x .fill) d (track.writtenOf (y .fault) n) ≡ writtenIn o (and r t) d B
+    joined-written g B =
+        put B (y .fault) (λ e. filled (o .frame) (x .fault) (h .error) (track.clashOf (x .stamp) (h .stamp)) (ltb (o .frame) (x .bytes + n)) (x .fill) (x .bytes) g e ∙ p .bytes₀)
+        ∙ ap (λ (q : Fault). writtenBy [] q (length (dataOf r)) d B) joined-fault
+        ∙ ap (λ (l : List Seen). writtenBy [] (fault o (and r t)) (length (dataOf l)) d B) (sym (earlier-more r t))
+        ∙ ap (λ (f : List Seen). writtenBy [] (fault o f) (length (dataOf (earlier f))) d B) (sym (frame-more r t (p .going)))
+        ∙ ap (λ (ts : List Seen). writtenBy ts (fault o (frameOf (and r t))) (length (dataOf (earlier (frameOf (and r t))))) d B) (sym (stray-none r t (p .going)))
+
+-- ---- a frame that is ended
+reason-same : (q : Fault) (s : Stamp) (k : ℕ) → reasonIn (verdict false false q s k) ≡ Frame (whyOf q Cut)
+reason-same Sound s k = refl
+reason-same (Bad w) s k = refl
+
+pub part-ended : (o : Opening) (x : Run) (u : Seen) (us : List Seen) → Part o (fault o (u ∷ us)) x (u ∷ us) → endedIn o (u ∷ us) ≡ Frame (whyOf (x .fault) Cut)
+part-ended o x u us p =
+    let r : List Seen = u ∷ us in
+    let z : ℕ = length (dataOf (frameOf r)) in
+    ap (λ (c : Bool). cond c Nothing (reasonIn (verdict false c (fault o (frameOf r)) (firstStamp (frameOf r)) z))) (complete-frame r ∙ p .going)
+    ∙ reason-same (fault o (frameOf r)) (firstStamp (frameOf r)) z
+    ∙ ap (λ (f : List Seen). Frame (whyOf (fault o f) Cut)) (frame-whole r (p .going))
+    ∙ ap (λ (q : Fault). Frame (whyOf q Cut)) (sym (p .fault₀))
+
+pub past-ended : (o : Opening) (u : Seen) (us : List Seen) → complete (u ∷ us) ≡ true → endedIn o (u ∷ us) ≡ Nothing
+past-ended o u us e = ap (λ (c : Bool). cond c Nothing (reasonIn (frameEntry o false (u ∷ us)))) (complete-frame (u ∷ us) ∙ e)
+
+-- ---- ONE TURN: what it answers, leaves and writes
+pub record Turned (o : Opening) (h : Header) (d : List ℕ) (r s : List Seen) (T : Turn) : Type 0 where
+  pub ended : T .answer .ended ≡ cond (goesOn h r) Nothing (endedIn o r)
+  pub fate : T .answer .fate ≡ fateOn o s
+  pub tracks : Tracks o (T .track .phase) s
+  pub written : (B : List ℕ) → paste B (T .at) d (T .len) ≡ writtenIn o s d B
+
+stray-fate : (ts : List Seen) (t : Seen) (e : Entry) → Fate.Stray ≡ fateBy (and ts t) e
+stray-fate [] t e = refl
+stray-fate (u ∷ us) t e = refl
+
+stray-written : (ts : List Seen) (t : Seen) (q : Fault) (at : ℕ) (d B : List ℕ) → B ≡ writtenBy (and ts t) q at d B
+stray-written [] t q at d B = refl
+stray-written (u ∷ us) t q at d B = refl
+
+module _ (o : Opening) (h : Header) (d : List ℕ) (b : Bool) where
+  begun-part : Part o (when b Gap) (begunOf b (h .fid)) []
+  begun-part = record { going = refl; fault₀ = begun-fault b; stamp₀ = refl; bytes₀ = refl }
+
+  begun-turned : (r : List Seen) (ended : Ended) (gone : ℕ) → ended ≡ cond (goesOn h r) Nothing (endedIn o r) → Turned o h d r (t o h d b ∷ []) (joinTurn o (begunOf b (h .fid)) h (length d) ended gone)
+  begun-turned r ended gone e =
+      let x : Run = begunOf b (h .fid) in
+      record {
+        ended = e;
+        fate = joined-fate o h d b x [] begun-part;
+        tracks = joined-tracks o h d b x [] begun-part refl;
+        written = joined-written o h d b x [] begun-part (snug-begun (o .frame) b);
+      }
+
+  joined-turned : (x : Run) (u : Seen) (us : List Seen) → u .header .fid ≡ x .fid → Part o (fault o (u ∷ us)) x (u ∷ us) → Snug (o .frame) (x .fault) (x .fill) (x .bytes)
+      → goesOn h (u ∷ us) ≡ true → Turned o h d (u ∷ us) (and (u ∷ us) (t o h d b)) (joinTurn o x h (length d) Nothing 0)
+  joined-turned x u us f p g e = record {
+    ended = sym (ap (λ (c : Bool). cond c Nothing (endedIn o (u ∷ us))) e);
+    fate = joined-fate o h d b x (u ∷ us) p;
+    tracks = joined-tracks o h d b x (u ∷ us) p f;
+    written = joined-written o h d b x (u ∷ us) p g;
+  }
+
+  stray-turned : (f : Bool) (u : Seen) (us : List Seen) → u .header .fid ≡ f → complete (u ∷ us) ≡ true → goesOn h (u ∷ us) ≡ true
+      → Turned o h d (u ∷ us) (and (u ∷ us) (t o h d b)) (strayTurn f (length d))
+  stray-turned f u us q w e =
+      let r : List Seen = u ∷ us in
+      let z : Seen = t o h d b in
+      record {
+        ended = sym (ap (λ (c : Bool). cond c Nothing (endedIn o r)) e);
+        fate = stray-fate (strayOf r) z (frameEntry o true (and r z)) ∙ ap (λ (ts : List Seen). fateBy ts (frameEntry o true (and r z))) (sym (stray-more r z w));
+        tracks = (q, complete-more r z ∙ ap (_|| h .eof) w);
+        written = λ B. sym (paste-zero B 0 d) ∙ stray-written (strayOf r) z (fault o (frameOf (and r z))) (length (dataOf (earlier (frameOf (and r z))))) d B
+            ∙ ap (λ (ts : List Seen). writtenBy ts (fault o (frameOf (and r z))) (length (dataOf (earlier (frameOf (and r z))))) d B) (sym (stray-more r z w));
+      }
+
+  same-run : (f : Bool) (u : Seen) → u .header .fid ≡ f → sameOf f (h .fid) ≡ Bool·beq (u .header .fid) (h .fid)
+  same-run f u e = same-beq f (h .fid) ∙ ap (λ (g : Bool). Bool·beq g (h .fid)) (sym e)
+
+  pub turn-right : (ph : Phase) (r : List Seen) → Tracks o ph r → Fit (o .frame) ph → Turned o h d r (grown r (t o h d b)) (turnBy ph o b h (length d))
+  unfolding pick
+  turn-right Fresh r e g = subst (λ (l : List Seen). Turned o h d l (grown l (t o h d b)) (turnBy Fresh o b h (length d))) (sym e) (begun-turned [] Nothing 0 refl)
+  turn-right (Under x) [] e g = absurd (e .0)
+  turn-right (Under x) (u ∷ us) e g = rw (same-run (x .fid) u (e .0)) (go (Bool·beq (u .header .fid) (h .fid)) refl)
+    where
+      go : (c : Bool) → goesOn h (u ∷ us) ≡ c → Turned o h d (u ∷ us) (cond c (and (u ∷ us) (t o h d b)) (t o h d b ∷ []))
+          (pick c (joinTurn o x h (length d) Nothing 0) (joinTurn o (begunOf b (h .fid)) h (length d) (Frame (whyOf (x .fault) Cut)) (x .bytes)))
+      go true q = joined-turned x u us (e .0) (e .1) g q
+      go false q = begun-turned (u ∷ us) (Frame (whyOf (x .fault) Cut)) (x .bytes) (sym (ap (λ (c : Bool). cond c Nothing (endedIn o (u ∷ us))) q ∙ part-ended o x u us (e .1)))
+  turn-right (Past f) [] e g = absurd (e .0)
+  turn-right (Past f) (u ∷ us) e g = rw (same-run f u (e .0)) (go (Bool·beq (u .header .fid) (h .fid)) refl)
+    where
+      go : (c : Bool) → goesOn h (u ∷ us) ≡ c → Turned o h d (u ∷ us) (cond c (and (u ∷ us) (t o h d b)) (t o h d b ∷ []))
+          (pick c (strayTurn f (length d)) (joinTurn o (begunOf b (h .fid)) h (length d) Nothing 0))
+      go true q = stray-turned f u us (e .0) (e .1) q
+      go false q = begun-turned (u ∷ us) Nothing 0 (sym (ap (λ (c : Bool). cond c Nothing (endedIn o (u ∷ us))) q ∙ past-ended o u us (e .1)))

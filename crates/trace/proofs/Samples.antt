@@ -1,0 +1,41 @@
+-- How some small traces stand, as computed equalities.
+use Prim.Native.Nat.{ℕ}
+use mathlib.Core.Path.{_≡_, refl}
+use mathlib.Core.List.{List, [], _∷_}
+use lib.ListN.{replicate}
+use Rattle.trace.specs.Record.{anySet, recordBad}
+use Rattle.trace.specs.Standing.{stateOf}
+use Rattle.trace.specs.declared.State.the-variants.{Good, Bad}
+
+-- a record of this kind and length, with one byte and so many zeros after it
+abbrev row : ℕ → ℕ → ℕ → ℕ → List ℕ
+row kind n byte zeros = kind ∷ n ∷ byte ∷ replicate zeros 0
+
+abbrev transfer : List ℕ
+transfer = row 0 1 7 61
+
+abbrev close : List ℕ
+close = row 2 0 0 61
+
+no-records : stateOf [] ≡ Good
+no-records = refl
+
+closed-last : stateOf (transfer ∷ close ∷ []) ≡ Good
+unfolding recordBad anySet
+closed-last = refl
+
+after-close : stateOf (close ∷ transfer ∷ []) ≡ Bad 2
+unfolding recordBad anySet
+after-close = refl
+
+partial : stateOf (transfer ∷ row 0 1 7 60 ∷ []) ≡ Bad 2
+unfolding recordBad anySet
+partial = refl
+
+lost-with-length : stateOf (row 1 1 7 61 ∷ []) ≡ Bad 1
+unfolding recordBad anySet
+lost-with-length = refl
+
+filled : stateOf (row 0 0 7 61 ∷ []) ≡ Bad 1
+unfolding recordBad anySet
+filled = refl
