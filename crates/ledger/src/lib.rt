@@ -29,26 +29,6 @@ pub enum Account {
     Headers,
 }
 
-// The names of print in the document's order, filled with spaces: the accounts, then lost, idle, ticks, backward and untimed.
-pub const NAMES: [[u8; 10]; Ledger::LINES] = [
-    *b"delivered ",
-    *b"gap       ",
-    *b"error     ",
-    *b"clock     ",
-    *b"long      ",
-    *b"cut       ",
-    *b"empty     ",
-    *b"under way ",
-    *b"stray     ",
-    *b"unreadable",
-    *b"headers   ",
-    *b"lost      ",
-    *b"idle      ",
-    *b"ticks     ",
-    *b"backward  ",
-    *b"untimed   ",
-];
-
 // The signed step between two stamps: so many ticks forward, or so many backward.
 pub enum Step {
     Forward(u32),

@@ -140,5 +140,7 @@ pub fn run(fd: i32, name: &[u8]) {
     }
     let reader = read.reader;
     let trace = last(reader, &mut frame, &piece);
-    print::print(trace.finish());
+    if !print::print(trace.finish()) {
+        os::fail(b"standard output");
+    }
 }

@@ -1,0 +1,100 @@
+-- What the code's tables say of each row: tests that antt computes, one row after the other.
+use mathlib.Core.Path.{_≡_, refl, sym, ap, subst, _∙_}
+use mathlib.Core.Bool.{Bool, true, false}
+use mathlib.Core.List.{List, [], _∷_, map}
+use Prim.Native.Nat.{ℕ, zero, suc, _+_, _-_, _*_, _≤_, _<_}
+use native.Mathlib.Nat.{not-suc-le-zero, le-of-suc-le-suc}
+use native.Mathlib.Omega.{arith}
+use lib.Dec.{T, eqb, eqb→eq, leb, leb→le}
+use lib.ListN.{length, take, drop, getD, length-map}
+use Rattle.ledger.specs.Accounts.{accountCount, numberCount, lineCount}
+use Rattle.text.specs.Text.{total, bytes}
+use Rattle.ledger_text.specs.Report.{rows, rowAt}
+
+abbrev both : Bool → Bool → Bool
+both true b = b
+both false b = false
+
+both-left : (a b : Bool) → T (both a b) → T a
+both-left true b t = tt
+both-left false b t = t
+
+both-right : (a b : Bool) → T (both a b) → T b
+both-right true b t = t
+both-right false b t = absurd t
+
+-- the test f passes at each place below k
+abbrev every : (ℕ → Bool) → ℕ → Bool
+every f zero = true
+every f (suc k) = both (f zero) (every (λ i. f (suc i)) k)
+
+below : (f : ℕ → Bool) (k : ℕ) → T (every f k) → (i : ℕ) → i < k → T (f i)
+below f zero t i h = absurd (not-suc-le-zero h)
+below f (suc k) t zero h = both-left (f zero) (every (λ i. f (suc i)) k) t
+below f (suc k) t (suc i) h = below (λ j. f (suc j)) k (both-right (f zero) (every (λ i. f (suc i)) k) t) i (le-of-suc-le-suc h)
+
+abbrev equal : List ℕ → List ℕ → Bool
+equal [] [] = true
+equal [] (y ∷ ys) = false
+equal (x ∷ xs) [] = false
+equal (x ∷ xs) (y ∷ ys) = both (eqb x y) (equal xs ys)
+
+equal→eq : (xs ys : List ℕ) → T (equal xs ys) → xs ≡ ys
+equal→eq [] [] t = refl
+equal→eq [] (y ∷ ys) t = absurd t
+equal→eq (x ∷ xs) [] t = absurd t
+equal→eq (x ∷ xs) (y ∷ ys) t =
+    rw (eqb→eq x y (both-left (eqb x y) (equal xs ys) t)) (ap (λ (l : List ℕ). y ∷ l) (equal→eq xs ys (both-right (eqb x y) (equal xs ys) t)))
+
+-- the code's tables
+abbrev pub widths : List ℕ
+widths = 9 ∷ 3 ∷ 5 ∷ 5 ∷ 4 ∷ 3 ∷ 5 ∷ 9 ∷ 5 ∷ 10 ∷ 7 ∷ 4 ∷ 4 ∷ 5 ∷ 8 ∷ 7 ∷ []
+
+abbrev pub names : List ℕ
+names =
+    bytes
+    "delivered gap       error     clock     long      cut       empty     under way stray     unreadableheaders   lost      idle      ticks     backward  untimed   "
+
+pub width-right : (i : ℕ) → i < lineCount → getD widths i 0 ≡ length (rowAt i .name)
+unfolding rows
+width-right i h = eqb→eq (getD widths i 0) (length (rowAt i .name)) (below (λ i. eqb (getD widths i 0) (length (rowAt i .name))) lineCount tt i h)
+
+pub two-each : (i : ℕ) → i < accountCount → rowAt i .count ≡ 2
+unfolding rows
+two-each i h = eqb→eq (rowAt i .count) 2 (below (λ i. eqb (rowAt i .count) 2) accountCount tt i h)
+
+-- past the accounts, of the other counts
+abbrev other : ℕ → ℕ
+other j = rowAt (accountCount + j) .count
+
+one-each : (j : ℕ) → j < 5 → other j ≡ 1
+unfolding rows
+one-each j h = eqb→eq (other j) 1 (below (λ j. eqb (other j) 1) 5 tt j h)
+
+pub one-past : (i : ℕ) → accountCount ≤ i → i < lineCount → rowAt i .count ≡ 1
+one-past i l h =
+    let e : accountCount + (i - accountCount) ≡ i = omega arith in
+    subst (λ (k : ℕ). rowAt k .count ≡ 1) e (one-each (i - accountCount) (omega arith))
+
+pub name-right : (i : ℕ) → i < lineCount → take (length (rowAt i .name)) (drop (10 * i) names) ≡ rowAt i .name
+unfolding rows
+name-right i h =
+    equal→eq (take (length (rowAt i .name)) (drop (10 * i) names)) (rowAt i .name)
+    (below (λ i. equal (take (length (rowAt i .name)) (drop (10 * i) names)) (rowAt i .name)) lineCount tt i h)
+
+pub width-most : (i : ℕ) → i < lineCount → length (rowAt i .name) ≤ 10
+unfolding rows
+width-most i h = leb→le (length (rowAt i .name)) 10 (below (λ i. leb (length (rowAt i .name)) 10) lineCount tt i h)
+
+pub count-most : (i : ℕ) → i < lineCount → rowAt i .count ≤ 2
+unfolding rows
+count-most i h = leb→le (rowAt i .count) 2 (below (λ i. leb (rowAt i .count) 2) lineCount tt i h)
+
+pub total-most : (i : ℕ) → i < lineCount → total (take i rows) + rowAt i .count ≤ numberCount
+unfolding rows
+total-most i h =
+    leb→le (total (take i rows) + rowAt i .count) numberCount (below (λ i. leb (total (take i rows) + rowAt i .count) 27) lineCount tt i h)
+
+-- an array in a struct has its length
+pub length-of : (X Y : Type 0) (f : X → Y) (l : List X) (n : ℕ) → length (map f l) ≡ n → length l ≡ n
+length-of X Y f l n e = sym (length-map l f) ∙ e

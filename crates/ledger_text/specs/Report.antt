@@ -1,0 +1,49 @@
+-- Document 01, "The ledger program": what is printed of a trace, byte by byte.
+use mathlib.Core.List.{List, [], _∷_, _++_, map}
+use Prim.Native.Nat.{ℕ, _*_}
+use Prim.Native.String.{String}
+use lib.ListN.{getD}
+use Rattle.ledger.specs.declared.Account.{Account}
+use Rattle.ledger.specs.Accounts.{accounts, lineCount}
+use Rattle.trace.specs.declared.State.{State}
+use Rattle.trace.specs.declared.State.the-variants.{Good, Bad, Refused}
+use Rattle.text.specs.Text.{Row, bytes, number, line, lines}
+
+-- the accounts' names
+abbrev pub nameOf : Account → String
+nameOf Account.Delivered = "delivered"
+nameOf Account.Gap = "gap"
+nameOf Account.Error = "error"
+nameOf Account.Clock = "clock"
+nameOf Account.Long = "long"
+nameOf Account.Cut = "cut"
+nameOf Account.Empty = "empty"
+nameOf Account.UnderWay = "under way"
+nameOf Account.Stray = "stray"
+nameOf Account.Unreadable = "unreadable"
+nameOf Account.Headers = "headers"
+
+-- an account's line has its count and its bytes; any other line has one count
+abbrev pub accountRow : Account → Row
+accountRow a = record { name = bytes (nameOf a); count = 2 }
+
+abbrev pub single : String → Row
+single s = record { name = bytes s; count = 1 }
+
+-- THE LINES: the accounts in their order, then the other counts
+unfoldable pub rows : List Row
+rows = map accountRow accounts ++ (single "lost" ∷ single "idle" ∷ single "ticks" ∷ single "backward" ∷ single "untimed" ∷ [])
+
+-- the row of a line, from 0
+abbrev pub rowAt : ℕ → Row
+rowAt i = getD rows i (record { name = []; count = 0 })
+
+-- THE TEXT: the ledger's lines, or one line in their place
+abbrev pub textOf : State → List ℕ → List ℕ
+textOf Good ns = lines rows ns
+textOf (Bad n) ns = line (bytes "bad record") (n ∷ [])
+textOf (Refused k n) ns = bytes "refused" ++ (number k ++ line (bytes " at record") (n ∷ []))
+
+-- enough for any report: a line has at most 64 bytes
+abbrev pub room : ℕ
+room = 64 * lineCount

@@ -1,0 +1,73 @@
+-- Lines that print alike have the same numbers.
+use mathlib.Core.Path.{_≡_, refl, sym, ap, _∙_}
+use mathlib.Core.List.{List, [], _∷_, _++_, append-assoc, append-cancel-left}
+use Prim.Native.Nat.{ℕ, _+_, _<_}
+use native.Mathlib.Omega.{arith}
+use lib.ListN.{length, take, drop, length-take, length-drop, take-append-drop}
+use Rattle.text.specs.Decimal.{decimal}
+use Rattle.text.specs.Text.{Row, number, numbers, line, lines, total}
+use Rattle.text.proofs.Values.{AllDigits, spells, decimal-different}
+
+-- a list that begins below the digits: with a space or a line end
+abbrev pub Low : List ℕ → Type 0
+Low [] = ⊥
+Low (c ∷ u) = c < 48
+
+-- where digits end is where they end on both sides
+split : (xs ys s t : List ℕ) → AllDigits xs → AllDigits ys → Low s → Low t → xs ++ s ≡ ys ++ t → (xs ≡ ys) × (s ≡ t)
+split [] [] s t p q l m e = (refl, e)
+split [] (y ∷ ys) [] t p q l m e = absurd l
+split [] (y ∷ ys) (c ∷ u) t p q l m e = let z : c ≡ y = cc in absurd (omega (arith, q .0))
+split (x ∷ xs) [] s [] p q l m e = absurd m
+split (x ∷ xs) [] s (d ∷ v) p q l m e = let z : x ≡ d = cc in absurd (omega (arith, p .0))
+split (x ∷ xs) (y ∷ ys) s t p q l m e =
+    let h : x ≡ y = cc in
+    let r : xs ++ s ≡ ys ++ t = cc in
+    let k : (xs ≡ ys) × (s ≡ t) = split xs ys s t (p .2) (q .2) l m r in
+    (rw (h, k .0), k .1)
+
+low-numbers : (ns r : List ℕ) → Low (numbers ns ++ (10 ∷ r))
+low-numbers [] r = omega arith
+low-numbers (n ∷ ns) r = omega arith
+
+-- a number, and what follows it
+pub number-split : (n m : ℕ) (s t : List ℕ) → Low s → Low t → number n ++ s ≡ number m ++ t → (n ≡ m) × (s ≡ t)
+number-split n m s t l k e =
+    let r : decimal n ++ s ≡ decimal m ++ t = cc in
+    let h : (decimal n ≡ decimal m) × (s ≡ t) = split (decimal n) (decimal m) s t (spells n .all) (spells m .all) l k r in
+    (decimal-different n m (h .0), h .1)
+
+numbers-split : (ns ms s t : List ℕ) → length ns ≡ length ms → numbers ns ++ (10 ∷ s) ≡ numbers ms ++ (10 ∷ t) → (ns ≡ ms) × (s ≡ t)
+numbers-split [] [] s t h e = (refl, cc)
+numbers-split [] (m ∷ ms) s t h e = absurd (omega arith)
+numbers-split (n ∷ ns) [] s t h e = absurd (omega arith)
+numbers-split (n ∷ ns) (m ∷ ms) s t h e =
+    let r : number n ++ (numbers ns ++ (10 ∷ s)) ≡ number m ++ (numbers ms ++ (10 ∷ t))
+    = sym (append-assoc (number n) (numbers ns) (10 ∷ s)) ∙ (e ∙ append-assoc (number m) (numbers ms) (10 ∷ t)) in
+    let k : (n ≡ m) × (numbers ns ++ (10 ∷ s) ≡ numbers ms ++ (10 ∷ t))
+    = number-split n m (numbers ns ++ (10 ∷ s)) (numbers ms ++ (10 ∷ t)) (low-numbers ns s) (low-numbers ms t) r in
+    let w : (ns ≡ ms) × (s ≡ t) = numbers-split ns ms s t (omega arith) (k .1) in
+    (rw (k .0, w .0), w .1)
+
+line-then : (name ns s : List ℕ) → line name ns ++ s ≡ name ++ (numbers ns ++ (10 ∷ s))
+line-then name ns s = append-assoc name (numbers ns ++ (10 ∷ [])) s ∙ ap (λ (l : List ℕ). name ++ l) (append-assoc (numbers ns) (10 ∷ []) s)
+
+pub line-split : (name ns ms s t : List ℕ) → length ns ≡ length ms → line name ns ++ s ≡ line name ms ++ t → (ns ≡ ms) × (s ≡ t)
+line-split name ns ms s t h e =
+    numbers-split ns ms s t h
+    (append-cancel-left name (numbers ns ++ (10 ∷ s)) (numbers ms ++ (10 ∷ t)) (sym (line-then name ns s) ∙ (e ∙ line-then name ms t)))
+
+empty : (ns : List ℕ) → length ns ≡ 0 → ns ≡ []
+empty [] h = refl
+empty (n ∷ ns) h = absurd (omega arith)
+
+pub lines-different : (rs : List Row) (ns ms : List ℕ) → length ns ≡ total rs → length ms ≡ total rs → lines rs ns ≡ lines rs ms → ns ≡ ms
+lines-different [] ns ms h k e = empty ns h ∙ sym (empty ms k)
+lines-different (r ∷ rs) ns ms h k e =
+    let c = r .count in
+    let w : (take c ns ≡ take c ms) × (lines rs (drop c ns) ≡ lines rs (drop c ms))
+    = line-split (r .name) (take c ns) (take c ms) (lines rs (drop c ns)) (lines rs (drop c ms))
+    (simp length-take (omega arith)) e in
+    let d : drop c ns ≡ drop c ms
+    = lines-different rs (drop c ns) (drop c ms) (simp length-drop (omega arith)) (simp length-drop (omega arith)) (w .1) in
+    sym (take-append-drop c ns) ∙ (rw (w .0, d) (take-append-drop c ms))
