@@ -16,29 +16,10 @@
 
 use crate::control;
 use crate::frames::Call;
-use crate::session;
+use crate::session::{self, Phase, Record};
 use crate::streaming::{self, Place, Table};
 use crate::Refusal;
 use std::fmt::Write;
-
-#[derive(Clone, Debug)]
-pub enum Phase {
-    Fresh,
-    Under { fid: bool, fault: u8, bytes: u64, fill: u64, stamp: Option<u32> },
-    Past(bool),
-}
-
-#[derive(Clone, Debug)]
-pub struct Record {
-    pub frame: u64,
-    pub payload: u64,
-    pub closed: bool,
-    pub taken: u32,
-    pub phase: Phase,
-    pub gap: bool,
-    pub numbers: [u64; 27],
-    pub last: Option<u32>,
-}
 
 #[derive(Clone, Debug)]
 pub enum Case {

@@ -1,7 +1,8 @@
 //! Random cases: well-formed ones, and the same with damage.
 
 use crate::blocks::{self, CONTROL_TOTAL, STREAMING_TOTAL};
-use crate::cases::{Case, Phase, Record};
+use crate::cases::Case;
+use crate::session::{Phase, Record};
 use crate::frames::Call;
 use crate::streaming::Place;
 

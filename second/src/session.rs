@@ -1,9 +1,28 @@
 //! Opening, the calls on a session, and the refusals that are no part of its history.
 
-use crate::cases::{Phase, Record};
 use crate::frames::{answer, judge, ledger, reason_name, sort, written, Call, Reason, Sort};
 use crate::streaming::sizes;
 use std::fmt::Write;
+
+/// A session record as the box has it, which may hold anything.
+#[derive(Clone, Debug)]
+pub enum Phase {
+    Fresh,
+    Under { fid: bool, fault: u8, bytes: u64, fill: u64, stamp: Option<u32> },
+    Past(bool),
+}
+
+#[derive(Clone, Debug)]
+pub struct Record {
+    pub frame: u64,
+    pub payload: u64,
+    pub closed: bool,
+    pub taken: u32,
+    pub phase: Phase,
+    pub gap: bool,
+    pub numbers: [u64; 27],
+    pub last: Option<u32>,
+}
 
 pub fn hash(bytes: &[u8]) -> u32 {
     bytes.iter().fold(2_166_136_261u32, |h, &b| h.wrapping_mul(16_777_619).wrapping_add(u32::from(b)))

@@ -1,7 +1,8 @@
 //! Session records as they stand: 50 to 53 and 55.
 
 use crate::blocks::*;
-use crate::cases::{Case, Phase, Record};
+use crate::cases::Case;
+use crate::session::{Phase, Record};
 
 fn plain_record() -> Record {
     Record { frame: 8, payload: 32, closed: false, taken: 10, phase: Phase::Fresh, gap: false, numbers: [0; 27], last: None }
