@@ -1,6 +1,6 @@
 // Reads a trace in constant memory, record by record.
 ghost use mathlib.Core.Path.{_≡_};
-ghost use Prim.Native.Nat.{_≤_, _<_};
+ghost use Prim.Native.Nat.{_<_};
 ghost use lib.ListN.{length};
 use crate::print;
 use trace::State;

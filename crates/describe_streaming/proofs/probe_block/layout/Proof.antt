@@ -3,9 +3,6 @@ use native.Mathlib.Omega.{arith}
 use borrow.Author.Needs.{needs}
 use Rattle.describe_streaming.proofs.probe_block.layout.Statement.{statement}
 use Rattle.describe_streaming.proofs.probe_block.layout.Tie as tie
-use Rattle.describe_streaming.proofs.probe_block.layout.Reads as reads
-use Rattle.describe_streaming.proofs.probe_block.layout.Lts as lts
-use Rattle.console.proofs.print.field.Reads as field-reads
 
 abbrev Inv-loop : tie.InvT-loop
 Inv-loop l i₀ i = i ≤ 8

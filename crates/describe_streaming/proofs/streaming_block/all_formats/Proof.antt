@@ -3,9 +3,6 @@ use native.Mathlib.Omega.{arith}
 use borrow.Author.Needs.{needs}
 use Rattle.describe_streaming.proofs.streaming_block.all_formats.Statement.{statement}
 use Rattle.describe_streaming.proofs.streaming_block.all_formats.Tie as tie
-use Rattle.describe_streaming.proofs.streaming_block.all_formats.Reads as reads
-use Rattle.describe_streaming.proofs.streaming_block.all_formats.Lts as lts
-use Rattle.describe_streaming.proofs.streaming_block.format.Reads as format-reads
 
 abbrev Inv-loop : tie.InvT-loop
 Inv-loop n formats i₀ i = i ≤ 8

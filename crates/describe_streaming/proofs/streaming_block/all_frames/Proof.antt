@@ -3,9 +3,6 @@ use native.Mathlib.Omega.{arith}
 use borrow.Author.Needs.{needs}
 use Rattle.describe_streaming.proofs.streaming_block.all_frames.Statement.{statement}
 use Rattle.describe_streaming.proofs.streaming_block.all_frames.Tie as tie
-use Rattle.describe_streaming.proofs.streaming_block.all_frames.Reads as reads
-use Rattle.describe_streaming.proofs.streaming_block.all_frames.Lts as lts
-use Rattle.describe_streaming.proofs.streaming_block.frame_line.Reads as frame-line-reads
 
 abbrev Inv-loop : tie.InvT-loop
 Inv-loop n frames i₀ i = i ≤ 64

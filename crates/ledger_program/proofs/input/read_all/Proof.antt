@@ -1,17 +1,9 @@
-use Prim.Native.Nat.{_≤_, _<_, _-_}
-use mathlib.Core.Path.{_≡_, refl, _∙_}
+use Prim.Native.Nat.{_<_}
+use mathlib.Core.Path.{_≡_}
 use lib.ListN.{length}
-use native.Mathlib.Omega.{arith}
 use borrow.Author.Needs.{needs}
 use Rattle.ledger_program.proofs.input.read_all.Statement.{statement}
 use Rattle.ledger_program.proofs.input.read_all.Tie as tie
-use Rattle.ledger_program.proofs.input.read_all.Reads as reads
-use Rattle.ledger_program.proofs.input.read_all.Lts as lts
-use Rattle.io.proofs.count.Reads as count-reads
-use Rattle.ledger_program.proofs.input.feed.Reads as feed-reads
-use Rattle.ledger_program.proofs.input.is_good.Reads as is-good-reads
-use Rattle.libc.proofs.read.Reads as read-reads
-use Rattle.trace.proofs.Trace.new.Reads as new-reads
 
 abbrev Inv-loop : tie.InvT-loop
 Inv-loop fd frame₀ piece₀ input₀ reader₀ turns₀ frame piece input reader turns =

@@ -2,10 +2,6 @@ use Rattle.trace.proofs.Steps.{finish-good, finish-bad, finish-refused}
 use borrow.Author.Needs.{needs}
 use Rattle.trace.proofs.Trace.finish.Statement.{statement}
 use Rattle.trace.proofs.Trace.finish.Tie as tie
-use Rattle.trace.proofs.Trace.finish.Reads as reads
-use Rattle.trace.proofs.Trace.finish.Lts as lts
-use Rattle.ledger.proofs.Ledger.new.Reads as new-reads
-use Rattle.session.proofs.Session.ledger.Reads as ledger-reads
 
 -- src/lib.rt:176:25
 enum-told : tie.Need-enum-told

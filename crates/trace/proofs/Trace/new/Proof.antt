@@ -2,9 +2,6 @@ use Rattle.trace.proofs.Steps.{new-is}
 use borrow.Author.Needs.{needs}
 use Rattle.trace.proofs.Trace.new.Statement.{statement}
 use Rattle.trace.proofs.Trace.new.Tie as tie
-use Rattle.trace.proofs.Trace.new.Reads as reads
-use Rattle.trace.proofs.Trace.new.Lts as lts
-use Rattle.session.proofs.Session.open.Reads as open-reads
 
 -- src/lib.rt:131:52
 slice-aggregate-open : tie.Need-slice-aggregate-open

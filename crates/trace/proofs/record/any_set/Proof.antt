@@ -7,8 +7,6 @@ use Rattle.trace.specs.Record.{anySet}
 use borrow.Author.Needs.{needs}
 use Rattle.trace.proofs.record.any_set.Statement.{statement}
 use Rattle.trace.proofs.record.any_set.Tie as tie
-use Rattle.trace.proofs.record.any_set.Reads as reads
-use Rattle.trace.proofs.record.any_set.Lts as lts
 
 abbrev Inv-loop : tie.InvT-loop
 Inv-loop r at i₀ i = (i ≤ length r) × (anySet (drop i r) ≡ anySet (drop at r))

@@ -2,10 +2,6 @@ use Rattle.trace.proofs.Steps.{bad-size, bad-kind, bad-length, bad-tran
 use borrow.Author.Needs.{needs}
 use Rattle.trace.proofs.record.bad.Statement.{statement}
 use Rattle.trace.proofs.record.bad.Tie as tie
-use Rattle.trace.proofs.record.bad.Reads as reads
-use Rattle.trace.proofs.record.bad.Lts as lts
-use Rattle.le.proofs.wide.Reads as wide-reads
-use Rattle.trace.proofs.record.any_set.Reads as any-set-reads
 
 -- src/record.rt:31:9
 returns : tie.Need-returns
