@@ -3,14 +3,9 @@ ghost use mathlib.Core.Path.{_≡_};
 ghost use Prim.Native.Nat.{_<_};
 ghost use lib.ListN.{length};
 use crate::print;
+use pieces::Reader;
 use trace::State;
 use trace::Trace;
-
-// A trace, and how many bytes of its next record have come.
-struct Reader {
-    trace: Trace,
-    have: usize,
-}
 
 fn is_good(t: Trace) -> bool {
     let state = t.state;
@@ -19,65 +14,6 @@ fn is_good(t: Trace) -> bool {
         State::Bad(_) => false,
         State::Refused(_, _) => false,
     }
-}
-
-// One byte more of a record that came in pieces.
-fn push(r: Reader, frame: &mut [u8], piece: &mut [u8], b: u8) -> Reader
-    requires { ⌜ (r .have < 64) × (length (now piece) ≡ 64) ⌝ }
-    ensures { λ x. ⌜ x .have < 64 ⌝ }
-{
-    let at = r.have;
-    let t = r.trace;
-    piece[at] = b;
-    if at < 63 {
-        return Reader {
-            trace: t,
-            have: at + 1,
-        };
-    }
-    Reader {
-        trace: t.run(frame, piece),
-        have: 0,
-    }
-}
-
-// Whole records straight from the input, all in one go, and bytes of one that is in pieces.
-fn feed(r: Reader, frame: &mut [u8], piece: &mut [u8], input: &[u8]) -> Reader
-    requires { ⌜ (r .have < 64) × (length (now piece) ≡ 64) ⌝ }
-    ensures { λ x. ⌜ x .have < 64 ⌝ }
-{
-    let mut reader = r;
-    let mut at = 0;
-    while at < input.len() {
-        if reader.have == 0 {
-            let left = input.len() - at;
-            if 64 <= left {
-                let end = input.len() - left % 64;
-                let t = reader.trace;
-                reader = Reader {
-                    trace: t.run(frame, &input[at..end]),
-                    have: 0,
-                };
-                at = end;
-                continue;
-            }
-        }
-        reader = push(reader, frame, piece, input[at]);
-        at += 1;
-    }
-    reader
-}
-
-// What is left over at the end of the input is a partial record.
-fn last(r: Reader, frame: &mut [u8], piece: &[u8]) -> Trace
-    requires { ⌜ (r .have < 64) × (length (now piece) ≡ 64) ⌝ }
-{
-    let have = r.have;
-    let t = r.trace;
-    if have == 0 {
-        return t;
-    }
-    t.run(frame, &piece[0..have])
 }
 
 // What the whole input came to, and whether every read went well.
@@ -91,10 +27,7 @@ fn read_all(fd: i32, frame: &mut [u8], piece: &mut [u8], input: &mut [u8]) -> In
     requires { ⌜ length (now piece) ≡ 64 ⌝ }
     ensures { λ x. ⌜ x .reader .have < 64 ⌝ }
 {
-    let mut reader = Reader {
-        trace: Trace::new(),
-        have: 0,
-    };
+    let mut reader = pieces::new();
     // A proved loop has to end, and nothing says that a file does: no run uses this number up.
     let mut turns = u64::MAX;
     while 0 < turns {
@@ -112,7 +45,7 @@ fn read_all(fd: i32, frame: &mut [u8], piece: &mut [u8], input: &mut [u8]) -> In
                 whole: true,
             };
         }
-        reader = feed(reader, frame, piece, &input[..n]);
+        reader = pieces::feed(reader, frame, piece, &input[..n]);
         let t = reader.trace;
         if !is_good(t) {
             return Input {
@@ -139,7 +72,7 @@ pub fn run(fd: i32, name: &[u8]) {
         return;
     }
     let reader = read.reader;
-    let trace = last(reader, &mut frame, &piece);
+    let trace = pieces::last(reader, &mut frame, &piece);
     if !print::print(trace.finish()) {
         os::fail(b"standard output");
     }

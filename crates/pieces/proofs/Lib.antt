@@ -1,0 +1,4 @@
+pub mod Joined
+pub mod Steps
+pub mod Right
+pub mod Unique

@@ -1,0 +1,30 @@
+-- Document 01, "The ledger program": a trace that comes in reads of any size is the trace of all its bytes.
+use Prim.Native.Nat.{ℕ, _*_, _/_, _%_}
+use mathlib.Core.Path.{_≡_}
+use mathlib.Core.List.{List}
+use lib.ListN.{length, take, drop}
+use Rattle.trace.specs.declared.Trace.{Trace}
+use Rattle.trace.specs.Record.{recordsOf}
+use Rattle.trace.specs.Trace.{newTrace, traced, tracedBuffer}
+use Rattle.pieces.specs.declared.Reader.{Reader}
+
+-- the bytes of whole records, 64 each, and the bytes after them: fewer than 64
+abbrev pub wholeOf : List ℕ → List ℕ
+wholeOf bytes = take (64 * (length bytes / 64)) bytes
+
+abbrev pub overOf : List ℕ → List ℕ
+overOf bytes = drop (64 * (length bytes / 64)) bytes
+
+-- AFTER THESE BYTES, from a trace t with the frame buffer b: every whole record is read, and the bytes after them are kept at the front of the piece
+pub record After (t : Trace) (b bytes : List ℕ) (r : Reader) (frame piece : List ℕ) : Type 0 where
+  pub trace : r .trace ≡ traced t b (recordsOf (wholeOf bytes))
+  pub buffer : frame ≡ tracedBuffer t b (recordsOf (wholeOf bytes))
+  pub have : r .have ≡ length bytes % 64
+  pub kept : take (r .have) piece ≡ overOf bytes
+
+-- READ: these are all the bytes so far, from a new trace
+abbrev pub Read : List ℕ → List ℕ → Reader → List ℕ → List ℕ → Type 0
+Read bytes b r frame piece = After newTrace b bytes r frame piece
+
+abbrev pub newReader : Reader
+newReader = record { trace = newTrace; have = 0 }

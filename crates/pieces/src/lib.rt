@@ -1,0 +1,83 @@
+// A trace that comes in reads of any size, kept in constant memory.
+ghost use mathlib.Core.Path.{_≡_};
+ghost use Prim.Native.Nat.{_<_};
+ghost use mathlib.Core.List.{[], _∷_, _++_};
+ghost use lib.ListN.{length, take};
+ghost use Rattle.trace.specs.Record.{recordsOf};
+ghost use Rattle.trace.specs.Trace.{traced, tracedBuffer};
+ghost use Rattle.pieces.specs.Pieces.{newReader, After};
+use trace::Trace;
+
+// A trace of whole records, and how many bytes of the next one have come.
+pub struct Reader {
+    pub trace: Trace,
+    pub have: usize,
+}
+
+// No bytes yet.
+pub fn new() -> Reader
+    ensures { λ r. ⌜ r ≡ newReader ⌝ }
+{
+    Reader {
+        trace: Trace::new(),
+        have: 0,
+    }
+}
+
+// One byte more of a record that comes in pieces.
+fn push(r: Reader, frame: &mut [u8], piece: &mut [u8], b: u8) -> Reader
+    requires { ⌜ (r .have < 64) × (length (now piece) ≡ 64) ⌝ }
+    ensures { λ x. ⌜ After (r .trace) (now (frame .entry)) (take (r .have) (now (piece .entry)) ++ (b ∷ [])) x (now (frame .exit)) (now (piece .exit)) ⌝ }
+{
+    let at = r.have;
+    let t = r.trace;
+    piece[at] = b;
+    if at < 63 {
+        return Reader {
+            trace: t,
+            have: at + 1,
+        };
+    }
+    Reader {
+        trace: t.run(frame, piece),
+        have: 0,
+    }
+}
+
+// Inner: so many bytes more. Whole records go straight from the input, all in one go.
+pub fn feed(r: Reader, frame: &mut [u8], piece: &mut [u8], input: &[u8]) -> Reader
+    requires { ⌜ (r .have < 64) × (length (now piece) ≡ 64) ⌝ }
+    ensures { λ x. ⌜ After (r .trace) (now (frame .entry)) (take (r .have) (now (piece .entry)) ++ now (input .entry)) x (now (frame .exit)) (now (piece .exit)) ⌝ }
+{
+    let mut reader = r;
+    let mut at = 0;
+    while at < input.len() {
+        if reader.have == 0 {
+            let left = input.len() - at;
+            if 64 <= left {
+                let end = input.len() - left % 64;
+                let t = reader.trace;
+                reader = Reader {
+                    trace: t.run(frame, &input[at..end]),
+                    have: 0,
+                };
+                at = end;
+                continue;
+            }
+        }
+        reader = push(reader, frame, piece, input[at]);
+        at += 1;
+    }
+    reader
+}
+
+// Inner: the end of the input. What is left over is a partial record.
+pub fn last(r: Reader, frame: &mut [u8], piece: &[u8]) -> Trace
+    requires { ⌜ (r .have < 64) × (length (now piece) ≡ 64) ⌝ }
+    ensures { λ x. ⌜ x ≡ traced (r .trace) (now (frame .entry)) (recordsOf (take (r .have) (now (piece .entry)))) ⌝ }
+    ensures { λ _. ⌜ now (frame .exit) ≡ tracedBuffer (r .trace) (now (frame .entry)) (recordsOf (take (r .have) (now (piece .entry)))) ⌝ }
+{
+    let have = r.have;
+    let t = r.trace;
+    t.run(frame, &piece[0..have])
+}
