@@ -3,6 +3,7 @@ ghost use mathlib.Core.Path.{_≡_};
 ghost use Prim.Native.Nat.{_<_};
 ghost use lib.ListN.{length};
 use crate::print;
+use console::status;
 use pieces::Reader;
 use trace::State;
 use trace::Trace;
@@ -69,11 +70,19 @@ pub fn run(fd: i32, name: &[u8]) {
     let read = read_all(fd, &mut frame, &mut piece, &mut input);
     if !read.whole {
         os::fail(name);
+        status::failed();
         return;
     }
     let reader = read.reader;
     let trace = pieces::last(reader, &mut frame, &piece);
     if !print::print(trace.finish()) {
         os::fail(b"standard output");
+        status::failed();
+        return;
+    }
+    if is_good(trace) {
+        status::answered();
+    } else {
+        status::refused();
     }
 }

@@ -2,6 +2,7 @@
 mod input;
 mod print;
 
+use console::status;
 use libc::STDERR_FILENO;
 use libc::STDIN_FILENO;
 
@@ -11,11 +12,13 @@ fn from_file() {
     let n = os::arg(1, &mut path);
     if os::errno() != 0 {
         os::fail(b"file name");
+        status::failed();
         return;
     }
     let fd = os::open_read(&path[..n]);
     if fd < 0 {
         os::fail(&path[..n]);
+        status::failed();
         return;
     }
     input::run(fd, &path[..n]);
@@ -25,7 +28,8 @@ fn from_file() {
 fn main() {
     let n = os::arg_count();
     if 2 < n {
-        io::write_all(STDERR_FILENO, b"usage: palkodhen ledger [FILE]\n");
+        io::write_all(STDERR_FILENO, b"wrong arguments: see palkodhen --help\n");
+        status::failed();
         return;
     }
     if n == 2 {
