@@ -1,15 +1,15 @@
 -- What is read in pieces: whole records and what is left over, however the bytes come.
-use Prim.Native.Nat.{ℕ, _+_, _*_, _/_, _%_, _<_, _≤_}
+use Prim.Native.Nat.{ℕ, _+_, _*_, _/_, _%_, _<_}
 use mathlib.Core.Path.{_≡_, refl, sym, ap, _∙_}
-use mathlib.Core.List.{List, [], _∷_, _++_, append-assoc}
+use mathlib.Core.List.{List, [], _++_, append-assoc}
 use native.Mathlib.Omega.{arith}
 use lib.ListN.{length, take, drop, length-append, length-drop, take-append-drop}
 use lib.Seq.{length-take-le, take-at, drop-at}
 use Rattle.trace.specs.declared.Trace.{Trace}
 use Rattle.trace.specs.Record.{recordsOf}
-use Rattle.trace.specs.Trace.{newTrace, traced, tracedBuffer}
+use Rattle.trace.specs.Trace.{traced, tracedBuffer}
 use Rattle.trace.proofs.Pieces.{in-pieces}
-use Rattle.pieces.specs.Pieces.{wholeOf, overOf, After, Read, newReader}
+use Rattle.pieces.specs.Pieces.{wholeOf, overOf, After}
 use Rattle.pieces.specs.declared.Reader.{Reader}
 
 -- so many whole records, and what is left over

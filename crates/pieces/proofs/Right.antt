@@ -1,39 +1,92 @@
 -- However the bytes of a trace are cut into reads, what is answered at the end is the answer for all of them.
-use Prim.Native.Nat.{ℕ, _/_}
+use Prim.Native.Nat.{ℕ, zero, suc, _+_, _*_, _/_, _<_, _≤_}
 use mathlib.Core.Path.{_≡_, refl, sym, ap, _∙_}
-use mathlib.Core.List.{List, [], _++_}
-use lib.ListN.{length, take}
+use mathlib.Core.Bool.{true, or-true, _||_}
+use mathlib.Core.List.{List, [], _∷_, _++_, append-assoc}
+use native.Mathlib.Omega.{arith}
+use lib.ListN.{length, take, drop, length-drop, drop-of-length-le}
+use lib.Seq.{take-all}
+use borrow.Author.Tests.{ne-eqb}
 use Rattle.trace.specs.declared.Trace.{Trace}
-use Rattle.trace.specs.Record.{recordsOf}
+use Rattle.trace.specs.declared.State.the-variants.{Good, Bad}
+use Rattle.trace.specs.Inner.{isDecided}
+use Rattle.trace.specs.Record.{recordBad, recordsOf}
+use Rattle.trace.specs.Standing.{closedIn}
 use Rattle.trace.specs.Trace.{newTrace, traced, tracedBuffer}
-use Rattle.trace.proofs.Pieces.{in-pieces}
+use Rattle.trace.proofs.Exactly.{trace-exactly}
+use Rattle.trace.proofs.Pieces.{in-pieces, records-append}
+use Rattle.trace.proofs.Runs.{records-more, run-stays}
 use Rattle.pieces.specs.Pieces.{wholeOf, overOf, After, Read, newReader}
 use Rattle.pieces.specs.declared.Reader.{Reader}
-use Rattle.pieces.proofs.Joined.{cut-of, after-more}
+use Rattle.pieces.proofs.Joined.{cut-of, cut-have, after-more}
 
 -- a new reader has read nothing
 pub read-new : (b piece : List ℕ) → Read [] b newReader b piece
 unfolding recordsOf
 read-new b piece = record { trace = refl; buffer = refl; have = refl; kept = refl }
 
+-- k whole records are k
+count-whole : (k : ℕ) (l : List ℕ) → length l ≡ k * 64 → length (recordsOf l) ≡ k
+unfolding recordsOf
+count-whole zero [] e = refl
+count-whole zero (x ∷ l) e = absurd (omega arith)
+count-whole (suc k) l e =
+    let i = count-whole k (drop 64 l) (omega (arith, length-drop 64 l)) in
+    ap length (records-more l (omega arith)) ∙ ap suc i
+
+-- fewer than 64 bytes are one record, and a bad one
+one-short : (l : List ℕ) → 0 < length l → length l < 64 → recordsOf l ≡ l ∷ []
+unfolding recordsOf
+one-short l h g = records-more l h ∙ ap (λ (d : List ℕ). take 64 l ∷ recordsOf d) (drop-of-length-le l {i = 64} (omega arith)) ∙ ap (_∷ []) (take-all 64 l (omega arith))
+
+short-bad : (l : List ℕ) → length l < 64 → recordBad l ≡ true
+unfolding recordBad
+short-bad l g = rw (ne-eqb (length l) 64 (λ e. omega arith))
+
 module _ (b bytes : List ℕ) (r : Reader) (frame piece : List ℕ) (u : Read bytes b r frame piece) where
   -- by what `feed` promises, so many bytes more are read
   pub read-feed : (input : List ℕ) (x : Reader) (frame' piece' : List ℕ) → After (r .trace) frame (take (r .have) piece ++ input) x frame' piece' → Read (bytes ++ input) b x frame' piece'
   read-feed input x frame' piece' v = after-more newTrace b bytes r frame piece u input x frame' piece' v
 
+  -- what comes after the whole records is read from where they led
+  read-rest : (all l : List ℕ) → all ≡ wholeOf bytes ++ l
+      → (traced (r .trace) frame (recordsOf l) ≡ traced newTrace b (recordsOf all)) × (tracedBuffer (r .trace) frame (recordsOf l) ≡ tracedBuffer newTrace b (recordsOf all))
+  read-rest all l e =
+      let p = in-pieces (length bytes / 64) newTrace b (wholeOf bytes) l (cut-of bytes .whole) in
+      (rw (u .trace, u .buffer, e) (sym (p .0)), rw (u .trace, u .buffer, e) (sym (p .1)))
+
   -- by what `last` promises, the answer is that for all the bytes: what is left over is a record of its own
   pub read-last : (x : Trace) → x ≡ traced (r .trace) frame (recordsOf (take (r .have) piece)) → x ≡ traced newTrace b (recordsOf bytes)
-  read-last x e =
-      e ∙ ap (λ (l : List ℕ). traced (r .trace) frame (recordsOf l)) (u .kept)
-      ∙ ap (λ (t : Trace). traced t frame (recordsOf (overOf bytes))) (u .trace)
-      ∙ ap (λ (c : List ℕ). traced (traced newTrace b (recordsOf (wholeOf bytes))) c (recordsOf (overOf bytes))) (u .buffer)
-      ∙ sym (in-pieces (length bytes / 64) newTrace b (wholeOf bytes) (overOf bytes) (cut-of bytes .whole) .0)
-      ∙ ap (λ (l : List ℕ). traced newTrace b (recordsOf l)) (sym (cut-of bytes .all))
+  read-last x e = e ∙ read-rest bytes (take (r .have) piece) (cut-of bytes .all ∙ ap (wholeOf bytes ++_) (sym (u .kept))) .0
 
   pub read-last-buffer : (frame' : List ℕ) → frame' ≡ tracedBuffer (r .trace) frame (recordsOf (take (r .have) piece)) → frame' ≡ tracedBuffer newTrace b (recordsOf bytes)
-  read-last-buffer frame' e =
-      e ∙ ap (λ (l : List ℕ). tracedBuffer (r .trace) frame (recordsOf l)) (u .kept)
-      ∙ ap (λ (t : Trace). tracedBuffer t frame (recordsOf (overOf bytes))) (u .trace)
-      ∙ ap (λ (c : List ℕ). tracedBuffer (traced newTrace b (recordsOf (wholeOf bytes))) c (recordsOf (overOf bytes))) (u .buffer)
-      ∙ sym (in-pieces (length bytes / 64) newTrace b (wholeOf bytes) (overOf bytes) (cut-of bytes .whole) .1)
-      ∙ ap (λ (l : List ℕ). tracedBuffer newTrace b (recordsOf l)) (sym (cut-of bytes .all))
+  read-last-buffer frame' e = e ∙ read-rest bytes (take (r .have) piece) (cut-of bytes .all ∙ ap (wholeOf bytes ++_) (sym (u .kept))) .1
+
+  -- once a record has decided, no byte that comes after it counts: reading may stop
+  pub read-decided : isDecided (r .trace .state) ≡ true → (more : List ℕ) → traced newTrace b (recordsOf (bytes ++ more)) ≡ r .trace
+  read-decided d more =
+      sym (read-rest (bytes ++ more) (overOf bytes ++ more) (ap (_++ more) (cut-of bytes .all) ∙ append-assoc (wholeOf bytes) (overOf bytes) more) .0)
+      ∙ sym (run-stays (r .trace) frame (overOf bytes ++ more) true (sym d) refl .0)
+
+  -- a partial record at the end of a good trace is bad, with its own number
+  pub read-partial : 256 ≤ length b → r .trace .state ≡ Good → 0 < r .have → traced newTrace b (recordsOf bytes) .state ≡ Bad (length bytes / 64 + 1)
+  read-partial room g h =
+      trace-exactly b room (recordsOf bytes) (Bad (length bytes / 64 + 1)) .1
+      (record {
+        before = recordsOf (wholeOf bytes);
+        this = overOf bytes;
+        rest = [];
+        cut = cuts;
+        good = trace-exactly b room (recordsOf (wholeOf bytes)) Good .0 (sym (ap (λ (t : Trace). t .state) (u .trace)) ∙ g);
+        wrong = ap (closedIn (recordsOf (wholeOf bytes)) ||_) (short-bad (overOf bytes) (cut-of bytes .over)) ∙ or-true (closedIn (recordsOf (wholeOf bytes)));
+        number = ap (_+ 1) (sym (count-whole (length bytes / 64) (wholeOf bytes) (cut-of bytes .whole)));
+      })
+    where
+      size : length (overOf bytes) ≡ r .have
+      size = sym (u .have ∙ cut-have bytes (length bytes / 64) (wholeOf bytes) (overOf bytes) (cut-of bytes))
+
+      cuts : recordsOf bytes ≡ recordsOf (wholeOf bytes) ++ (overOf bytes ∷ [])
+      cuts =
+          ap recordsOf (cut-of bytes .all)
+          ∙ records-append (length bytes / 64) (wholeOf bytes) (overOf bytes) (cut-of bytes .whole)
+          ∙ ap (recordsOf (wholeOf bytes) ++_) (one-short (overOf bytes) (omega (arith, size)) (cut-of bytes .over))

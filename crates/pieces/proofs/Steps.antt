@@ -1,5 +1,5 @@
 -- One byte more, and whole records in one go.
-use Prim.Native.Nat.{ℕ, zero, suc, _+_, _-_, _*_, _/_, _%_, _<_, _≤_}
+use Prim.Native.Nat.{ℕ, suc, _+_, _-_, _*_, _/_, _%_, _<_, _≤_}
 use mathlib.Core.Path.{_≡_, refl, sym, ap, _∙_}
 use mathlib.Core.List.{List, [], _∷_, _++_, append-assoc, append-nil}
 use native.Mathlib.Omega.{arith}
@@ -10,7 +10,7 @@ use Rattle.trace.specs.Record.{recordsOf}
 use Rattle.trace.specs.Trace.{traced, tracedBuffer}
 use Rattle.pieces.specs.Pieces.{After}
 use Rattle.pieces.specs.declared.Reader.{Reader}
-use Rattle.pieces.proofs.Joined.{Cut, after-cut, after-none, after-more}
+use Rattle.pieces.proofs.Joined.{after-cut, after-none, after-more}
 
 module _ (t : Trace) (at : ℕ) (frame piece : List ℕ) (n : length piece ≡ 64) where
   -- a byte of a record that is still short of 64
