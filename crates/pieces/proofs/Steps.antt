@@ -101,3 +101,12 @@ module _ (r : Reader) (frame₀ piece₀ input : List ℕ) where
         where
           none : take (reader .have) piece ++ part ≡ part ++ []
           none = ap (λ (j : ℕ). take j piece ++ part) h ∙ sym (append-nil part)
+
+-- ---- the end
+module _ (t : Trace) (have : ℕ) (frame piece : List ℕ) where
+  pub last-part : (x : Trace) (frame' : List ℕ) → x ≡ traced t frame (recordsOf (take (have - 0) piece)) → frame' ≡ tracedBuffer t frame (recordsOf (take (have - 0) piece))
+      → (x ≡ traced t frame (recordsOf (take have piece))) × (frame' ≡ tracedBuffer t frame (recordsOf (take have piece)))
+  last-part x frame' e f = (e ∙ ap (λ (j : ℕ). traced t frame (recordsOf (take j piece))) all, f ∙ ap (λ (j : ℕ). tracedBuffer t frame (recordsOf (take j piece))) all)
+    where
+      all : have - 0 ≡ have
+      all = omega arith

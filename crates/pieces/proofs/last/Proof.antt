@@ -1,4 +1,5 @@
-use native.Mathlib.Numerals.{unary-clauses}
+use denote.Ref.{now}
+use Rattle.pieces.proofs.Steps.{last-part}
 use borrow.Author.Needs.{needs}
 use Rattle.pieces.proofs.last.Statement.{statement}
 use Rattle.pieces.proofs.last.Tie as tie
@@ -19,7 +20,10 @@ same-length : tie.Need-same-length
 same-length c = search needs
 
 returns : tie.Need-returns
-returns c = simp unary-clauses at (c .before .before .run .ensures)
+returns c =
+    let s = c .before .before .before .before .before .before .before .before in
+    let x = c .before .before .run in
+    last-part (s .args .r .trace) (s .args .r .have) (now (s .args .frame)) (now (s .args .piece)) (x .result) _ (x .ensures .0) (x .ensures .1)
 
 pub last-spec : {M : Type 1} → statement M
 last-spec =
