@@ -1,0 +1,3 @@
+-- Laws of the blocks' text.
+pub mod Tables
+pub mod Unique

@@ -1,0 +1,46 @@
+-- What is printed of a whole answer: its lines, or the refusal's one line.
+use mathlib.Core.List.{List, [], _∷_, _++_}
+use Prim.Native.Nat.{ℕ, _*_}
+use lib.ListN.{take}
+use Rattle.rules.specs.declared.Verdict.{Verdict}
+use Rattle.rules.specs.declared.Verdict.the-variants.{Accepted, Refused}
+use Rattle.entities.specs.declared.Table.{Table}
+use Rattle.entities.specs.Table.{used}
+use Rattle.control.specs.declared.Control.{Control}
+use Rattle.control_map.specs.declared.Map.{Map}
+use Rattle.control_map.specs.declared.Map.the-variants.{Controls, Refused as MapRefused}
+use Rattle.streaming.specs.declared.Streaming.{Streaming}
+use Rattle.text.specs.Text.{bytes, line, texts}
+use Rattle.block_text.specs.Lines.{entityLine, formatLine, frameLine, controlsLine, refusedLine, acceptedLine, lineMost}
+
+-- the clock frequency, and the used places of the entity table
+abbrev pub tableText : Table → List ℕ
+tableText t = acceptedLine ++ (line (bytes "clock") (t .clock ∷ []) ++ texts entityLine (used t))
+
+abbrev pub controlBy : Verdict → Table → List ℕ
+controlBy Accepted t = tableText t
+controlBy (Refused k o) t = refusedLine k o
+
+abbrev pub controlText : Control → List ℕ
+controlText c = controlBy (c .verdict) (c .table)
+
+abbrev pub mapText : Map → List ℕ
+mapText (Controls a b c) = controlsLine a b c
+mapText (MapRefused k o) = refusedLine k o
+
+-- the endpoint, the link, the used formats, the used frames
+abbrev pub listedText : Streaming → List ℕ
+listedText s =
+    acceptedLine ++ (line (bytes "endpoint") (s .endpoint ∷ []) ++ (line (bytes "link") (s .link ∷ [])
+    ++ (texts formatLine (take (s .«format_count») (s .formats)) ++ texts frameLine (take (s .«frame_count») (s .frames)))))
+
+abbrev pub streamingBy : Verdict → Streaming → List ℕ
+streamingBy Accepted s = listedText s
+streamingBy (Refused k o) s = refusedLine k o
+
+abbrev pub streamingText : Streaming → List ℕ
+streamingText s = streamingBy (s .verdict) s
+
+-- enough for any answer: the most lines are those of a streaming block, three and eight formats and 64 frames
+abbrev pub room : ℕ
+room = lineMost * 75

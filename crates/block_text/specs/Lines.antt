@@ -1,0 +1,34 @@
+-- One thing, one line: what is printed of an entity, a format, a frame, a unit's controls and a refusal.
+use mathlib.Core.List.{List, [], _∷_, _++_}
+use Prim.Native.Nat.{ℕ, _*_}
+use Rattle.entities.specs.declared.Entity.{Entity}
+use Rattle.streaming_rules.specs.declared.Format.{Format}
+use Rattle.streaming_rules.specs.declared.Frame.{Frame}
+use Rattle.text.specs.Text.{bytes, number, line}
+
+-- ID, kind, terminal type, offset
+abbrev pub entityLine : Entity → List ℕ
+entityLine e = line (bytes "entity") (e .id ∷ e .kind ∷ e .terminal ∷ e .offset ∷ [])
+
+-- kind, GUID's number, bits, how many frames, default frame, offset
+abbrev pub formatLine : Format → List ℕ
+formatLine f = line (bytes "format") (f .kind ∷ f .guid ∷ f .bits ∷ f .frames ∷ f .default ∷ f .offset ∷ [])
+
+-- its format, width, height, size, interval, K, offset
+abbrev pub frameLine : Frame → List ℕ
+frameLine f = line (bytes "frame") (f .format ∷ f .width ∷ f .height ∷ f .size ∷ f .interval ∷ f .k ∷ f .offset ∷ [])
+
+-- the three control bytes, the first first
+abbrev pub controlsLine : ℕ → ℕ → ℕ → List ℕ
+controlsLine a b c = line (bytes "controls") (a ∷ b ∷ c ∷ [])
+
+-- the rule's number, and the place that breaks it
+abbrev pub refusedLine : ℕ → ℕ → List ℕ
+refusedLine k o = bytes "refused" ++ (number k ++ line (bytes " at") (o ∷ []))
+
+abbrev pub acceptedLine : List ℕ
+acceptedLine = bytes "accepted\n"
+
+-- a line has at most so many bytes: a name of at most 16, eight numbers of 21, and its end
+abbrev pub lineMost : ℕ
+lineMost = 192

@@ -1,0 +1,249 @@
+// The printed text of what the readers answer: a line of each entity, format and frame, of a unit's controls, of a refusal; and whole answers in a lent buffer.
+ghost use mathlib.Core.Path.{_≡_};
+ghost use Prim.Native.Nat.{_+_, _*_, _≤_};
+ghost use lib.ListN.{length, take};
+ghost use Rattle.io.specs.Counts.{Counts};
+ghost use Rattle.text.specs.Put.{Put};
+ghost use Rattle.text.specs.Text.{texts};
+ghost use Rattle.text.specs.Written.{answerOf, bufferOf};
+ghost use Rattle.entities.specs.Table.{used};
+ghost use Rattle.block_text.specs.Lines.{lineMost, entityLine, formatLine, frameLine, controlsLine, refusedLine};
+ghost use Rattle.block_text.specs.Answers.{room, tableText, controlBy, controlText, mapText, listedText, streamingText};
+use control::Control;
+use control_map::Map;
+use entities::ENTITIES_MOST;
+use entities::Entity;
+use entities::Table;
+use rules::Verdict;
+use streaming::Streaming;
+use streaming_rules::FORMATS_MOST;
+use streaming_rules::FRAMES_MOST;
+use streaming_rules::Format;
+use streaming_rules::Frame;
+
+// How many bytes are enough for any answer: a line has at most 192, and a streaming block has the most lines.
+pub const ROOM: usize = 192 * 75;
+
+// The whole text of a control block's reading at the front of buf, and its length; 0, and buf as it was, where buf has fewer than ROOM bytes.
+pub fn control(buf: &mut [u8], c: Control) -> usize
+    ensures { λ r. ⌜ r ≡ answerOf room (controlText c) (now (buf .entry)) ⌝ }
+    ensures { λ _. ⌜ now (buf .exit) ≡ bufferOf room (controlText c) (now (buf .entry)) ⌝ }
+    ensures { λ r. ⌜ Counts r (now (buf .exit)) ⌝ }
+{
+    if buf.len() < ROOM {
+        return 0;
+    }
+    let verdict = c.verdict;
+    let table = c.table;
+    control_read(buf, verdict, table)
+}
+
+// The same of a unit's control bytes.
+pub fn map(buf: &mut [u8], m: Map) -> usize
+    ensures { λ r. ⌜ r ≡ answerOf room (mapText m) (now (buf .entry)) ⌝ }
+    ensures { λ _. ⌜ now (buf .exit) ≡ bufferOf room (mapText m) (now (buf .entry)) ⌝ }
+    ensures { λ r. ⌜ Counts r (now (buf .exit)) ⌝ }
+{
+    if buf.len() < ROOM {
+        return 0;
+    }
+    mapped(buf, m)
+}
+
+// The same of a streaming block's reading.
+pub fn streaming(buf: &mut [u8], s: Streaming) -> usize
+    ensures { λ r. ⌜ r ≡ answerOf room (streamingText s) (now (buf .entry)) ⌝ }
+    ensures { λ _. ⌜ now (buf .exit) ≡ bufferOf room (streamingText s) (now (buf .entry)) ⌝ }
+    ensures { λ r. ⌜ Counts r (now (buf .exit)) ⌝ }
+{
+    if buf.len() < ROOM {
+        return 0;
+    }
+    streaming_read(buf, s)
+}
+
+fn control_read(buf: &mut [u8], verdict: Verdict, t: Table) -> usize
+    requires { ⌜ room ≤ length (now buf) ⌝ }
+    ensures { λ r. ⌜ Put (now (buf .entry)) 0 (controlBy verdict t) r (now (buf .exit)) ⌝ }
+{
+    match verdict {
+        Verdict::Accepted => table(buf, t),
+        Verdict::Refused { number, offset } => refused(buf, 0, number, offset),
+    }
+}
+
+fn table(buf: &mut [u8], t: Table) -> usize
+    requires { ⌜ room ≤ length (now buf) ⌝ }
+    ensures { λ r. ⌜ Put (now (buf .entry)) 0 (tableText t) r (now (buf .exit)) ⌝ }
+{
+    let told = text::put(buf, 0, b"accepted\n");
+    let clock = [t.clock as u64];
+    let at = text::line(buf, told, b"clock", &clock);
+    entities(buf, at, t)
+}
+
+fn mapped(buf: &mut [u8], m: Map) -> usize
+    requires { ⌜ room ≤ length (now buf) ⌝ }
+    ensures { λ r. ⌜ Put (now (buf .entry)) 0 (mapText m) r (now (buf .exit)) ⌝ }
+{
+    match m {
+        Map::Controls(a, b, c) => controls(buf, 0, a, b, c),
+        Map::Refused { number, offset } => refused(buf, 0, number, offset),
+    }
+}
+
+fn streaming_read(buf: &mut [u8], s: Streaming) -> usize
+    requires { ⌜ room ≤ length (now buf) ⌝ }
+    ensures { λ r. ⌜ Put (now (buf .entry)) 0 (streamingText s) r (now (buf .exit)) ⌝ }
+{
+    let verdict = s.verdict;
+    match verdict {
+        Verdict::Accepted => listed(buf, s),
+        Verdict::Refused { number, offset } => refused(buf, 0, number, offset),
+    }
+}
+
+fn listed(buf: &mut [u8], s: Streaming) -> usize
+    requires { ⌜ room ≤ length (now buf) ⌝ }
+    ensures { λ r. ⌜ Put (now (buf .entry)) 0 (listedText s) r (now (buf .exit)) ⌝ }
+{
+    let told = text::put(buf, 0, b"accepted\n");
+    let endpoint = [s.endpoint as u64];
+    let ended = text::line(buf, told, b"endpoint", &endpoint);
+    let link = [s.link as u64];
+    let linked = text::line(buf, ended, b"link", &link);
+    let all = s.formats;
+    let at = formats(buf, linked, all, s.format_count);
+    let each = s.frames;
+    frames(buf, at, each, s.frame_count)
+}
+
+// Inner: the lines of the used places of an entity table.
+pub fn entities(buf: &mut [u8], start: usize, t: Table) -> usize
+    requires { ⌜ start + lineMost * 32 ≤ length (now buf) ⌝ }
+    ensures { λ r. ⌜ Put (now (buf .entry)) start (texts entityLine (used t)) r (now (buf .exit)) ⌝ }
+    ensures { λ r. ⌜ r ≤ start + lineMost * 32 ⌝ }
+{
+    let n = t.count;
+    let mut at = start;
+    let mut i: usize = 0;
+    while i < ENTITIES_MOST {
+        if n <= i {
+            return at;
+        }
+        let e = t.entities[i];
+        at = entity(buf, at, e);
+        i += 1;
+    }
+    at
+}
+
+// Inner: the lines of the first n formats.
+pub fn formats(buf: &mut [u8], start: usize, all: [Format; FORMATS_MOST], n: usize) -> usize
+    requires { ⌜ start + lineMost * 8 ≤ length (now buf) ⌝ }
+    ensures { λ r. ⌜ Put (now (buf .entry)) start (texts formatLine (take n all)) r (now (buf .exit)) ⌝ }
+    ensures { λ r. ⌜ r ≤ start + lineMost * 8 ⌝ }
+{
+    let mut at = start;
+    let mut i: usize = 0;
+    while i < FORMATS_MOST {
+        if n <= i {
+            return at;
+        }
+        let f = all[i];
+        at = format(buf, at, f);
+        i += 1;
+    }
+    at
+}
+
+// Inner: the lines of the first n frames.
+pub fn frames(buf: &mut [u8], start: usize, all: [Frame; FRAMES_MOST], n: usize) -> usize
+    requires { ⌜ start + lineMost * 64 ≤ length (now buf) ⌝ }
+    ensures { λ r. ⌜ Put (now (buf .entry)) start (texts frameLine (take n all)) r (now (buf .exit)) ⌝ }
+    ensures { λ r. ⌜ r ≤ start + lineMost * 64 ⌝ }
+{
+    let mut at = start;
+    let mut i: usize = 0;
+    while i < FRAMES_MOST {
+        if n <= i {
+            return at;
+        }
+        let f = all[i];
+        at = frame(buf, at, f);
+        i += 1;
+    }
+    at
+}
+
+// Inner: an entity's line.
+pub fn entity(buf: &mut [u8], at: usize, e: Entity) -> usize
+    requires { ⌜ at + lineMost ≤ length (now buf) ⌝ }
+    ensures { λ r. ⌜ Put (now (buf .entry)) at (entityLine e) r (now (buf .exit)) ⌝ }
+    ensures { λ r. ⌜ r ≤ at + lineMost ⌝ }
+{
+    let ns = [
+        e.id as u64,
+        e.kind as u64,
+        e.terminal as u64,
+        e.offset as u64,
+    ];
+    text::line(buf, at, b"entity", &ns)
+}
+
+// Inner: a format's line.
+pub fn format(buf: &mut [u8], at: usize, f: Format) -> usize
+    requires { ⌜ at + lineMost ≤ length (now buf) ⌝ }
+    ensures { λ r. ⌜ Put (now (buf .entry)) at (formatLine f) r (now (buf .exit)) ⌝ }
+    ensures { λ r. ⌜ r ≤ at + lineMost ⌝ }
+{
+    let ns = [
+        f.kind as u64,
+        f.guid as u64,
+        f.bits as u64,
+        f.frames as u64,
+        f.default as u64,
+        f.offset as u64,
+    ];
+    text::line(buf, at, b"format", &ns)
+}
+
+// Inner: a frame's line.
+pub fn frame(buf: &mut [u8], at: usize, f: Frame) -> usize
+    requires { ⌜ at + lineMost ≤ length (now buf) ⌝ }
+    ensures { λ r. ⌜ Put (now (buf .entry)) at (frameLine f) r (now (buf .exit)) ⌝ }
+    ensures { λ r. ⌜ r ≤ at + lineMost ⌝ }
+{
+    let ns = [
+        f.format as u64,
+        f.width as u64,
+        f.height as u64,
+        f.size as u64,
+        f.interval as u64,
+        f.k as u64,
+        f.offset as u64,
+    ];
+    text::line(buf, at, b"frame", &ns)
+}
+
+// Inner: the line of three control bytes.
+pub fn controls(buf: &mut [u8], at: usize, a: u8, b: u8, c: u8) -> usize
+    requires { ⌜ at + lineMost ≤ length (now buf) ⌝ }
+    ensures { λ r. ⌜ Put (now (buf .entry)) at (controlsLine a b c) r (now (buf .exit)) ⌝ }
+    ensures { λ r. ⌜ r ≤ at + lineMost ⌝ }
+{
+    let ns = [a as u64, b as u64, c as u64];
+    text::line(buf, at, b"controls", &ns)
+}
+
+// Inner: a refusal's line.
+pub fn refused(buf: &mut [u8], at: usize, number: u8, offset: usize) -> usize
+    requires { ⌜ at + lineMost ≤ length (now buf) ⌝ }
+    ensures { λ r. ⌜ Put (now (buf .entry)) at (refusedLine number offset) r (now (buf .exit)) ⌝ }
+    ensures { λ r. ⌜ r ≤ at + lineMost ⌝ }
+{
+    let named = text::put(buf, at, b"refused");
+    let numbered = text::number(buf, named, number as u64);
+    let ns = [offset as u64];
+    text::line(buf, numbered, b" at", &ns)
+}
