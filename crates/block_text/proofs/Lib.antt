@@ -1,3 +1,5 @@
 -- Laws of the blocks' text.
 pub mod Tables
+pub mod Layouts
 pub mod Unique
+pub mod Samples

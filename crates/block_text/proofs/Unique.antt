@@ -11,9 +11,10 @@ use Rattle.control.specs.declared.Control.{Control}
 use Rattle.control_map.specs.declared.Map.{Map}
 use Rattle.control_map.specs.declared.Map.the-variants.{Controls, Refused as MapRefused}
 use Rattle.streaming.specs.declared.Streaming.{Streaming}
+use Rattle.probe.specs.declared.Probe.{Probe}
 use Rattle.text.specs.Written.{answerOf, bufferOf}
 use Rattle.text.proofs.Whole.{text-unique}
-use Rattle.block_text.specs.Answers.{room, controlBy, controlText, mapText, streamingBy, streamingText}
+use Rattle.block_text.specs.Answers.{room, controlBy, controlText, mapText, streamingBy, streamingText, probeText}
 
 -- what the promise says of an answer and a buffer, for any text
 abbrev pub Promised : List ℕ → List ℕ → ℕ → List ℕ → Type 0
@@ -31,6 +32,9 @@ map-unique m = unique (mapText m)
 pub streaming-unique : (s : Streaming) (old : List ℕ) (r₁ r₂ : ℕ) (new₁ new₂ : List ℕ) → Promised (streamingText s) old r₁ new₁ → Promised (streamingText s) old r₂ new₂ → (r₁ ≡ r₂) × (new₁ ≡ new₂)
 streaming-unique s = unique (streamingText s)
 
+pub probe-unique : (v : Verdict) (p : Probe) (old : List ℕ) (r₁ r₂ : ℕ) (new₁ new₂ : List ℕ) → Promised (probeText v p) old r₁ new₁ → Promised (probeText v p) old r₂ new₂ → (r₁ ≡ r₂) × (new₁ ≡ new₂)
+probe-unique v p = unique (probeText v p)
+
 -- no text is empty
 pub some-control : (v : Verdict) (t : Table) → 0 < length (controlBy v t)
 some-control Accepted t = omega arith
@@ -43,3 +47,7 @@ some-map (MapRefused k o) = omega arith
 pub some-streaming : (v : Verdict) (s : Streaming) → 0 < length (streamingBy v s)
 some-streaming Accepted s = omega arith
 some-streaming (Refused k o) s = omega arith
+
+pub some-probe : (v : Verdict) (p : Probe) → 0 < length (probeText v p)
+some-probe Accepted p = omega arith
+some-probe (Refused k o) p = omega arith

@@ -10,8 +10,10 @@ use Rattle.control.specs.declared.Control.{Control}
 use Rattle.control_map.specs.declared.Map.{Map}
 use Rattle.control_map.specs.declared.Map.the-variants.{Controls, Refused as MapRefused}
 use Rattle.streaming.specs.declared.Streaming.{Streaming}
+use Rattle.probe.specs.declared.Probe.{Probe}
 use Rattle.text.specs.Text.{bytes, line, texts}
 use Rattle.block_text.specs.Lines.{entityLine, formatLine, frameLine, controlsLine, refusedLine, acceptedLine, lineMost}
+use Rattle.block_text.specs.Fields.{fieldsText}
 
 -- the clock frequency, and the used places of the entity table
 abbrev pub tableText : Table → List ℕ
@@ -40,6 +42,11 @@ streamingBy (Refused k o) s = refusedLine k o
 
 abbrev pub streamingText : Streaming → List ℕ
 streamingText s = streamingBy (s .verdict) s
+
+-- the verdict of the check, and the fields
+abbrev pub probeText : Verdict → Probe → List ℕ
+probeText Accepted p = acceptedLine ++ fieldsText p
+probeText (Refused k o) p = refusedLine k o
 
 -- enough for any answer: the most lines are those of a streaming block, three and eight formats and 64 frames
 abbrev pub room : ℕ

@@ -1,0 +1,25 @@
+-- Texts that antt computes.
+use mathlib.Core.Path.{_≡_, refl}
+use mathlib.Core.List.{[], _∷_}
+use Rattle.rules.specs.declared.Verdict.the-variants.{Accepted, Refused}
+use Rattle.control_map.specs.declared.Map.the-variants.{Controls}
+use Rattle.text.specs.Decimal.{decimal}
+use Rattle.text.specs.Text.{bytes}
+use Rattle.block_text.specs.Lines.{frameLine, refusedLine}
+use Rattle.block_text.specs.Answers.{controlBy, mapText}
+
+refused : refusedLine 16 4096 ≡ bytes "refused 16 at 4096\n"
+unfolding decimal
+refused = refl
+
+mapped : mapText (Controls 1 20 255) ≡ bytes "controls 1 20 255\n"
+unfolding decimal
+mapped = refl
+
+framed : frameLine (record { format = 1; k = 3; width = 640; height = 480; offset = 49; size = 614400; interval = 333333 }) ≡ bytes "frame 1 640 480 614400 333333 3 49\n"
+unfolding decimal
+framed = refl
+
+table : controlBy Accepted (record { count = 1; entities = record { id = 1; kind = 2; terminal = 513; offset = 13 } ∷ record { id = 9; kind = 9; terminal = 9; offset = 9 } ∷ []; clock = 48000000 }) ≡ bytes "accepted\nclock 48000000\nentity 1 2 513 13\n"
+unfolding decimal
+table = refl
