@@ -1,23 +1,9 @@
-// The lines that are printed.
+// What is printed: answers on standard output, problems on standard error.
 use libc::STDERR_FILENO;
 use libc::STDOUT_FILENO;
 
 pub fn text(bytes: &[u8]) {
     io::write_all(STDOUT_FILENO, bytes);
-}
-
-// A space and the number.
-pub fn field(n: u64) {
-    text(b" ");
-    io::print_decimal(STDOUT_FILENO, n);
-}
-
-pub fn refused(number: u8, offset: usize) {
-    text(b"refused");
-    field(number as u64);
-    text(b" at");
-    field(offset as u64);
-    text(b"\n");
 }
 
 // What is wrong with the call: a line on standard error.

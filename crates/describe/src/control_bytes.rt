@@ -3,7 +3,6 @@ ghost use mathlib.Core.Path.{_≡_};
 ghost use Rattle.describe.specs.Id.{idOf};
 use console::files;
 use console::print;
-use control_map::Map;
 
 pub fn describe(which: usize, word: usize) {
     let mut text = [0u8; 16];
@@ -19,18 +18,9 @@ pub fn describe(which: usize, word: usize) {
     if !file.fine {
         return;
     }
-    match control_map::controls(&buf[..n], id as u8) {
-        Map::Controls(a, b, c) => controls(a, b, c),
-        Map::Refused { number, offset } => print::refused(number, offset),
-    }
-}
-
-fn controls(a: u8, b: u8, c: u8) {
-    print::text(b"controls");
-    print::field(a as u64);
-    print::field(b as u64);
-    print::field(c as u64);
-    print::text(b"\n");
+    let mut lines = [0u8; block_text::ROOM];
+    let m = block_text::map(&mut lines, control_map::controls(&buf[..n], id as u8));
+    print::text(&lines[..m]);
 }
 
 // The number that decimal digits spell, or 256 for anything but a number from 0 to 255.
