@@ -9,7 +9,7 @@ use Rattle.trace.specs.declared.Trace.{Trace}
 use Rattle.trace.specs.Record.{recordsOf}
 use Rattle.trace.specs.Trace.{traced, tracedBuffer}
 use Rattle.trace.proofs.Pieces.{in-pieces}
-use Rattle.pieces.specs.Pieces.{wholeOf, overOf, After}
+use Rattle.pieces.specs.Pieces.{wholeIn, overIn, After}
 use Rattle.pieces.specs.declared.Reader.{Reader}
 
 -- so many whole records, and what is left over
@@ -18,7 +18,7 @@ pub record Cut (bytes : List ℕ) (k : ℕ) (xs ys : List ℕ) : Type 0 where
   pub whole : length xs ≡ k * 64
   pub over : length ys < 64
 
-pub cut-of : (bytes : List ℕ) → Cut bytes (length bytes / 64) (wholeOf bytes) (overOf bytes)
+pub cut-of : (bytes : List ℕ) → Cut bytes (length bytes / 64) (wholeIn bytes) (overIn bytes)
 cut-of bytes =
     record {
       all = sym (take-append-drop (64 * (length bytes / 64)) bytes);
@@ -33,10 +33,10 @@ module _ (bytes : List ℕ) (k : ℕ) (xs ys : List ℕ) (c : Cut bytes k xs ys)
   ends : length xs ≡ 64 * (length bytes / 64)
   ends = omega (arith, many, c .whole, c .over)
 
-  pub cut-whole : wholeOf bytes ≡ xs
+  pub cut-whole : wholeIn bytes ≡ xs
   cut-whole = ap (take (64 * (length bytes / 64))) (c .all) ∙ take-at xs ys (64 * (length bytes / 64)) ends
 
-  pub cut-over : overOf bytes ≡ ys
+  pub cut-over : overIn bytes ≡ ys
   cut-over = ap (drop (64 * (length bytes / 64))) (c .all) ∙ drop-at xs ys (64 * (length bytes / 64)) ends
 
   pub cut-have : length bytes % 64 ≡ length ys
@@ -72,24 +72,24 @@ module _ (t : Trace) (b bytes : List ℕ) (r : Reader) (frame piece : List ℕ) 
   abbrev k₂ : ℕ
   k₂ = length next / 64
 
-  cut-more : Cut (bytes ++ more) (k₁ + k₂) (wholeOf bytes ++ wholeOf next) (overOf next)
+  cut-more : Cut (bytes ++ more) (k₁ + k₂) (wholeIn bytes ++ wholeIn next) (overIn next)
   cut-more =
       let c = cut-of bytes in
       let d = cut-of next in
       record {
-        all = ap (_++ more) (c .all) ∙ append-assoc (wholeOf bytes) (overOf bytes) more ∙ ap (λ (l : List ℕ). wholeOf bytes ++ (l ++ more)) (sym (u .kept))
-            ∙ ap (wholeOf bytes ++_) (d .all) ∙ sym (append-assoc (wholeOf bytes) (wholeOf next) (overOf next));
-        whole = length-append (wholeOf bytes) (wholeOf next) ∙ omega (arith, c .whole, d .whole);
+        all = ap (_++ more) (c .all) ∙ append-assoc (wholeIn bytes) (overIn bytes) more ∙ ap (λ (l : List ℕ). wholeIn bytes ++ (l ++ more)) (sym (u .kept))
+            ∙ ap (wholeIn bytes ++_) (d .all) ∙ sym (append-assoc (wholeIn bytes) (wholeIn next) (overIn next));
+        whole = length-append (wholeIn bytes) (wholeIn next) ∙ omega (arith, c .whole, d .whole);
         over = d .over;
       }
 
   pub after-more : After t b (bytes ++ more) x frame' piece'
   after-more =
-      let p = in-pieces k₁ t b (wholeOf bytes) (wholeOf next) (cut-of bytes .whole) in
-      after-cut (bytes ++ more) (k₁ + k₂) (wholeOf bytes ++ wholeOf next) (overOf next) cut-more t b x frame' piece'
-      (v .trace ∙ ap (λ (y : Trace). traced y frame (recordsOf (wholeOf next))) (u .trace)
-      ∙ ap (λ (y : List ℕ). traced (traced t b (recordsOf (wholeOf bytes))) y (recordsOf (wholeOf next))) (u .buffer) ∙ sym (p .0))
-      (v .buffer ∙ ap (λ (y : Trace). tracedBuffer y frame (recordsOf (wholeOf next))) (u .trace)
-      ∙ ap (λ (y : List ℕ). tracedBuffer (traced t b (recordsOf (wholeOf bytes))) y (recordsOf (wholeOf next))) (u .buffer) ∙ sym (p .1))
-      (v .have ∙ cut-have next k₂ (wholeOf next) (overOf next) (cut-of next))
+      let p = in-pieces k₁ t b (wholeIn bytes) (wholeIn next) (cut-of bytes .whole) in
+      after-cut (bytes ++ more) (k₁ + k₂) (wholeIn bytes ++ wholeIn next) (overIn next) cut-more t b x frame' piece'
+      (v .trace ∙ ap (λ (y : Trace). traced y frame (recordsOf (wholeIn next))) (u .trace)
+      ∙ ap (λ (y : List ℕ). traced (traced t b (recordsOf (wholeIn bytes))) y (recordsOf (wholeIn next))) (u .buffer) ∙ sym (p .0))
+      (v .buffer ∙ ap (λ (y : Trace). tracedBuffer y frame (recordsOf (wholeIn next))) (u .trace)
+      ∙ ap (λ (y : List ℕ). tracedBuffer (traced t b (recordsOf (wholeIn bytes))) y (recordsOf (wholeIn next))) (u .buffer) ∙ sym (p .1))
+      (v .have ∙ cut-have next k₂ (wholeIn next) (overIn next) (cut-of next))
       (v .kept)

@@ -16,7 +16,7 @@ use Rattle.trace.specs.Trace.{newTrace, traced, tracedBuffer}
 use Rattle.trace.proofs.Exactly.{trace-exactly}
 use Rattle.trace.proofs.Pieces.{in-pieces, records-append}
 use Rattle.trace.proofs.Runs.{records-more, run-stays}
-use Rattle.pieces.specs.Pieces.{wholeOf, overOf, After, Read, newReader}
+use Rattle.pieces.specs.Pieces.{wholeIn, overIn, After, Read, newReader}
 use Rattle.pieces.specs.declared.Reader.{Reader}
 use Rattle.pieces.proofs.Joined.{cut-of, cut-have, after-more}
 
@@ -49,44 +49,44 @@ module _ (b bytes : List ℕ) (r : Reader) (frame piece : List ℕ) (u : Read by
   read-feed input x frame' piece' v = after-more newTrace b bytes r frame piece u input x frame' piece' v
 
   -- what comes after the whole records is read from where they led
-  read-rest : (all l : List ℕ) → all ≡ wholeOf bytes ++ l
+  read-rest : (all l : List ℕ) → all ≡ wholeIn bytes ++ l
       → (traced (r .trace) frame (recordsOf l) ≡ traced newTrace b (recordsOf all)) × (tracedBuffer (r .trace) frame (recordsOf l) ≡ tracedBuffer newTrace b (recordsOf all))
   read-rest all l e =
-      let p = in-pieces (length bytes / 64) newTrace b (wholeOf bytes) l (cut-of bytes .whole) in
+      let p = in-pieces (length bytes / 64) newTrace b (wholeIn bytes) l (cut-of bytes .whole) in
       (rw (u .trace, u .buffer, e) (sym (p .0)), rw (u .trace, u .buffer, e) (sym (p .1)))
 
   -- by what `last` promises, the answer is that for all the bytes: what is left over is a record of its own
   pub read-last : (x : Trace) → x ≡ traced (r .trace) frame (recordsOf (take (r .have) piece)) → x ≡ traced newTrace b (recordsOf bytes)
-  read-last x e = e ∙ read-rest bytes (take (r .have) piece) (cut-of bytes .all ∙ ap (wholeOf bytes ++_) (sym (u .kept))) .0
+  read-last x e = e ∙ read-rest bytes (take (r .have) piece) (cut-of bytes .all ∙ ap (wholeIn bytes ++_) (sym (u .kept))) .0
 
   pub read-last-buffer : (frame' : List ℕ) → frame' ≡ tracedBuffer (r .trace) frame (recordsOf (take (r .have) piece)) → frame' ≡ tracedBuffer newTrace b (recordsOf bytes)
-  read-last-buffer frame' e = e ∙ read-rest bytes (take (r .have) piece) (cut-of bytes .all ∙ ap (wholeOf bytes ++_) (sym (u .kept))) .1
+  read-last-buffer frame' e = e ∙ read-rest bytes (take (r .have) piece) (cut-of bytes .all ∙ ap (wholeIn bytes ++_) (sym (u .kept))) .1
 
   -- once a record has decided, no byte that comes after it counts: reading may stop
   pub read-decided : isDecided (r .trace .state) ≡ true → (more : List ℕ) → traced newTrace b (recordsOf (bytes ++ more)) ≡ r .trace
   read-decided d more =
-      sym (read-rest (bytes ++ more) (overOf bytes ++ more) (ap (_++ more) (cut-of bytes .all) ∙ append-assoc (wholeOf bytes) (overOf bytes) more) .0)
-      ∙ sym (run-stays (r .trace) frame (overOf bytes ++ more) true (sym d) refl .0)
+      sym (read-rest (bytes ++ more) (overIn bytes ++ more) (ap (_++ more) (cut-of bytes .all) ∙ append-assoc (wholeIn bytes) (overIn bytes) more) .0)
+      ∙ sym (run-stays (r .trace) frame (overIn bytes ++ more) true (sym d) refl .0)
 
   -- a partial record at the end of a good trace is bad, with its own number
   pub read-partial : 256 ≤ length b → r .trace .state ≡ Good → 0 < r .have → traced newTrace b (recordsOf bytes) .state ≡ Bad (length bytes / 64 + 1)
   read-partial room g h =
       trace-exactly b room (recordsOf bytes) (Bad (length bytes / 64 + 1)) .1
       (record {
-        before = recordsOf (wholeOf bytes);
-        this = overOf bytes;
+        before = recordsOf (wholeIn bytes);
+        this = overIn bytes;
         rest = [];
         cut = cuts;
-        good = trace-exactly b room (recordsOf (wholeOf bytes)) Good .0 (sym (ap (λ (t : Trace). t .state) (u .trace)) ∙ g);
-        wrong = ap (closedIn (recordsOf (wholeOf bytes)) ||_) (short-bad (overOf bytes) (cut-of bytes .over)) ∙ or-true (closedIn (recordsOf (wholeOf bytes)));
-        number = ap (_+ 1) (sym (count-whole (length bytes / 64) (wholeOf bytes) (cut-of bytes .whole)));
+        good = trace-exactly b room (recordsOf (wholeIn bytes)) Good .0 (sym (ap (λ (t : Trace). t .state) (u .trace)) ∙ g);
+        wrong = ap (closedIn (recordsOf (wholeIn bytes)) ||_) (short-bad (overIn bytes) (cut-of bytes .over)) ∙ or-true (closedIn (recordsOf (wholeIn bytes)));
+        number = ap (_+ 1) (sym (count-whole (length bytes / 64) (wholeIn bytes) (cut-of bytes .whole)));
       })
     where
-      size : length (overOf bytes) ≡ r .have
-      size = sym (u .have ∙ cut-have bytes (length bytes / 64) (wholeOf bytes) (overOf bytes) (cut-of bytes))
+      size : length (overIn bytes) ≡ r .have
+      size = sym (u .have ∙ cut-have bytes (length bytes / 64) (wholeIn bytes) (overIn bytes) (cut-of bytes))
 
-      cuts : recordsOf bytes ≡ recordsOf (wholeOf bytes) ++ (overOf bytes ∷ [])
+      cuts : recordsOf bytes ≡ recordsOf (wholeIn bytes) ++ (overIn bytes ∷ [])
       cuts =
           ap recordsOf (cut-of bytes .all)
-          ∙ records-append (length bytes / 64) (wholeOf bytes) (overOf bytes) (cut-of bytes .whole)
-          ∙ ap (recordsOf (wholeOf bytes) ++_) (one-short (overOf bytes) (omega (arith, size)) (cut-of bytes .over))
+          ∙ records-append (length bytes / 64) (wholeIn bytes) (overIn bytes) (cut-of bytes .whole)
+          ∙ ap (recordsOf (wholeIn bytes) ++_) (one-short (overIn bytes) (omega (arith, size)) (cut-of bytes .over))

@@ -9,18 +9,18 @@ use Rattle.trace.specs.Trace.{newTrace, traced, tracedBuffer}
 use Rattle.pieces.specs.declared.Reader.{Reader}
 
 -- the bytes of whole records, 64 each, and the bytes after them: fewer than 64
-abbrev pub wholeOf : List ℕ → List ℕ
-wholeOf bytes = take (64 * (length bytes / 64)) bytes
+abbrev pub wholeIn : List ℕ → List ℕ
+wholeIn bytes = take (64 * (length bytes / 64)) bytes
 
-abbrev pub overOf : List ℕ → List ℕ
-overOf bytes = drop (64 * (length bytes / 64)) bytes
+abbrev pub overIn : List ℕ → List ℕ
+overIn bytes = drop (64 * (length bytes / 64)) bytes
 
 -- AFTER THESE BYTES, from a trace t with the frame buffer b: every whole record is read, and the bytes after them are kept at the front of the piece
 pub record After (t : Trace) (b bytes : List ℕ) (r : Reader) (frame piece : List ℕ) : Type 0 where
-  pub trace : r .trace ≡ traced t b (recordsOf (wholeOf bytes))
-  pub buffer : frame ≡ tracedBuffer t b (recordsOf (wholeOf bytes))
+  pub trace : r .trace ≡ traced t b (recordsOf (wholeIn bytes))
+  pub buffer : frame ≡ tracedBuffer t b (recordsOf (wholeIn bytes))
   pub have : r .have ≡ length bytes % 64
-  pub kept : take (r .have) piece ≡ overOf bytes
+  pub kept : take (r .have) piece ≡ overIn bytes
 
 -- READ: these are all the bytes so far, from a new trace
 abbrev pub Read : List ℕ → List ℕ → Reader → List ℕ → List ℕ → Type 0
