@@ -1,5 +1,6 @@
 // The files that the arguments name.
 ghost use Rattle.io.specs.Counts.{Counts};
+use crate::status;
 
 // Whether the file was read, and how many of its bytes stand at the start of the buffer.
 pub struct Loaded {
@@ -15,6 +16,7 @@ pub fn load(which: usize, buf: &mut [u8]) -> Loaded
     let n = os::arg(which, &mut path);
     if os::errno() != 0 {
         os::fail(b"file name");
+        status::failed();
         return Loaded {
             fine: false,
             count: 0,
@@ -23,6 +25,7 @@ pub fn load(which: usize, buf: &mut [u8]) -> Loaded
     let fd = os::open_read(&path[..n]);
     if fd < 0 {
         os::fail(&path[..n]);
+        status::failed();
         return Loaded {
             fine: false,
             count: 0,
@@ -32,6 +35,7 @@ pub fn load(which: usize, buf: &mut [u8]) -> Loaded
     let fine = readable(fd);
     if !fine {
         os::fail(&path[..n]);
+        status::failed();
     }
     libc::close(fd);
     Loaded { fine, count }

@@ -1,6 +1,7 @@
 // `describe control FILE`: the clock frequency and the entities of a control block, or its refusal.
 use console::files;
 use console::print;
+use rules::Verdict;
 
 // One byte more than a block may have shows a file that is too long.
 pub fn describe(which: usize) {
@@ -11,6 +12,15 @@ pub fn describe(which: usize) {
         return;
     }
     let mut text = [0u8; block_text::ROOM];
-    let k = block_text::control(&mut text, control::read(&buf[..n]));
-    print::text(&text[..k]);
+    let c = control::read(&buf[..n]);
+    let verdict = c.verdict;
+    let k = block_text::control(&mut text, c);
+    print::answer(&text[..k], is_accepted(verdict));
+}
+
+fn is_accepted(v: Verdict) -> bool {
+    match v {
+        Verdict::Accepted => true,
+        Verdict::Refused { .. } => false,
+    }
 }

@@ -19,5 +19,5 @@ fn main() {
             return;
         }
     }
-    console::print::problem(b"usage: describe control FILE | describe map FILE ID\n");
+    console::print::problem(b"wrong arguments: see palkodhen --help\n");
 }

@@ -19,7 +19,5 @@ fn main() {
             return;
         }
     }
-    console::print::problem(
-        b"usage: describe streaming CONTROL STREAMING | describe probe CONTROL STREAMING PROBE\n",
-    );
+    console::print::problem(b"wrong arguments: see palkodhen --help\n");
 }

@@ -33,7 +33,14 @@ pub fn control_of(which: usize) -> Known {
 fn refused(c: Control) {
     let mut text = [0u8; block_text::ROOM];
     let k = block_text::control(&mut text, c);
-    print::text(&text[..k]);
+    print::answer(&text[..k], false);
+}
+
+pub fn is_accepted(v: Verdict) -> bool {
+    match v {
+        Verdict::Accepted => true,
+        Verdict::Refused { .. } => false,
+    }
 }
 
 // One byte more than a block may have shows a file that is too long.
@@ -50,6 +57,8 @@ pub fn describe() {
     }
     let table = known.table;
     let mut text = [0u8; block_text::ROOM];
-    let k = block_text::streaming(&mut text, streaming::read(table, &buf[..n]));
-    print::text(&text[..k]);
+    let s = streaming::read(table, &buf[..n]);
+    let verdict = s.verdict;
+    let k = block_text::streaming(&mut text, s);
+    print::answer(&text[..k], is_accepted(verdict));
 }
