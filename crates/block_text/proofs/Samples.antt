@@ -1,7 +1,7 @@
 -- Texts that antt computes.
 use mathlib.Core.Path.{_≡_, refl}
 use mathlib.Core.List.{[], _∷_}
-use Rattle.rules.specs.declared.Verdict.the-variants.{Accepted, Refused}
+use Rattle.rules.specs.declared.Verdict.the-variants.{Accepted}
 use Rattle.control_map.specs.declared.Map.the-variants.{Controls}
 use Rattle.text.specs.Decimal.{decimal}
 use Rattle.text.specs.Text.{bytes}

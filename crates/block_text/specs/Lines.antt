@@ -1,6 +1,6 @@
 -- One thing, one line: what is printed of an entity, a format, a frame, a unit's controls and a refusal.
 use mathlib.Core.List.{List, [], _∷_, _++_}
-use Prim.Native.Nat.{ℕ, _*_}
+use Prim.Native.Nat.{ℕ}
 use Rattle.entities.specs.declared.Entity.{Entity}
 use Rattle.streaming_rules.specs.declared.Format.{Format}
 use Rattle.streaming_rules.specs.declared.Frame.{Frame}
