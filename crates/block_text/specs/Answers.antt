@@ -1,4 +1,5 @@
 -- What is printed of a whole answer: its lines, or the refusal's one line.
+use mathlib.Core.Bool.{Bool, true, false}
 use mathlib.Core.List.{List, [], _∷_, _++_}
 use Prim.Native.Nat.{ℕ, _*_}
 use lib.ListN.{take}
@@ -14,6 +15,15 @@ use Rattle.probe.specs.declared.Probe.{Probe}
 use Rattle.text.specs.Text.{bytes, line, texts}
 use Rattle.block_text.specs.Lines.{entityLine, formatLine, frameLine, controlsLine, refusedLine, acceptedLine, lineMost}
 use Rattle.block_text.specs.Fields.{fieldsText}
+
+-- whether an answer is one, and no refusal: what the status tells
+abbrev pub isAccepted : Verdict → Bool
+isAccepted Accepted = true
+isAccepted (Refused k o) = false
+
+abbrev pub isGiven : Map → Bool
+isGiven (Controls a b c) = true
+isGiven (MapRefused k o) = false
 
 -- the clock frequency, and the used places of the entity table
 abbrev pub tableText : Table → List ℕ

@@ -11,7 +11,7 @@ ghost use Rattle.rules.specs.declared.Verdict.the-variants.{Accepted};
 ghost use Rattle.entities.specs.Table.{used};
 ghost use Rattle.block_text.specs.Lines.{lineMost, entityLine, formatLine, frameLine, controlsLine, refusedLine};
 ghost use Rattle.block_text.specs.Fields.{choiceText, ratesText, timesText, sizesText, versionsText, limitsText, settingsText, layoutText, frontText, backText, fieldsText};
-ghost use Rattle.block_text.specs.Answers.{room, tableText, controlBy, controlText, mapText, listedText, streamingText, probeText};
+ghost use Rattle.block_text.specs.Answers.{room, tableText, controlBy, controlText, mapText, listedText, streamingText, probeText, isAccepted, isGiven};
 use control::Control;
 use control_map::Map;
 use entities::ENTITIES_MOST;
@@ -470,4 +470,24 @@ fn field(buf: &mut [u8], at: usize, name: &[u8], n: u64) -> usize
 {
     let one = [n];
     text::line(buf, at, name, &one)
+}
+
+// Whether a verdict is no refusal.
+pub fn is_accepted(v: Verdict) -> bool
+    ensures { λ r. ⌜ r ≡ isAccepted v ⌝ }
+{
+    match v {
+        Verdict::Accepted => true,
+        Verdict::Refused { .. } => false,
+    }
+}
+
+// Whether controls were given.
+pub fn is_given(m: Map) -> bool
+    ensures { λ r. ⌜ r ≡ isGiven m ⌝ }
+{
+    match m {
+        Map::Controls(_, _, _) => true,
+        Map::Refused { .. } => false,
+    }
 }

@@ -1,7 +1,6 @@
 // `describe control FILE`: the clock frequency and the entities of a control block, or its refusal.
 use console::files;
 use console::print;
-use rules::Verdict;
 
 // One byte more than a block may have shows a file that is too long.
 pub fn describe(which: usize) {
@@ -15,12 +14,5 @@ pub fn describe(which: usize) {
     let c = control::read(&buf[..n]);
     let verdict = c.verdict;
     let k = block_text::control(&mut text, c);
-    print::answer(&text[..k], is_accepted(verdict));
-}
-
-fn is_accepted(v: Verdict) -> bool {
-    match v {
-        Verdict::Accepted => true,
-        Verdict::Refused { .. } => false,
-    }
+    print::answer(&text[..k], block_text::is_accepted(verdict));
 }

@@ -3,7 +3,6 @@ ghost use mathlib.Core.Path.{_≡_};
 ghost use Rattle.describe.specs.Id.{idOf};
 use console::files;
 use console::print;
-use control_map::Map;
 
 pub fn describe(which: usize, word: usize) {
     let mut text = [0u8; 16];
@@ -22,14 +21,7 @@ pub fn describe(which: usize, word: usize) {
     let mut lines = [0u8; block_text::ROOM];
     let answer = control_map::controls(&buf[..n], id as u8);
     let m = block_text::map(&mut lines, answer);
-    print::answer(&lines[..m], is_given(answer));
-}
-
-fn is_given(m: Map) -> bool {
-    match m {
-        Map::Controls(_, _, _) => true,
-        Map::Refused { .. } => false,
-    }
+    print::answer(&lines[..m], block_text::is_given(answer));
 }
 
 // The number that decimal digits spell, or 256 for anything but a number from 0 to 255.

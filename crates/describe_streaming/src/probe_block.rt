@@ -26,5 +26,5 @@ pub fn describe() {
     let p = read.probe;
     let mut text = [0u8; block_text::ROOM];
     let k = block_text::probe(&mut text, verdict, p);
-    print::answer(&text[..k], streaming_block::is_accepted(verdict));
+    print::answer(&text[..k], block_text::is_accepted(verdict));
 }

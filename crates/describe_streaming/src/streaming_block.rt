@@ -36,13 +36,6 @@ fn refused(c: Control) {
     print::answer(&text[..k], false);
 }
 
-pub fn is_accepted(v: Verdict) -> bool {
-    match v {
-        Verdict::Accepted => true,
-        Verdict::Refused { .. } => false,
-    }
-}
-
 // One byte more than a block may have shows a file that is too long.
 pub fn describe() {
     let known = control_of(2);
@@ -60,5 +53,5 @@ pub fn describe() {
     let s = streaming::read(table, &buf[..n]);
     let verdict = s.verdict;
     let k = block_text::streaming(&mut text, s);
-    print::answer(&text[..k], is_accepted(verdict));
+    print::answer(&text[..k], block_text::is_accepted(verdict));
 }
