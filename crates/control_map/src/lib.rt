@@ -1,13 +1,11 @@
 // The control-map reader: the three control bytes of a camera terminal or a processing unit.
 ghost use mathlib.Core.Path.{_≡_};
 ghost use Rattle.rules.specs.declared.Verdict.the-variants.{Accepted};
-ghost use Rattle.entities.specs.Table.{foundAmong};
 ghost use Rattle.control_rules.specs.Descriptors.{kindOf};
 ghost use Rattle.control.specs.Answer.{ControlIs};
 ghost use Rattle.control_map.specs.Answer.{MapIs, controlsAt};
 ghost use Rattle.control_map.specs.Inner.{cameraPlace, placeBy, placeOf, mapBy};
 use control_rules::CAMERA;
-use entities::ENTITIES_MOST;
 use entities::Entity;
 use entities::Found;
 use entities::Table;
@@ -44,7 +42,7 @@ fn find_controls(s: &[u8], table: Table, id: u8) -> Map
     ensures { λ r. ⌜ MapIs (now (s .entry)) id r ⌝ }
 {
     let entities = table.entities;
-    match find_place(entities, table.count, id) {
+    match entities::find_among(entities, table.count, id) {
         Found::Nothing => Map::Refused {
             number: 16,
             offset: 0,
@@ -54,13 +52,6 @@ fn find_controls(s: &[u8], table: Table, id: u8) -> Map
             controls_of(s, e)
         }
     }
-}
-
-// The table's places are lent to the scan.
-fn find_place(entities: [Entity; ENTITIES_MOST], count: usize, id: u8) -> Found
-    ensures { λ r. ⌜ r ≡ foundAmong entities count id ⌝ }
-{
-    entities::find_lent(&entities, count, id)
 }
 
 // The three bytes of a camera terminal or a processing unit; else 16.

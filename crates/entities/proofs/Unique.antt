@@ -13,9 +13,10 @@ no-table-unique r s p q = p ∙ sym q
 pub find-unique : (t : Table) (id : ℕ) (r s : Found) → r ≡ foundIn t id → s ≡ foundIn t id → r ≡ s
 find-unique t id r s p q = p ∙ sym q
 
+-- of the lent places, and of a table's that are lent
 pub find-lent-unique : (l : List Entity) (n id : ℕ) (r s : Found) → r ≡ foundAmong l n id → s ≡ foundAmong l n id → r ≡ s
 find-lent-unique l n id r s p q = p ∙ sym q
 
--- the two lookups agree on a table whose places are lent
+-- the lookups agree on a table whose places are lent
 pub lookups-agree : (t : Table) (id : ℕ) (r s : Found) → r ≡ foundIn t id → s ≡ foundAmong (t .entities) (t .count) id → r ≡ s
 lookups-agree t id r s p q = p ∙ sym q

@@ -72,6 +72,13 @@ pub fn find_lent(entities: &[Entity], count: usize, id: u8) -> Found
     used_place(scan(entities, id), entities.len(), count)
 }
 
+// The same among the first `count` of a table's places, which are lent to the scan.
+pub fn find_among(entities: [Entity; ENTITIES_MOST], count: usize, id: u8) -> Found
+    ensures { λ r. ⌜ r ≡ foundAmong entities count id ⌝ }
+{
+    find_lent(&entities, count, id)
+}
+
 // What a scan of so many places found, if it is one of the first `count`.
 fn used_place(i: usize, places: usize, count: usize) -> Found
     ensures { λ r. ⌜ r ≡ pick (leb places i) Nothing (pick (leb count i) Nothing (At i)) ⌝ }

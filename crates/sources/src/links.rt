@@ -26,6 +26,7 @@ pub fn gather(s: &[u8], t: Table, e: Entity) -> Links
     requires { ⌜ t .count ≤ entitiesMost ⌝ }
     ensures { λ r. ⌜ LinksOf (now (s .entry)) (used t) e (r .lost) (r .output) (r .row) ⌝ }
 {
+    let all = t.entities;
     let kind = e.kind;
     let at = e.offset as usize;
     let count = source_count(s, at, kind);
@@ -35,7 +36,7 @@ pub fn gather(s: &[u8], t: Table, e: Entity) -> Links
     let mut row: u32 = 0;
     let mut q: usize = 0;
     while q < count {
-        let f = entities::find(t, le::byte_at(s, place + q));
+        let f = entities::find_among(all, t.count, le::byte_at(s, place + q));
         lost = lost | names_nothing(f);
         output = output | names_output(t, f);
         row = row | place_bit(f);

@@ -8,10 +8,10 @@ use Rattle.sources.proofs.links.gather.Statement.{statement}
 use Rattle.sources.proofs.links.gather.Tie as tie
 
 abbrev Inv-loop : tie.InvT-loop
-Inv-loop s t kind at count place lost₀ output₀ row₀ q₀ lost output row q = (q ≤ count) × Linking (used t) (founds s (used t) place) lost output row q
+Inv-loop s t all kind at count place lost₀ output₀ row₀ q₀ lost output row q = (q ≤ count) × Linking (used t) (founds s (used t) place) lost output row q
 
 abbrev μ-loop : tie.MeasureT-loop
-μ-loop s t kind at count place lost₀ output₀ row₀ q₀ lost output row q = count - q
+μ-loop s t all kind at count place lost₀ output₀ row₀ q₀ lost output row q = count - q
 
 cast-at : tie.Need-cast-at Inv-loop μ-loop
 cast-at c = search needs
@@ -34,17 +34,17 @@ add-byte-at c = search needs
 byte-at-requires : tie.Need-byte-at-requires Inv-loop μ-loop
 byte-at-requires c κs = search needs
 
-find-requires : tie.Need-find-requires Inv-loop μ-loop
-find-requires c κs = search needs
+find-among-requires : tie.Need-find-among-requires Inv-loop μ-loop
+find-among-requires c κs = search needs
 
 names-nothing-requires : tie.Need-names-nothing-requires Inv-loop μ-loop
 names-nothing-requires c κs = search needs
 
 names-output-requires : tie.Need-names-output-requires Inv-loop μ-loop
-names-output-requires c κs = (used-place (c .before .before .before .before .before .before .before .before .before .args .t) _ _ (c .before .find .ensures), search needs)
+names-output-requires c κs = (used-place (c .before .before .before .before .before .before .before .before .before .before .args .t) _ _ (c .before .find-among .ensures), search needs)
 
 place-bit-requires : tie.Need-place-bit-requires Inv-loop μ-loop
-place-bit-requires c κs = λ j e. omega (arith, used-place (c .before .before .before .before .before .before .before .before .before .before .args .t) _ _ (c .before .before .find .ensures) j e)
+place-bit-requires c κs = λ j e. omega (arith, used-place (c .before .before .before .before .before .before .before .before .before .before .before .args .t) _ _ (c .before .before .find-among .ensures) j e)
 
 add-q : tie.Need-add-q Inv-loop μ-loop
 add-q c = search needs
@@ -56,8 +56,8 @@ loop-again : tie.Need-loop-again Inv-loop μ-loop
 loop-again c =
     let k = c .before .before .before in
     let l = k .before .before .before .loop in
-    let t = k .before .before .before .before .before .before .before .before .args .t in
-    (omega arith, links-more _ _ _ _ _ _ (l .inv .1) (k .find .result) _ _ _ (k .find .ensures ∙ ap (λ (x : ℕ). findFrom 0 (used t) x) (k .before .byte-at .ensures)) (c .before .before .names-nothing .ensures) (c .before .names-output .ensures) (c .place-bit .ensures))
+    let t = k .before .before .before .before .before .before .before .before .before .args .t in
+    (omega arith, links-more _ _ _ _ _ _ (l .inv .1) (k .find-among .result) _ _ _ (k .find-among .ensures ∙ ap (λ (x : ℕ). findFrom 0 (used t) x) (k .before .byte-at .ensures)) (c .before .before .names-nothing .ensures) (c .before .names-output .ensures) (c .place-bit .ensures))
 
 returns : tie.Need-returns Inv-loop μ-loop
 returns c =
@@ -78,7 +78,7 @@ gather-spec =
     loop-holds
     add-byte-at
     byte-at-requires
-    find-requires
+    find-among-requires
     names-nothing-requires
     names-output-requires
     place-bit-requires

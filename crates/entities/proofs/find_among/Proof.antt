@@ -1,4 +1,4 @@
--- `control_map::find_place` meets its contract: a walk of its MIR, by hand. The array is copied to memory and lent as a slice for a lifetime that the walk makes, `find_lent` is called, and the array comes back.
+-- `entities::find_among` meets its contract: a walk of its MIR, by hand. The array is copied to memory and lent as a slice for a lifetime that the walk makes, `find_lent` is called, and the array comes back.
 -- Assumes nothing.
 use mathlib.Core.Path.{_≡_, refl, sym, subst}
 use Prim.Native.Nat.{ℕ, _<_, _*_, _^_}
@@ -45,21 +45,21 @@ use denote.Triple.Statement.{Contract, Triple}
 use denote.Triple.Table.{entered, cited}
 use denote.Triple.Walked.{says, Stays, stay-none, walkOf, goes-none, Walks, ends-at, walked, walk-meets}
 use denote.Exit.{yes}
 use Rattle.entities.specs.Table.{foundAmong}
 use Rattle.entities.specs.declared.Entity.{Entity}
 use Rattle.entities.specs.declared.Found.{Found}
 use Rattle.entities.proofs.Entity as T′′
 use Rattle.entities.proofs.Entity.Laws as T′
 use Rattle.entities.proofs.Found as F′′
 use Rattle.entities.proofs.Found.Laws as F′
 use Rattle.entities.proofs.find_lent as callee
 use Rattle.entities.proofs.find_lent.Symbol as callee-def
 use Rattle.entities.proofs.find_lent.Symbol.{name as #callee}
 use Rattle.entities.proofs.find_lent.Met as callee-thm
-use Rattle.control_map.proofs.find_place.Key.{name as #fun}
-use Rattle.control_map.proofs.find_place as fun
-use Rattle.control_map.proofs.find_place.Statement as stated
-use Rattle.control_map.proofs.find_place.Code as code
+use Rattle.entities.proofs.find_among.Key.{name as #fun}
+use Rattle.entities.proofs.find_among as fun
+use Rattle.entities.proofs.find_among.Statement as stated
+use Rattle.entities.proofs.find_among.Code as code
 
 abbrev R : RattleType
 R = T′′.the-row
@@ -189,19 +189,19 @@ module _ {M : Type 1} (𝓤 : URA M) (H : Heap 𝓤) (A : Atoms 𝓤) (W : Given
         room = (subst (λ (k : ℕ). k < 2 ^ 64) (sym len) (lit< tt), subst (λ (k : ℕ). k * 6 < 2 ^ 63) (sym len) (lit< tt))
 
 module _ {M : Type 1} (𝓤 : URA M) (H : Heap 𝓤) (A : Atoms 𝓤) (W : Given 𝓤 H A) (mem : Memory → SProp 𝓤) (run : Routine → Fun 𝓤) where
-  find-place-walks : (C : Calls 𝓤 H) (Λ : Loops 𝓤 H) → FmC 𝓤 H (W .laws) C → Triple 𝓤 (C #callee) (Lent 𝓤 H A mem run)
+  find-among-walks : (C : Calls 𝓤 H) (Λ : Loops 𝓤 H) → FmC 𝓤 H (W .laws) C → Triple 𝓤 (C #callee) (Lent 𝓤 H A mem run)
       → Walks 𝓤 H A fun.ended stayed (WpFn 𝓤 H C Λ code.function) (fun.clauses 𝓤 H A mem run)
-  find-place-walks C Λ fm known = walked 𝓤 H A fun.ended stayed (fun.clauses 𝓤 H A mem run) (WpFn 𝓤 H C Λ code.function) (λ κs. (vals, (uint-vals w64, (uint-vals w8, tt)))) (λ κs. (array-tells R (LL.vals T′′.the-type T′.the-laws) (LL.tells T′′.the-type T′.the-laws) 32, (uint-tells w64, (uint-tells w8, tt))))
+  find-among-walks C Λ fm known = walked 𝓤 H A fun.ended stayed (fun.clauses 𝓤 H A mem run) (WpFn 𝓤 H C Λ code.function) (λ κs. (vals, (uint-vals w64, (uint-vals w8, tt)))) (λ κs. (array-tells R (LL.vals T′′.the-type T′.the-laws) (LL.tells T′′.the-type T′.the-laws) 32, (uint-tells w64, (uint-tells w8, tt))))
       (λ κs qs bounds a g are. via 𝓤 _ (fst∗ 𝓤 _ (emp 𝓤)) (walk 𝓤 H A W mem run (a .0) (a .1 .0) (a .1 .1 .0) (are .1 .0 .1) (are .1 .1 .0 .1) C Λ fm known (are .0)))
 
-find-place-meets : {M : Type 1} (𝓤 : URA M) (H : Heap 𝓤) (A : Atoms 𝓤) (W : Given 𝓤 H A) (mem : Memory → SProp 𝓤) (run : Routine → Fun 𝓤) (𝓣 : Tables 𝓤 H) → Triple 𝓤 (𝓣 .C #callee) (Lent 𝓤 H A mem run)
+find-among-meets : {M : Type 1} (𝓤 : URA M) (H : Heap 𝓤) (A : Atoms 𝓤) (W : Given 𝓤 H A) (mem : Memory → SProp 𝓤) (run : Routine → Fun 𝓤) (𝓣 : Tables 𝓤 H) → Triple 𝓤 (𝓣 .C #callee) (Lent 𝓤 H A mem run)
     → Meets 𝓤 H A fun.signature (WpFn 𝓤 H (𝓣 .C) (𝓣 .Λ) code.function) (fun.spec 𝓤 H A mem run)
-find-place-meets 𝓤 H A W mem run 𝓣 known = walk-meets 𝓤 H A fun.ended stayed W (goes-none 𝓤 H A W 0 (λ _. Arr32) yes (λ κs x f. refl), (goes-none 𝓤 H A W 0 (λ _. usize) yes (λ κs x f. refl), (goes-none 𝓤 H A W 0 (λ _. u8) yes (λ κs x f. refl), tt))) (fun.clauses 𝓤 H A mem run) (WpFn 𝓤 H (𝓣 .C) (𝓣 .Λ) code.function) (WpFn-mono 𝓤 H (W .laws) 𝓣 code.function) (find-place-walks 𝓤 H A W mem run (𝓣 .C) (𝓣 .Λ) (fmOf 𝓤 H (W .laws) 𝓣) known)
+find-among-meets 𝓤 H A W mem run 𝓣 known = walk-meets 𝓤 H A fun.ended stayed W (goes-none 𝓤 H A W 0 (λ _. Arr32) yes (λ κs x f. refl), (goes-none 𝓤 H A W 0 (λ _. usize) yes (λ κs x f. refl), (goes-none 𝓤 H A W 0 (λ _. u8) yes (λ κs x f. refl), tt))) (fun.clauses 𝓤 H A mem run) (WpFn 𝓤 H (𝓣 .C) (𝓣 .Λ) code.function) (WpFn-mono 𝓤 H (W .laws) 𝓣 code.function) (find-among-walks 𝓤 H A W mem run (𝓣 .C) (𝓣 .Λ) (fmOf 𝓤 H (W .laws) 𝓣) known)
 
-pub find-place-spec : {M : Type 1} → stated.statement M
+pub find-among-spec : {M : Type 1} → stated.statement M
 unfolding code.routine tablesOf
-find-place-spec 𝓤 H 𝓜 𝓖 𝓡 =
+find-among-spec 𝓤 H 𝓜 𝓖 𝓡 =
     entered 𝓤 H (tripleOf 𝓤 H (𝓖 .A) fun.signature (fun.spec 𝓤 H (𝓖 .A) (𝓜 .mem) (𝓡 .run)))
     (tables 𝓤 H 𝓜 𝓡 code.env .C) (tables 𝓤 H 𝓜 𝓡 code.env .Λ) #fun code.function (code.unfolded 𝓤 H 𝓜 𝓡)
-    (find-place-meets 𝓤 H (𝓖 .A) (givenOf 𝓤 H 𝓜 𝓖) (𝓜 .mem) (𝓡 .run) (tablesOf 𝓤 H 𝓜 (tables 𝓤 H 𝓜 𝓡 code.env))
+    (find-among-meets 𝓤 H (𝓖 .A) (givenOf 𝓤 H 𝓜 𝓖) (𝓜 .mem) (𝓡 .run) (tablesOf 𝓤 H 𝓜 (tables 𝓤 H 𝓜 𝓡 code.env))
     (cited 𝓤 H (Lent 𝓤 H (𝓖 .A) (𝓜 .mem) (𝓡 .run)) 𝓜 𝓡 code.env #callee callee-def.routine code.calls-entities·find-lent (callee-thm.met 𝓤 H 𝓜 𝓖 𝓡)))
