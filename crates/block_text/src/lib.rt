@@ -8,7 +8,7 @@ ghost use Rattle.text.specs.Put.{Put};
 ghost use Rattle.text.specs.Text.{texts, line as Text·line};
 ghost use Rattle.text.specs.Written.{answerOf, bufferOf};
 ghost use Rattle.rules.specs.declared.Verdict.the-variants.{Accepted};
-ghost use Rattle.entities.specs.Table.{used};
+ghost use Rattle.entities.specs.Table.{entitiesMost, used};
 ghost use Rattle.block_text.specs.Lines.{lineMost, entityLine, formatLine, frameLine, controlsLine, refusedLine};
 ghost use Rattle.block_text.specs.Fields.{choiceText, ratesText, timesText, sizesText, versionsText, limitsText, settingsText, layoutText, frontText, backText, fieldsText};
 ghost use Rattle.block_text.specs.Answers.{room, tableText, controlBy, controlText, mapText, listedText, streamingText, probeText, isAccepted, isGiven};
@@ -136,9 +136,9 @@ fn listed(buf: &mut [u8], s: Streaming) -> usize
 
 // Inner: the lines of the used places of an entity table.
 pub fn entities(buf: &mut [u8], start: usize, t: Table) -> usize
-    requires { ⌜ start + lineMost * 32 ≤ length (now buf) ⌝ }
+    requires { ⌜ start + lineMost * entitiesMost ≤ length (now buf) ⌝ }
     ensures { λ r. ⌜ Put (now (buf .entry)) start (texts entityLine (used t)) r (now (buf .exit)) ⌝ }
-    ensures { λ r. ⌜ r ≤ start + lineMost * 32 ⌝ }
+    ensures { λ r. ⌜ r ≤ start + lineMost * entitiesMost ⌝ }
 {
     let n = t.count;
     let mut at = start;

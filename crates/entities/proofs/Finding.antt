@@ -12,7 +12,7 @@ use borrow.Author.Tests.{eq-eqb, ne-eqb, eqb-true, eqb-false, leb-true, leb-fals
 use Rattle.rules.specs.Pick.{pick}
 use Rattle.rules.specs.First.{First}
 use Rattle.rules.proofs.Firsts.{first-unique}
-use Rattle.entities.specs.Table.{entityAt, used, findFrom, foundAmong, foundIn}
+use Rattle.entities.specs.Table.{entitiesMost, entityAt, used, findFrom, foundAmong, foundIn}
 use Rattle.entities.specs.declared.Entity.{Entity}
 use Rattle.entities.specs.declared.Table.{Table}
 use Rattle.entities.specs.declared.Found.{Found}
@@ -124,11 +124,11 @@ length-of X Y f l n e = sym (length-map l f) ∙ e
 
 -- the search from place i on answers as the whole search does
 pub record Seeking (t : Table) (id i : ℕ) : Type 0 where
-  pub size : length (t .entities) ≡ 32
-  pub within : i ≤ 32
+  pub size : length (t .entities) ≡ entitiesMost
+  pub within : i ≤ entitiesMost
   pub same : findFrom i (drop i (used t)) id ≡ foundIn t id
 
-pub seek : (t : Table) (id : ℕ) → length (t .entities) ≡ 32 → Seeking t id 0
+pub seek : (t : Table) (id : ℕ) → length (t .entities) ≡ entitiesMost → Seeking t id 0
 seek t id e = record { size = e; within = omega arith; same = refl }
 
 nothing-left : (t : Table) (id i : ℕ) → length (used t) ≤ i → findFrom i (drop i (used t)) id ≡ Nothing
@@ -143,16 +143,16 @@ module _ (t : Table) (id i : ℕ) (w : Seeking t id i) where
   long : length (used t) ≤ t .count
   long = simp length-take (omega arith)
 
-  short : length (used t) ≤ 32
+  short : length (used t) ≤ entitiesMost
   short = simp length-take (omega (arith, w .size))
 
   pub none-left : t .count ≤ i → Nothing ≡ foundIn t id
   none-left h = sym (nothing-left t id i (omega (arith, long))) ∙ w .same
 
-  pub none-more : 32 ≤ i → Nothing ≡ foundIn t id
+  pub none-more : entitiesMost ≤ i → Nothing ≡ foundIn t id
   none-more h = sym (nothing-left t id i (omega (arith, short))) ∙ w .same
 
-  module _ (d : Entity) (h : i < t .count) (b : i < 32) where
+  module _ (d : Entity) (h : i < t .count) (b : i < entitiesMost) where
     inside : i < length (used t)
     inside = simp length-take (omega (arith, w .size))
 

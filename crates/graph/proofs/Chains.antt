@@ -11,7 +11,7 @@ use lib.Bits.{bitOr}
 use borrow.Author.Count.{below-more}
 use Rattle.rules.specs.Chain.{Chain, Chain.one, Chain.more}
 use Rattle.rules.proofs.Firsts.{lt-or-ge}
-use Rattle.graph.specs.Rows.{bitOf, Bit, Edge, Through}
+use Rattle.graph.specs.Rows.{places, bitOf, Bit, Edge, Through}
 use Rattle.graph.proofs.Bits.{bit-zero, or-cases, or-l, or-r}
 
 pub data Via (E : ℕ → ℕ → Type 0) (k : ℕ) : ℕ → ℕ → Type 0 where
@@ -85,12 +85,12 @@ round-stands E k m m′ s r i j = (
 
 -- ---- one round, row by row: the rows below i are done, the others are as they were
 pub record Rounding (m₀ : List ℕ) (k : ℕ) (m : List ℕ) (i : ℕ) : Type 0 where
-  pub within : i ≤ 32
-  pub size : length m ≡ 32
+  pub within : i ≤ places
+  pub size : length m ≡ places
   pub done : (a : ℕ) → a < i → (j : ℕ) → Edge m a j ↔ Through (Edge m₀) k a j
   pub rest : (a : ℕ) → i ≤ a → getD m a 0 ≡ getD m₀ a 0
 
-pub rounding : (m : List ℕ) (k : ℕ) → length m ≡ 32 → Rounding m k m 0
+pub rounding : (m : List ℕ) (k : ℕ) → length m ≡ places → Rounding m k m 0
 rounding m k e = record { within = omega arith; size = e; done = λ a l. absurd (omega arith); rest = λ a l. refl }
 
 module _ (m₀ : List ℕ) (k : ℕ) (m : List ℕ) (i : ℕ) (w : Rounding m₀ k m i) where
@@ -103,7 +103,7 @@ module _ (m₀ : List ℕ) (k : ℕ) (m : List ℕ) (i : ℕ) (w : Rounding m₀
   row-i : (j : ℕ) → Edge m i j ↔ Edge m₀ i j
   row-i j = let q : getD m i 0 ≡ getD m₀ i 0 = w .rest i (omega arith) in (λ e. rw q at e, λ e. rw q e)
 
-  turned : (m′ : List ℕ) → i < 32 → length m′ ≡ 32 → ((j : ℕ) → Edge m′ i j ↔ Through (Edge m) k i j) → ((a : ℕ) → a ≢ i → getD m′ a 0 ≡ getD m a 0) → Rounding m₀ k m′ (i + 1)
+  turned : (m′ : List ℕ) → i < places → length m′ ≡ places → ((j : ℕ) → Edge m′ i j ↔ Through (Edge m) k i j) → ((a : ℕ) → a ≢ i → getD m′ a 0 ≡ getD m a 0) → Rounding m₀ k m′ (i + 1)
   turned m′ l len here other =
       record { within = omega arith; size = len; done = done; rest = λ a h. other a (λ q. omega arith) ∙ w .rest a (omega arith) }
     where
@@ -120,7 +120,7 @@ module _ (m₀ : List ℕ) (k : ℕ) (m : List ℕ) (i : ℕ) (w : Rounding m₀
       done = below-more (λ (a : ℕ). (j : ℕ) → Edge m′ a j ↔ Through (Edge m₀) k a j) i before at-i
 
   -- a row that leads to k takes in row k; another stays
-  pub taken-in : i < 32 → Bit (getD m i 0) k → Rounding m₀ k (set m i (bitOr (getD m i 0) (getD m k 0))) (i + 1)
+  pub taken-in : i < places → Bit (getD m i 0) k → Rounding m₀ k (set m i (bitOr (getD m i 0) (getD m k 0))) (i + 1)
   taken-in l b =
       turned (set m i (bitOr x y)) l (length-set m i (bitOr x y) ∙ w .size) here (λ a n. getD-set-other m i a (bitOr x y) 0 n)
     where
@@ -135,13 +135,13 @@ module _ (m₀ : List ℕ) (k : ℕ) (m : List ℕ) (i : ℕ) (w : Rounding m₀
           let q : getD (set m i (bitOr x y)) i 0 ≡ bitOr x y = getD-set-same m i (bitOr x y) 0 (rw (w .size) l) in
           rw q (λ e. ⊎-elim (λ p. inl p) (λ p. inr (b, p)) (or-cases x y j e), λ t. ⊎-elim (λ p. or-l x y j p) (λ p. or-r x y j (p .1)) t)
 
-  pub stays : i < 32 → (Bit (getD m i 0) k → ⊥) → Rounding m₀ k m (i + 1)
+  pub stays : i < places → (Bit (getD m i 0) k → ⊥) → Rounding m₀ k m (i + 1)
   stays l b =
       turned m l (w .size) (λ j. (λ e. inl e, λ t. ⊎-elim (λ p. p) (λ p. absurd (b (p .0))) t)) (λ a n. refl)
 
 -- past the rows there are no edges
-pub rounded : (m₀ : List ℕ) (k : ℕ) (m : List ℕ) (i : ℕ) → length m₀ ≡ 32 → Rounding m₀ k m i → 32 ≤ i → (a j : ℕ) → Edge m a j ↔ Through (Edge m₀) k a j
+pub rounded : (m₀ : List ℕ) (k : ℕ) (m : List ℕ) (i : ℕ) → length m₀ ≡ places → Rounding m₀ k m i → places ≤ i → (a j : ℕ) → Edge m a j ↔ Through (Edge m₀) k a j
 rounded m₀ k m i z w l a j =
     ⊎-elim (λ h. w .done a (omega arith) j)
-    (λ h. (λ e. absurd (omega (arith, edge-from m a j e 32 (w .size))), λ t. absurd (⊎-elim (λ e. omega (arith, edge-from m₀ a j e 32 z)) (λ p. omega (arith, edge-from m₀ a k (p .0) 32 z)) t)))
-    (lt-or-ge a 32)
+    (λ h. (λ e. absurd (omega (arith, edge-from m a j e places (w .size))), λ t. absurd (⊎-elim (λ e. omega (arith, edge-from m₀ a j e places z)) (λ p. omega (arith, edge-from m₀ a k (p .0) places z)) t)))
+    (lt-or-ge a places)

@@ -5,6 +5,10 @@ use mathlib.Core.List.{List}
 use mathlib.Core.Logic.{_⊎_}
 use lib.ListN.{getD}
 
+-- the places of a graph, and the bits of a row
+abbrev pub places : ℕ
+places = 32
+
 -- bit j of x, 0 or 1
 unfoldable pub bitOf : ℕ → ℕ → ℕ
 bitOf x j = x / 2 ^ j % 2

@@ -7,7 +7,7 @@ use lib.Dec.{eqb}
 use lib.Seq.{getD-take}
 use borrow.Author.Tests.{eq-eqb, eqb-true}
 use native.Mathlib.Omega.{arith}
-use Rattle.graph.specs.Rows.{Bit}
+use Rattle.graph.specs.Rows.{places, Bit}
 use Rattle.graph.proofs.Bits.{bit-zero, one-bit, one-bit-only, shl-one}
 use Rattle.entities.specs.Table.{entityAt, used}
 use Rattle.entities.specs.declared.Table.{Table}
@@ -24,9 +24,9 @@ module _ (f : Found) where
   pub no-bit : f ≡ Nothing → (j : ℕ) → Bit 0 j ↔ (f ≡ At j)
   no-bit e j = (λ b. absurd (omega (arith, b, bit-zero j)), λ x. absurd (apart j (sym x ∙ e)))
 
-  pub one-place : (k : ℕ) → f ≡ At k → k < 32 → (j : ℕ) → Bit ((1 * 2 ^ k) % 4294967296) j ↔ (f ≡ At j)
+  pub one-place : (k : ℕ) → f ≡ At k → k < places → (j : ℕ) → Bit ((1 * 2 ^ k) % 2 ^ places) j ↔ (f ≡ At j)
   one-place k e l j =
-      let q : (1 * 2 ^ k) % 4294967296 ≡ 2 ^ k = shl-one 32 k l in
+      let q : (1 * 2 ^ k) % 2 ^ places ≡ 2 ^ k = shl-one places k l in
       rw q (λ b. let z : j ≡ k = one-bit-only k j b in rw z e, λ x. let z : k ≡ j = cc in rw (← z) (one-bit k))
 
   module _ (t : Table) where

@@ -16,9 +16,9 @@ use Rattle.rules.specs.First.{First}
 use Rattle.rules.specs.Chain.{Chain, Chain.one, Chain.more, OnLoop, FirstLoop}
 use Rattle.rules.specs.declared.Verdict.the-variants.{Accepted, Refused}
 use Rattle.rules.proofs.Firsts.{lt-or-ge}
-use Rattle.graph.specs.Rows.{bitOf, Bit, Edge}
+use Rattle.graph.specs.Rows.{places, bitOf, Bit, Edge}
 use Rattle.graph.proofs.Bits.{bit-zero}
-use Rattle.entities.specs.Table.{entityAt, used}
+use Rattle.entities.specs.Table.{entitiesMost, entityAt, used}
 use Rattle.entities.specs.declared.Table.{Table}
 use Rattle.sources.specs.Sources.{Names, Feeds, Breaks13, Breaks14, None, Judged, Judged.thirteen, Judged.fourteen, Judged.fifteen, Judged.fine}
 use Rattle.sources.specs.Links.{LinksOf}
@@ -96,25 +96,25 @@ module _ (E F : ℕ → ℕ → Type 0) (n m r : ℕ) (same : (i j : ℕ) → E 
 -- ---- the loop's invariant
 pub record Judging (s : List ℕ) (t : Table) (rows : List ℕ) (output i : ℕ) : Type 0 where
   pub within : i ≤ t .count
-  pub places : length (t .entities) ≡ 32
-  pub size : length rows ≡ 32
+  pub table : length (t .entities) ≡ entitiesMost
+  pub size : length rows ≡ places
   pub lost : (k : ℕ) → k < i → Breaks13 s (used t) k → ⊥
   pub first : First (Breaks14 s (used t)) i output
   pub filled : Filled (λ k j. Names s (used t) (entityAt (used t) k) j) rows i
 
-pub judging : (s : List ℕ) (t : Table) → length (t .entities) ≡ 32 → Judging s t (replicate 32 0) 0 0
+pub judging : (s : List ℕ) (t : Table) → length (t .entities) ≡ entitiesMost → Judging s t (replicate places 0) 0 0
 judging s t e = record {
   within = omega arith;
-  places = e;
+  table = e;
   size = refl;
   lost = λ k l. absurd (omega arith);
   first = record { within = omega arith; before = λ k l. absurd (omega arith); here = λ l. absurd (omega arith) };
-  filled = filled-none (λ k j. Names s (used t) (entityAt (used t) k) j) 32;
+  filled = filled-none (λ k j. Names s (used t) (entityAt (used t) k) j) places;
 }
 
-module _ (s : List ℕ) (t : Table) (rows : List ℕ) (output i : ℕ) (few : t .count ≤ 32) (w : Judging s t rows output i) where
+module _ (s : List ℕ) (t : Table) (rows : List ℕ) (output i : ℕ) (few : t .count ≤ entitiesMost) (w : Judging s t rows output i) where
   many : length (used t) ≡ t .count
-  many = simp length-take (omega (arith, w .places))
+  many = simp length-take (omega (arith, w .table))
 
   at-place : (k : ℕ) → k < t .count → entityAt (used t) k ≡ entityAt (t .entities) k
   at-place k h = rw getD-take
@@ -126,7 +126,7 @@ module _ (s : List ℕ) (t : Table) (rows : List ℕ) (output i : ℕ) (few : t 
     pub judge-more : lost ≡ false → Judging s t (set rows i row) (pick (eqb output i && not output′) (i + 1) output) (i + 1)
     judge-more e = record {
       within = omega arith;
-      places = w .places;
+      table = w .table;
       size = length-set rows i row ∙ w .size;
       lost = below-more (λ (a : ℕ). Breaks13 s (used t) a → ⊥) i (w .lost) (λ x. true≢false (sym (here .nothing .1 x) ∙ e));
       first = first-more (Breaks14 s (used t)) i output (w .first) output′ (here .outputs);
@@ -151,7 +151,7 @@ module _ (s : List ℕ) (t : Table) (rows : List ℕ) (output i : ℕ) (few : t 
     pub judged-14 : output < t .count → Judged s (used t) (Refused 14 (entityAt (t .entities) output .offset))
     judged-14 l = rw (← at-place output l) (fourteen output (rw many l) none-lost first-out)
 
-    module _ (no : t .count ≤ output) (r : ℕ) (loop : FirstLoop (Edge rows) 32 r) where
+    module _ (no : t .count ≤ output) (r : ℕ) (loop : FirstLoop (Edge rows) places r) where
       none-out : None (used t) (Breaks14 s (used t))
       none-out = let z : output ≡ length (used t) = omega (arith, many, first-out .within) in rw z at first-out
 
@@ -160,13 +160,13 @@ module _ (s : List ℕ) (t : Table) (rows : List ℕ) (output i : ℕ) (few : t 
           subst (λ (n : ℕ). Edge rows a b ↔ ((a < n) × Names s (used t) (entityAt (used t) a) b)) full
           (filled-all (λ k j. Names s (used t) (entityAt (used t) k) j) rows i (w .filled) a b)
 
-      few′ : length (used t) ≤ 32
+      few′ : length (used t) ≤ places
       few′ = rw many few
 
       pub judged-15 : r < t .count → Judged s (used t) (Refused 15 (entityAt (t .entities) r .offset))
       judged-15 l =
           rw (← at-place r l)
-          (fifteen r (rw many l) none-lost none-out (loop-here (Edge rows) (Feeds s (used t)) (length (used t)) 32 r same (λ a b e. e .0) few′ loop (rw many l)))
+          (fifteen r (rw many l) none-lost none-out (loop-here (Edge rows) (Feeds s (used t)) (length (used t)) places r same (λ a b e. e .0) few′ loop (rw many l)))
 
       pub judged-fine : t .count ≤ r → Judged s (used t) Accepted
-      judged-fine l = fine none-lost none-out (loop-none (Edge rows) (Feeds s (used t)) (length (used t)) 32 r same (λ a b e. e .0) few′ loop (rw many l))
+      judged-fine l = fine none-lost none-out (loop-none (Edge rows) (Feeds s (used t)) (length (used t)) places r same (λ a b e. e .0) few′ loop (rw many l))

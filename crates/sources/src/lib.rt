@@ -9,6 +9,7 @@ ghost use Rattle.rules.specs.Pick.{pick};
 ghost use Rattle.entities.specs.Table.{entitiesMost, used};
 ghost use Rattle.sources.specs.Sources.{Judged};
 use entities::Table;
+use graph::PLACES;
 use rules::Verdict;
 
 // Inner: the table is that of a block that was walked, so it says no more than it has places.
@@ -18,7 +19,7 @@ pub fn judge(s: &[u8], t: Table) -> Verdict
     ensures { λ r. ⌜ Judged (now (s .entry)) (used t) r ⌝ }
 {
     let n = t.count;
-    let mut rows = [0u32; 32];
+    let mut rows = [0u32; PLACES];
     let mut output: usize = 0;
     let mut i: usize = 0;
     while i < n {

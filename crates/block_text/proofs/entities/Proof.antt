@@ -3,17 +3,17 @@ use Prim.Native.Nat.{_-_}
 use native.Mathlib.Omega.{arith}
 use Rattle.text.proofs.Texts.{none}
 use Rattle.entities.proofs.Finding.{length-of}
-use Rattle.entities.specs.Table.{noEntity}
+use Rattle.entities.specs.Table.{entitiesMost, noEntity}
 use Rattle.block_text.specs.Lines.{entityLine}
 use Rattle.block_text.proofs.Tables.{Printed, one-more, all-used, all-places}
 use Rattle.block_text.proofs.entities.Statement.{statement}
 use Rattle.block_text.proofs.entities.Tie as tie
 
 abbrev Inv-loop : tie.InvT-loop
-Inv-loop buf₀ start t n at₀ i₀ buf at i = Printed entityLine (t .entities) 32 n buf₀ start i at buf
+Inv-loop buf₀ start t n at₀ i₀ buf at i = Printed entityLine (t .entities) entitiesMost n buf₀ start i at buf
 
 abbrev μ-loop : tie.MeasureT-loop
-μ-loop buf₀ start t n at₀ i₀ buf at i = 32 - i
+μ-loop buf₀ start t n at₀ i₀ buf at i = entitiesMost - i
 
 loop-holds : tie.Need-loop-holds Inv-loop μ-loop
 loop-holds c = (search length-of, omega arith, omega arith, omega arith, none _ _ (omega arith))
@@ -22,7 +22,7 @@ same-length : tie.Need-same-length Inv-loop μ-loop
 same-length c = search needs
 
 returns : tie.Need-returns Inv-loop μ-loop
-returns c = all-used entityLine noEntity _ 32 _ _ (c .if1 .taken) (c .before .before .loop .inv)
+returns c = all-used entityLine noEntity _ entitiesMost _ _ (c .if1 .taken) (c .before .before .loop .inv)
 
 mul-e : tie.Need-mul-e Inv-loop μ-loop
 mul-e c = search needs
@@ -43,13 +43,13 @@ loop-again : tie.Need-loop-again Inv-loop μ-loop
 loop-again c =
     let printed = c .before .before .entity in
     let l = c .before .before .before .before .before .before .before in
-    one-more entityLine noEntity _ 32 _ (l .loop .i) (omega arith) (omega arith) (l .loop .inv) (printed .ensures .0) (printed .ensures .1)
+    one-more entityLine noEntity _ entitiesMost _ (l .loop .i) (omega arith) (omega arith) (l .loop .inv) (printed .ensures .0) (printed .ensures .1)
 
 same-length-2 : tie.Need-same-length-2 Inv-loop μ-loop
 same-length-2 c = search needs
 
 returns-2 : tie.Need-returns-2 Inv-loop μ-loop
-returns-2 c = all-places entityLine noEntity _ 32 _ _ (c .loop-test .left) (c .before .loop .inv)
+returns-2 c = all-places entityLine noEntity _ entitiesMost _ _ (c .loop-test .left) (c .before .loop .inv)
 
 pub entities-spec : {M : Type 1} → statement M
 entities-spec =

@@ -2,17 +2,16 @@ use Prim.Native.Nat.{_-_}
 use native.Mathlib.Omega.{arith}
 use borrow.Author.Needs.{needs}
 use mathlib.Core.Path.{_≡_, refl}
+use Rattle.entities.specs.Table.{entitiesMost}
 use Rattle.entities.proofs.Finding.{Seeking, seek, none-left, none-more, here-at, not-here, length-of}
 use Rattle.entities.proofs.find.Statement.{statement}
 use Rattle.entities.proofs.find.Tie as tie
-use Rattle.entities.proofs.find.Reads as reads
-use Rattle.entities.proofs.find.Lts as lts
 
 abbrev Inv-loop : tie.InvT-loop
 Inv-loop id t n i₀ i = Seeking t id i × (n ≡ t .count)
 
 abbrev μ-loop : tie.MeasureT-loop
-μ-loop id t n i₀ i = 32 - i
+μ-loop id t n i₀ i = entitiesMost - i
 
 -- src/lib.rt:17:5
 loop-holds : tie.Need-loop-holds Inv-loop μ-loop

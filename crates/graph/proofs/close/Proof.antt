@@ -3,16 +3,16 @@ use mathlib.Core.Path.{_≡_}
 use native.Mathlib.Omega.{arith}
 use borrow.Author.Needs.{needs}
 use lib.ListN.{length}
-use Rattle.graph.specs.Rows.{Edge}
+use Rattle.graph.specs.Rows.{places, Edge}
 use Rattle.graph.proofs.Chains.{Via.straight, Stands, via-zero, via-chain, chain-via, edge-from, round-stands}
 use Rattle.graph.proofs.close.Statement.{statement}
 use Rattle.graph.proofs.close.Tie as tie
 
 abbrev Inv-loop : tie.InvT-loop
-Inv-loop m₀ k₀ m k = (k ≤ 32) × (length m ≡ 32) × Stands (Edge m₀) k m
+Inv-loop m₀ k₀ m k = (k ≤ places) × (length m ≡ places) × Stands (Edge m₀) k m
 
 abbrev μ-loop : tie.MeasureT-loop
-μ-loop m₀ k₀ m k = 32 - k
+μ-loop m₀ k₀ m k = places - k
 
 loop-holds : tie.Need-loop-holds Inv-loop μ-loop
 loop-holds c = (search needs, c .pre, λ i j. (λ e. straight e, λ v. via-zero (Edge (c .args .m .now)) v))
@@ -40,11 +40,11 @@ returns : tie.Need-returns Inv-loop μ-loop
 returns c =
     let m = c .before .before .args .m .now in
     let l = c .before .loop in
-    let full : l .k ≡ 32 = omega arith in (
+    let full : l .k ≡ places = omega arith in (
       l .inv .1,
       λ i j. (
         (λ e. via-chain (Edge m) (l .inv .2 i j .0 e)),
-        (λ ch. l .inv .2 i j .1 (rw full (chain-via (Edge m) 32 (λ a b e. edge-from m a b e 32 (c .before .before .pre)) ch))),
+        (λ ch. l .inv .2 i j .1 (rw full (chain-via (Edge m) places (λ a b e. edge-from m a b e places (c .before .before .pre)) ch))),
       ),
     )
 

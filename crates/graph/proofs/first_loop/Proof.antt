@@ -5,15 +5,15 @@ use borrow.Author.Needs.{needs}
 use borrow.Author.Count.{below-more}
 use borrow.Author.Tests.{eqb-true, eqb-false}
 use lib.ListN.{getD}
-use Rattle.graph.specs.Rows.{bitOf, Edge}
+use Rattle.graph.specs.Rows.{places, bitOf, Edge}
 use Rattle.graph.proofs.first_loop.Statement.{statement}
 use Rattle.graph.proofs.first_loop.Tie as tie
 
 abbrev Inv-loop : tie.InvT-loop
-Inv-loop m i₀ i = (i ≤ 32) × ((a : ℕ) → a < i → Edge m a a → ⊥)
+Inv-loop m i₀ i = (i ≤ places) × ((a : ℕ) → a < i → Edge m a a → ⊥)
 
 abbrev μ-loop : tie.MeasureT-loop
-μ-loop m i₀ i = 32 - i
+μ-loop m i₀ i = places - i
 
 close-requires : tie.Need-close-requires Inv-loop μ-loop
 close-requires c κs = search needs

@@ -5,7 +5,7 @@ use native.Mathlib.Omega.{arith}
 use borrow.Author.Needs.{needs}
 use lib.ListN.{getD}
 use borrow.Author.Tests.{eqb-true, eqb-false}
-use Rattle.graph.specs.Rows.{bitOf}
+use Rattle.graph.specs.Rows.{places, bitOf}
 use Rattle.graph.proofs.Chains.{Rounding, rounding, taken-in, stays, rounded}
 use Rattle.graph.proofs.round.Statement.{statement}
 use Rattle.graph.proofs.round.Tie as tie
@@ -14,7 +14,7 @@ abbrev Inv-loop : tie.InvT-loop
 Inv-loop m₀ k i₀ m i = Rounding m₀ k m i
 
 abbrev μ-loop : tie.MeasureT-loop
-μ-loop m₀ k i₀ m i = 32 - i
+μ-loop m₀ k i₀ m i = places - i
 
 loop-holds : tie.Need-loop-holds Inv-loop μ-loop
 loop-holds c = rounding _ _ (c .pre .1)
