@@ -1,10 +1,11 @@
 -- What the tests of 45 and 46 say, and what a size that breaks neither is.
 use Prim.Native.Nat.{ℕ, _≤_, _<_}
-use mathlib.Core.Path.{_≡_, refl}
-use mathlib.Core.Bool.{Bool, true, false, _||_, true≢false}
+use mathlib.Core.Path.{_≡_}
+use mathlib.Core.Bool.{true, false}
 use native.Mathlib.Omega.{arith}
 use lib.Dec.{eqb, ltb}
 use borrow.Author.Tests.{eq-eqb, ne-eqb, lt-ltb, eqb-false, ltb-false}
+use Rattle.rules.proofs.Rows.{or-first, or-second}
 use Rattle.sizes.specs.Sizes.{frameMost, payloadLeast, payloadMost, frameSizeBroken, payloadSizeBroken, Between}
 
 pub frame-none : (n : ℕ) → n ≡ 0 → true ≡ frameSizeBroken n
@@ -23,14 +24,6 @@ pub payload-long : (n : ℕ) → ltb n payloadLeast ≡ false → ltb payloadMos
 unfolding payloadSizeBroken
 payload-long n h = rw h
 
-or-left : (a b : Bool) → (a || b) ≡ false → a ≡ false
-or-left true b h = h
-or-left false b h = refl
-
-or-right : (a b : Bool) → (a || b) ≡ false → b ≡ false
-or-right true b h = absurd (true≢false h)
-or-right false b h = h
-
 not-zero : (n : ℕ) → (n ≡ 0 → ⊥) → 1 ≤ n
 not-zero n h = omega arith
 
@@ -38,9 +31,9 @@ not-zero n h = omega arith
 pub frame-sound : (n : ℕ) → frameSizeBroken n ≡ false → Between 1 n frameMost
 unfolding frameSizeBroken
 frame-sound n h =
-    record { low = not-zero n (eqb-false n 0 (or-left _ _ h)); high = ltb-false frameMost n (or-right (eqb n 0) _ h) }
+    record { low = not-zero n (eqb-false n 0 (or-first _ _ h)); high = ltb-false frameMost n (or-second (eqb n 0) _ h) }
 
 pub payload-sound : (n : ℕ) → payloadSizeBroken n ≡ false → Between payloadLeast n payloadMost
 unfolding payloadSizeBroken
 payload-sound n h =
-    record { low = ltb-false n payloadLeast (or-left _ _ h); high = ltb-false payloadMost n (or-right (ltb n payloadLeast) _ h) }
+    record { low = ltb-false n payloadLeast (or-first _ _ h); high = ltb-false payloadMost n (or-second (ltb n payloadLeast) _ h) }
