@@ -1,5 +1,5 @@
 -- A block is accepted exactly when no rule is broken; refused by k at o exactly when k is the first broken rule in the table's order, at the first place that
--- breaks it. An accepted table lists the block's entities, and every source names one that is no output terminal.
+-- breaks it. An accepted table lists the block's entities; a refused one is all zero.
 use Prim.Native.Nat.{ℕ, _<_}
 use mathlib.Core.Path.{_≡_, refl, sym, ap, _∙_}
 use mathlib.Core.List.{List}
@@ -14,13 +14,10 @@ use Rattle.rules.specs.declared.Verdict.the-variants.{Accepted, Refused}
 use Rattle.rules.proofs.Rows.{given-none, given-each}
 use Rattle.rules.proofs.Walks.{walk-done, walk-stop}
 use Rattle.blocks.specs.Blocks.{wholeRows}
-use Rattle.entities.specs.Table.{noTable, entityAt, findFrom}
+use Rattle.entities.specs.Table.{noTable, entityAt}
 use Rattle.entities.specs.declared.Entity.{Entity}
-use Rattle.entities.specs.declared.Found.{Found}
-use Rattle.entities.specs.declared.Found.the-variants.{At, Nothing}
-use Rattle.entities.proofs.Finding.{found-within}
 use Rattle.control_rules.specs.Rules.{headRows, rows, entityRows}
-use Rattle.sources.specs.Sources.{sourcesOf, sourceAt, Breaks13, Breaks14, Breaks15, None, Judged, Judged.thirteen, Judged.fourteen, Judged.fifteen, Judged.fine}
+use Rattle.sources.specs.Sources.{Breaks13, Breaks14, Breaks15, None, Judged, Judged.thirteen, Judged.fourteen, Judged.fifteen, Judged.fine}
 use Rattle.control.specs.Answer.{course, refusedBy, tableOf, ControlIs, ControlIs.block, ControlIs.descriptor, ControlIs.source, ControlIs.sound}
 use Rattle.control.specs.Broken.{BlockRight, Entities, Kept, Sound, FirstEntity, FirstBroken, FirstBroken.by-block, FirstBroken.by-descriptor, FirstBroken.by-13, FirstBroken.by-14, FirstBroken.by-15}
 use Rattle.control.specs.declared.Control.{Control}
@@ -151,11 +148,11 @@ module _ (s : List ℕ) where
 
   -- ---- the table
   -- an accepted table lists exactly the block's entities, in block order
-  pub lists : {c : Control} → ControlIs s c → c .verdict ≡ Accepted → (seen : List Entity) × Entities s seen × (c .table ≡ tableOf s seen)
-  lists (block k e) q = absurd (verdict-apart _ _ q)
-  lists (descriptor k o z y) q = absurd (verdict-apart _ _ q)
-  lists (source l k o z y v) q = absurd (verdict-apart _ _ q)
-  lists (sound l z y v) q = (l, walked l y .0, refl)
+  pub tables : {c : Control} → ControlIs s c → c .verdict ≡ Accepted → (seen : List Entity) × Entities s seen × (c .table ≡ tableOf s seen)
+  tables (block k e) q = absurd (verdict-apart _ _ q)
+  tables (descriptor k o z y) q = absurd (verdict-apart _ _ q)
+  tables (source l k o z y v) q = absurd (verdict-apart _ _ q)
+  tables (sound l z y v) q = (l, walked l y .0, refl)
 
   -- a refused one is all zero
   pub zero-table : {c : Control} → ControlIs s c → (k o : ℕ) → c .verdict ≡ Refused k o → c .table ≡ noTable
@@ -163,20 +160,3 @@ module _ (s : List ℕ) where
   zero-table (descriptor j p z y) k o q = refl
   zero-table (source l j p z y v) k o q = refl
   zero-table (sound l z y v) k o q = absurd (verdict-apart k o (sym q))
-
-  -- every source of an accepted block names an entity that is no output terminal
-  pub record Named (l : List Entity) (e : Entity) (q : ℕ) : Type 0 where
-    pub place : ℕ
-    pub inside : place < length l
-    pub found : findFrom 0 l (sourceAt s e q) ≡ At place
-    pub plain : entityAt l place .kind ≡ 3 → ⊥
-
-  pub named : {c : Control} → ControlIs s c → c .verdict ≡ Accepted → (l : List Entity) → Entities s l → (i : ℕ) → i < length l → (q : ℕ) → q < sourcesOf s (entityAt l i) → Named l (entityAt l i) q
-  named r a l m i h q b = go (findFrom 0 l (sourceAt s (entityAt l i) q)) refl
-    where
-      d : Kept l (Breaks13 s l) × Kept l (Breaks14 s l) × Kept l (Breaks15 s l)
-      d = to-sound r a .sources l m
-
-      go : (f : Found) → findFrom 0 l (sourceAt s (entityAt l i) q) ≡ f → Named l (entityAt l i) q
-      go Nothing e = absurd (d .0 i h (q, b, e))
-      go (At j) e = record { place = j; inside = found-within l (sourceAt s (entityAt l i) q) j e; found = e; plain = λ k. d .1 i h (q, b, (j, e, k)) }

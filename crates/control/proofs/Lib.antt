@@ -1,6 +1,6 @@
 -- The laws that belong to no one function.
 pub mod Walking
-pub mod Listed
 pub mod Unique
 pub mod ExactlyWhen
+pub mod Listed
 pub mod Samples

@@ -13,12 +13,11 @@ use Rattle.control_rules.specs.Descriptors.{input, kindOf, kindAt, lenAt, termi
 use Rattle.control_rules.proofs.Within.{controls-within}
 use Rattle.control.specs.Answer.{refusedBy, ControlIs}
 use Rattle.control.specs.Broken.{FirstBroken, FirstBroken.by-block, FirstBroken.by-descriptor, FirstBroken.by-13, FirstBroken.by-14, FirstBroken.by-15}
-use Rattle.control.proofs.Listed.{ids-nonzero, each-stands}
 use Rattle.control.proofs.ExactlyWhen.{refused, from-first, head-few, rows-few}
 use Rattle.control_map.specs.Answer.{HasControls, AcceptedWith, Mapped, controlsAt, MapIs, MapIs.own, MapIs.given, MapIs.sixteen}
 use Rattle.control_map.specs.declared.Map.{Map}
 use Rattle.control_map.specs.declared.Map.the-variants.{Controls, Refused}
-use Rattle.control_map.proofs.Mapping.{clean, mapped-once, place-else, place-is, apart}
+use Rattle.control_map.proofs.Mapping.{entities-listed, mapped-once, place-else, place-is, apart}
 use Rattle.control_map.proofs.Unique.{controls-unique}
 
 split-apart : (a b c k o : ℕ) → Controls a b c ≡ Refused k o → ⊥
@@ -116,13 +115,13 @@ module _ (s : List ℕ) (id : ℕ) where
 pub zero-sixteen : (s : List ℕ) (r : Map) → MapIs s 0 r → (l : List Entity) → AcceptedWith s l → r ≡ Refused 16 0
 zero-sixteen s r m l a =
     sixteen-given s 0 r m .1
-    (record { seen = l; with = a; none = λ j n q. ids-nonzero s (clean s l a) (a .entities) j (q .inside) (q .named) })
+    (record { seen = l; with = a; none = λ j n q. entities-listed s l a .entities j (q .inside) .nonzero (q .named) })
 
 -- the three bytes lie within the entity's descriptor, and that within the block
 pub controls-inside : (s : List ℕ) (l : List Entity) → AcceptedWith s l → (i n : ℕ) → i < length l → HasControls (entityAt l i) n
     → (n + 3 ≤ lenAt s (entityAt l i .offset)) × (entityAt l i .offset + lenAt s (entityAt l i .offset) ≤ length s)
 controls-inside s l a i n h c =
-    let w = each-stands s (clean s l a) (a .entities) i h in
+    let w = entities-listed s l a .entities i h in
     let e = entityAt l i in
     let k : e .kind ≡ byte s (e .offset) 2 = ap (λ (x : Entity). x .kind) (w .same) in
     let t : e .terminal ≡ terminalOf (kindAt s (e .offset)) s (e .offset) = ap (λ (x : Entity). x .terminal) (w .same) in

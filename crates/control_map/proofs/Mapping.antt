@@ -14,7 +14,7 @@ use Rattle.rules.specs.Walk.{Clean}
 use Rattle.rules.proofs.Padded.{pad-at}
 use Rattle.rules.specs.declared.Verdict.the-variants.{Accepted}
 use Rattle.rules.specs.declared.Verdict.the-variants as verdicts
-use Rattle.entities.specs.Table.{noEntity, noTable, entityAt, used, findFrom, foundIn}
+use Rattle.entities.specs.Table.{entitiesMost, noEntity, noTable, entityAt, used, findFrom, foundIn}
 use Rattle.entities.specs.declared.Entity.{Entity}
 use Rattle.entities.specs.declared.Table.{Table}
 use Rattle.entities.specs.declared.Found.{Found}
@@ -25,8 +25,9 @@ use Rattle.control_rules.specs.Descriptors.{Kind, header, input, output, select
 use Rattle.control_rules.proofs.Shortest.{by-kind}
 use Rattle.control.specs.Answer.{course, tableOf, acceptedWith, ControlIs}
 use Rattle.control.specs.declared.Control.{Control}
-use Rattle.control.proofs.Listed.{Distinct, ids-differ}
-use Rattle.control.proofs.ExactlyWhen.{accepted, lists, zero-table}
+use Rattle.control.specs.Listed.{Listed}
+use Rattle.control.proofs.ExactlyWhen.{accepted, tables, zero-table}
+use Rattle.control.proofs.Listed.{listed}
 use Rattle.control_map.specs.Answer.{HasControls, AcceptedWith, Mapped, controlsAt, MapIs, MapIs.own, MapIs.given, MapIs.sixteen}
 use Rattle.control_map.specs.Inner.{placeBy, placeOf, mapBy}
 use Rattle.control_map.specs.declared.Place.{Place}
@@ -34,12 +35,12 @@ use Rattle.control_map.specs.declared.Place.the-variants as places
 use Rattle.control_map.specs.declared.Map.{Map}
 use Rattle.control_map.specs.declared.Map.the-variants.{Refused}
 
--- ---- an accepted block has clean descriptors and entities with IDs of their own
+-- ---- an accepted block has clean descriptors, and lists its entities
 pub clean : (s : List ℕ) (l : List Entity) → AcceptedWith s l → Clean (course s)
 clean s l a = accepted s (acceptedWith s l) (a .accepted) .0 refl .descriptors
 
-pub distinct : (s : List ℕ) (l : List Entity) → AcceptedWith s l → Distinct l
-distinct s l a = ids-differ s (clean s l a) (a .entities)
+pub entities-listed : (s : List ℕ) (l : List Entity) → AcceptedWith s l → Listed s l
+entities-listed s l a = listed s (accepted s (acceptedWith s l) (a .accepted) .0 refl) l (a .entities)
 
 -- ---- the place of the controls, computed, is where they stand
 pub apart : (n : ℕ) → places.Nowhere ≡ places.At n → ⊥
@@ -83,16 +84,16 @@ by-at s e p n r q h w = w ∙ ap (mapBy s e) (sym h ∙ q)
 
 -- two mapped entities of one ID are one
 pub mapped-once : (s : List ℕ) (l : List Entity) → AcceptedWith s l → (id i n j : ℕ) → Mapped l id i n → entityAt l j .id ≡ id → j < length l → i ≡ j
-mapped-once s l a id i n j m e h = distinct s l a i j (m .inside) h (m .named ∙ sym e)
+mapped-once s l a id i n j m e h = entities-listed s l a .distinct i j (m .inside) h (m .named ∙ sym e)
 
 -- ---- the table that the code holds
 used-of : (s : List ℕ) (t : Table) (l : List Entity) → t ≡ tableOf s l → used t ≡ l
-used-of s t l e = rw e (take-at l (replicate (32 - length l) noEntity) (length l) refl)
+used-of s t l e = rw e (take-at l (replicate (entitiesMost - length l) noEntity) (length l) refl)
 
 place-of : (s : List ℕ) (t : Table) (l : List Entity) → t ≡ tableOf s l → (i : ℕ) → entityAt (t .entities) i ≡ entityAt l i
-place-of s t l e i = rw e (pad-at 32 noEntity l i)
+place-of s t l e i = rw e (pad-at entitiesMost noEntity l i)
 
-pub in-table : (t : Table) (id i : ℕ) (f : Found) → length (t .entities) ≡ 32 → f ≡ foundIn t id → f ≡ At i → i < 32
+pub in-table : (t : Table) (id i : ℕ) (f : Found) → length (t .entities) ≡ entitiesMost → f ≡ foundIn t id → f ≡ At i → i < entitiesMost
 in-table t id i f z e a =
     let h : i < length (used t) = found-within (used t) id i (sym e ∙ a) in
     let k : length (used t) ≤ length (t .entities) = simp length-take (omega arith) in
@@ -101,7 +102,7 @@ in-table t id i f z e a =
 module _ (s : List ℕ) (t : Table) (c : ControlIs s (record { verdict = Accepted; table = t })) where
   the-list : (l : List Entity) × AcceptedWith s l × (t ≡ tableOf s l)
   the-list =
-      let x = lists s c refl in
+      let x = tables s c refl in
       (x .0, record { entities = x .1; accepted = rw (x .2) at c }, x .2)
 
   all-used : used t ≡ the-list .0

@@ -1,0 +1,53 @@
+-- What an accepted control block says of its entities, in document 01's words: of each in block order, with the descriptor that it was read from.
+-- `s` is the block, `l` its entities.
+use Prim.Native.Nat.{ℕ, _≤_, _<_}
+use mathlib.Core.Path.{_≡_}
+use mathlib.Core.List.{List}
+use mathlib.Core.Bool.{true}
+use lib.ListN.{length, take}
+use Rattle.rules.specs.Walk.{Reached}
+use Rattle.rules.specs.Chain.{OnLoop}
+use Rattle.entities.specs.Table.{entitiesMost, entityAt, findFrom}
+use Rattle.entities.specs.declared.Entity.{Entity}
+use Rattle.entities.specs.declared.Found.the-variants.{At}
+use Rattle.control_rules.specs.Descriptors.{kindAt, isEntity, Shaped}
+use Rattle.control_rules.specs.Rules.{entityOf}
+use Rattle.sources.specs.Sources.{sourcesOf, sourceAt, Feeds}
+use Rattle.control.specs.Answer.{course}
+
+-- a descriptor of the block starts at o
+pub record Starts (s : List ℕ) (o : ℕ) : Type 0 where
+  pub seen : List Entity
+  pub there : Reached (course s) seen o
+  pub inside : o < length s
+
+-- the entity e, with those before it
+pub record Stands (s : List ℕ) (before : List Entity) (e : Entity) : Type 0 where
+  -- it is what the terminal's or unit's descriptor at its offset says, and that has its kind's length and control size
+  pub starts : Starts s (e .offset)
+  pub entity : isEntity (kindAt s (e .offset)) ≡ true
+  pub same : e ≡ entityOf s (e .offset)
+  pub shaped : Shaped (kindAt s (e .offset)) s (e .offset)
+  pub order : (j : ℕ) → j < length before → entityAt before j .offset < e .offset
+  pub nonzero : e .id ≡ 0 → ⊥
+
+-- each has an ID of its own
+abbrev pub Distinct : List Entity → Type 0
+Distinct l = (i j : ℕ) → i < length l → j < length l → entityAt l i .id ≡ entityAt l j .id → i ≡ j
+
+-- source q of e names an entity that is no output terminal
+pub record Named (s : List ℕ) (l : List Entity) (e : Entity) (q : ℕ) : Type 0 where
+  pub place : ℕ
+  pub inside : place < length l
+  pub found : findFrom 0 l (sourceAt s e q) ≡ At place
+  pub plain : entityAt l place .kind ≡ 3 → ⊥
+
+pub record Listed (s : List ℕ) (l : List Entity) : Type 0 where
+  pub entities : (i : ℕ) → i < length l → Stands s (take i l) (entityAt l i)
+  -- and no entity of the block is left out
+  pub each-entity : (o : ℕ) → Starts s o → isEntity (kindAt s o) ≡ true → (i : ℕ) × (i < length l) × (entityAt l i .offset ≡ o)
+  pub distinct : Distinct l
+  pub few : length l ≤ entitiesMost
+  -- every source names an entity that is no output terminal, and no chain of sources returns to its start
+  pub named : (i : ℕ) → i < length l → (q : ℕ) → q < sourcesOf s (entityAt l i) → Named s l (entityAt l i) q
+  pub no-loop : (i : ℕ) → i < length l → OnLoop (Feeds s l) i → ⊥
