@@ -36,8 +36,13 @@ use Rattle.session.specs.declared.Session.{Session}
 use Rattle.session.specs.declared.Start.{Start}
 use Rattle.session.specs.declared.Outcome.{Outcome}
 use Rattle.session.specs.declared.Taken.{Taken}
+use Rattle.session.specs.declared.RestTaken.{RestTaken}
 use Rattle.session.specs.declared.Report.{Report}
+use Rattle.session.specs.declared.Reported.{Reported}
+use Rattle.session.specs.declared.RestReported.{RestReported}
 use Rattle.session.specs.declared.Closing.{Closing}
+use Rattle.session.specs.declared.Closed.{Closed}
+use Rattle.session.specs.declared.RestClosed.{RestClosed}
 use Rattle.session.specs.Refusals.{takenMost, openingFlags, recordBroken, closeRowsBy, closeRows, lostRowsBy, lostRows, takeRowsBy, takeRows}
 use Rattle.session.specs.Session.{fresh, noSession, openBy, openOf, countedOf, readOf, readBuffer, plainly, tookOf, tookBuffer, takeBy, takeOf, bufferBy, bufferOf, lostBy, lostOf, closeBy, closeOf}
 use Rattle.session.specs.Inner.{wholeOf, countedRest, takenWith, reportedWith, closedWith, Ready}
@@ -203,3 +208,14 @@ module _ (r : Rest) (l : List ℕ) (n : ℕ) (e : n ≡ firstRow (closeRows (who
       ) m ≡ closeOf (wholeOf r l)
   unfolding closeOf
   close-closed w m z p q = rw (← e, z, q, p, with-ended l (r .last) (closedOf (r .track) .ended) (closedOf (r .track) .gone))
+
+-- ---- the record put together after a call
+module _ (w : Session) (m : List ℕ) where
+  pub whole-taken : (x : RestTaken) (y : Taken) → w ≡ wholeOf (x .rest) m → takenWith x m ≡ y → record { session = w; outcome = x .outcome } ≡ y
+  whole-taken x y e p = rw e p
+
+  pub whole-reported : (x : RestReported) (y : Reported) → w ≡ wholeOf (x .rest) m → reportedWith x m ≡ y → record { session = w; report = x .report } ≡ y
+  whole-reported x y e p = rw e p
+
+  pub whole-closed : (x : RestClosed) (y : Closed) → w ≡ wholeOf (x .rest) m → closedWith x m ≡ y → record { session = w; closing = x .closing } ≡ y
+  whole-closed x y e p = rw e p

@@ -167,43 +167,68 @@ impl Session {
         ensures { λ r. ⌜ r ≡ takeOf self (length (now (buffer .entry))) (now (t .entry)) ⌝ }
         ensures { λ _. ⌜ now (buffer .exit) ≡ bufferOf self (now (buffer .entry)) (now (t .entry)) ⌝ }
     {
-        let mut session = self;
-        let rest = session.rest;
-        let taken = rest.take(&mut session.numbers, buffer, t);
+        let rest = self.rest;
+        let mut numbers = self.numbers;
+        let taken = rest.take(&mut numbers, buffer, t);
         let next = taken.rest;
-        session.rest = next;
         let outcome = taken.outcome;
-        Taken { session, outcome }
+        Taken {
+            session: next.whole(numbers),
+            outcome,
+        }
     }
 
     // The host reports a lost transfer.
     pub fn lost(self) -> Reported
         ensures { λ r. ⌜ r ≡ lostOf self ⌝ }
     {
-        let mut session = self;
-        let rest = session.rest;
-        let reported = rest.lost(&mut session.numbers);
+        let rest = self.rest;
+        let mut numbers = self.numbers;
+        let reported = rest.lost(&mut numbers);
         let next = reported.rest;
-        session.rest = next;
         let report = reported.report;
-        Reported { session, report }
+        Reported {
+            session: next.whole(numbers),
+            report,
+        }
     }
 
     // Ends a frame under way, and the session.
     pub fn close(self) -> Closed
         ensures { λ r. ⌜ r ≡ closeOf self ⌝ }
     {
-        let mut session = self;
-        let rest = session.rest;
-        let closed = rest.close(&mut session.numbers);
+        let rest = self.rest;
+        let mut numbers = self.numbers;
+        let closed = rest.close(&mut numbers);
         let next = closed.rest;
-        session.rest = next;
         let closing = closed.closing;
-        Closed { session, closing }
+        Closed {
+            session: next.whole(numbers),
+            closing,
+        }
     }
 }
 
 impl Rest {
+    // The record, put together by field: copied as a whole, its parts would lie on the stack once more.
+    fn whole(self, numbers: Numbers) -> Session
+        ensures { λ r. ⌜ r ≡ wholeOf self numbers ⌝ }
+    {
+        let opening = self.opening;
+        let track = self.track;
+        let last = self.last;
+        Session {
+            rest: Rest {
+                opening,
+                closed: self.closed,
+                taken: self.taken,
+                track,
+                last,
+            },
+            numbers,
+        }
+    }
+
     // One more taken, with this track and last stamp.
     fn counted(self, track: Track, last: Stamp) -> Rest
         requires { ⌜ self .taken < takenMost ⌝ }
