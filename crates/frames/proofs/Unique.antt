@@ -6,7 +6,7 @@ use Rattle.payload.specs.declared.Header.{Header}
 use Rattle.frames.specs.declared.Track.{Track}
 use Rattle.frames.specs.declared.Turn.{Turn}
 use Rattle.frames.specs.declared.Shut.{Shut}
-use Rattle.frames.specs.Inner.{turnOf, idleTurn, unreadTurn, spoiltOf, closedOf}
+use Rattle.frames.specs.Inner.{turnOf, spoiltOf, closedOf}
 
 pub turn-unique : (o : Opening) (t : Track) (h : Header) (n : ℕ) (x y : Turn) → x ≡ turnOf o t h n → y ≡ turnOf o t h n → x ≡ y
 turn-unique o t h n x y p q = p ∙ sym q
@@ -16,9 +16,3 @@ spoilt-unique t x y p q = p ∙ sym q
 
 pub shut-unique : (t : Track) (x y : Shut) → x ≡ closedOf t → y ≡ closedOf t → x ≡ y
 shut-unique t x y p q = p ∙ sym q
-
-pub idle-unique : (t : Track) (x y : Turn) → x ≡ idleTurn t → y ≡ idleTurn t → x ≡ y
-idle-unique t x y p q = p ∙ sym q
-
-pub unread-unique : (t : Track) (number n : ℕ) (x y : Turn) → x ≡ unreadTurn t number n → y ≡ unreadTurn t number n → x ≡ y
-unread-unique t number n x y p q = p ∙ sym q

@@ -1,7 +1,7 @@
 // The frame under way: turns a readable transfer into an answer. It never sees the ledger.
 ghost use mathlib.Core.Path.{_≡_};
 ghost use Prim.Native.Nat.{_+_, _<_, _^_};
-ghost use Rattle.frames.specs.Inner.{firstOf, clashOf, earlierOf, whyOf, sameOf, begunOf, joinedOf, filledOf, writtenOf, completeOf, fateOf, phaseOf, joinTurn, plainTurn, strayTurn, turnOf, idleTurn, unreadTurn, spoiltOf, closedOf, Roomy};
+ghost use Rattle.frames.specs.Inner.{firstOf, clashOf, earlierOf, whyOf, sameOf, begunOf, joinedOf, filledOf, writtenOf, completeOf, fateOf, phaseOf, joinTurn, strayTurn, turnOf, spoiltOf, closedOf, Roomy};
 use payload::Header;
 use payload::Stamp;
 use sizes::Opening;
@@ -259,35 +259,24 @@ fn join(o: Opening, r: Run, h: Header, n: usize, ended: Ended, gone: u64) -> Tur
     }
 }
 
-// A transfer that is no part of a frame: nothing is ended and nothing is written.
-fn plain(track: Track, fate: Fate, bytes: u64) -> Turn
-    ensures { λ x. ⌜ x ≡ plainTurn track fate bytes ⌝ }
-{
-    Turn {
-        track,
-        answer: Answer {
-            ended: Ended::Nothing,
-            fate,
-        },
-        gone: 0,
-        bytes,
-        at: 0,
-        len: 0,
-    }
-}
-
-// A transfer with n bytes of data after its run's frame.
+// A transfer with n bytes of data after its run's frame: nothing is ended and nothing is written.
 fn stray(fid: bool, n: usize) -> Turn
     ensures { λ x. ⌜ x ≡ strayTurn fid n ⌝ }
 {
-    plain(
-        Track {
+    Turn {
+        track: Track {
             phase: Phase::Past(fid),
             gap: false,
         },
-        Fate::Stray,
-        n as u64,
-    )
+        answer: Answer {
+            ended: Ended::Nothing,
+            fate: Fate::Stray,
+        },
+        gone: 0,
+        bytes: n as u64,
+        at: 0,
+        len: 0,
+    }
 }
 
 impl Track {
@@ -314,20 +303,6 @@ impl Track {
                 join(o, begun(self.gap, h.fid), h, n, Ended::Nothing, 0)
             }
         }
-    }
-
-    // An idle transfer changes nothing here.
-    pub fn idle(self) -> Turn
-        ensures { λ x. ⌜ x ≡ idleTurn self ⌝ }
-    {
-        plain(self, Fate::Idle, 0)
-    }
-
-    // An unreadable transfer of n bytes, by its number.
-    pub fn unread(self, number: u8, n: usize) -> Turn
-        ensures { λ x. ⌜ x ≡ unreadTurn self number n ⌝ }
-    {
-        plain(self.spoilt(), Fate::Unreadable(number), n as u64)
     }
 
     // After an unreadable or lost transfer: a gap for the frame under way, and for one that begins next.

@@ -34,17 +34,9 @@ module _ (l : List ℕ) (s : Stamp) where
   unfolding postOf plusOf
   with-headers n = refl
 
-  pub with-unreadable : (n : ℕ) → postOf (ledgerWith l s) (Entry.Unreadable n) ≡ ledgerWith (enteredIn l Account.Unreadable n) s
-  unfolding postOf plusOf
-  with-unreadable n = refl
-
   pub with-lost : postOf (ledgerWith l s) Entry.Lost ≡ ledgerWith (plusAt l lostAt 1) s
   unfolding postOf plusOf
   with-lost = refl
-
-  pub with-idle : postOf (ledgerWith l s) Entry.Idle ≡ ledgerWith (plusAt l idleAt 1) s
-  unfolding postOf plusOf
-  with-idle = refl
 
 -- ---- the time of a delivered frame
 module _ (l : List ℕ) (last s : Stamp) where

@@ -4,12 +4,13 @@ use mathlib.Core.Path.{_≡_, sym, ap, _∙_}
 use mathlib.Core.List.{List}
 use Rattle.payload.specs.declared.Stamp.{Stamp}
 use Rattle.frames.specs.declared.Ended.{Ended}
+use Rattle.frames.specs.declared.Fate.{Fate}
 use Rattle.frames.specs.declared.Answer.{Answer}
 use Rattle.frames.specs.declared.Phase.{Phase}
 use Rattle.ledger.specs.declared.Account.{Account}
 use Rattle.ledger.specs.declared.Step.{Step}
 use Rattle.ledger.specs.declared.Ledger.{Ledger}
-use Rattle.ledger.specs.Ledger.{noLedger, countOf, bytesOf, answeredOf, shownOf}
+use Rattle.ledger.specs.Ledger.{noLedger, countOf, bytesOf, fatedOf, answeredOf, shownOf}
 use Rattle.ledger.specs.Step.{stepOf}
 use Rattle.ledger.specs.Accounts.{placeOf}
 use Rattle.ledger.specs.Inner.{plusAt, enteredIn, endedIn, ledgerWith}
@@ -31,6 +32,10 @@ entered-unique l a n x y p q = p ∙ sym q
 
 pub ended-unique : (l : List ℕ) (e : Ended) (gone : ℕ) (x y : List ℕ) → x ≡ endedIn l e gone → y ≡ endedIn l e gone → x ≡ y
 ended-unique l e gone x y p q = p ∙ sym q
+
+pub fated-unique : (l : Ledger) (f : Fate) (n : ℕ) (x y : List ℕ) (r s : Stamp) → ledgerWith x r ≡ fatedOf l f n → ledgerWith y s ≡ fatedOf l f n →
+    (x ≡ y) × (r ≡ s)
+fated-unique l f n x y r s p q = (ap (λ (z : Ledger). z .numbers) (p ∙ sym q), ap (λ (z : Ledger). z .last) (p ∙ sym q))
 
 pub answered-unique : (l : Ledger) (a : Answer) (gone n : ℕ) (x y : List ℕ) (r s : Stamp) → ledgerWith x r ≡ answeredOf l a gone n →
     ledgerWith y s ≡ answeredOf l a gone n → (x ≡ y) × (r ≡ s)

@@ -164,8 +164,8 @@ impl Ledger {
         }
     }
 
-    // A transfer's fate, with its bytes; answers the last stamp.
-    fn fated(m: &mut Numbers, last: Stamp, f: Fate, n: u64) -> Stamp
+    // Inner: a transfer's fate, with its bytes; answers the last stamp.
+    pub fn fated(m: &mut Numbers, last: Stamp, f: Fate, n: u64) -> Stamp
         requires { ⌜ (Room (2 ^ 63 + 2 ^ 60) (now m)) × (fateBytes f n ≤ 2 ^ 50) ⌝ }
         ensures { λ r. ⌜ ledgerWith (now (m .exit)) r ≡ fatedOf (ledgerWith (now (m .entry)) last) f n ⌝ }
     {

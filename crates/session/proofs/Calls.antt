@@ -21,13 +21,13 @@ use Rattle.frames.specs.declared.Track.{Track}
 use Rattle.frames.specs.declared.Turn.{Turn}
 use Rattle.frames.specs.declared.Shut.{Shut}
 use Rattle.frames.specs.declared.Fate.{Fate}
-use Rattle.frames.specs.Inner.{turnOf, spoiltOf, closedOf}
+use Rattle.frames.specs.Inner.{plainTurn, turnOf, spoiltOf, closedOf}
 use Rattle.ledger.specs.declared.Account.{Account}
 use Rattle.ledger.specs.declared.Ledger.{Ledger}
-use Rattle.ledger.specs.Accounts.{lostAt, idleAt, numberCount}
-use Rattle.ledger.specs.Ledger.{answeredOf}
+use Rattle.ledger.specs.Accounts.{lostAt, numberCount}
+use Rattle.ledger.specs.Ledger.{fatedOf, answeredOf}
 use Rattle.ledger.specs.Inner.{plusAt, enteredIn, endedIn, ledgerWith}
-use Rattle.ledger.proofs.Lent.{with-headers, with-unreadable, with-lost, with-idle, with-ended}
+use Rattle.ledger.proofs.Lent.{with-headers, with-lost, with-ended}
 use Rattle.rule_50.specs.Rule50.{transferMost}
 use Rattle.rule_50.specs.Inner.{restBroken, postedBroken}
 use Rattle.rule_50.proofs.Parts.{record-parts}
@@ -44,7 +44,7 @@ use Rattle.session.specs.declared.Closing.{Closing}
 use Rattle.session.specs.declared.Closed.{Closed}
 use Rattle.session.specs.declared.RestClosed.{RestClosed}
 use Rattle.session.specs.Refusals.{takenMost, openingFlags, recordBroken, closeRowsBy, closeRows, lostRowsBy, lostRows, takeRowsBy, takeRows}
-use Rattle.session.specs.Session.{fresh, noSession, openBy, openOf, countedOf, readOf, readBuffer, plainly, tookOf, tookBuffer, takeBy, takeOf, bufferBy, bufferOf, lostBy, lostOf, closeBy, closeOf}
+use Rattle.session.specs.Session.{fresh, noSession, openBy, openOf, countedOf, takenBy, readOf, readBuffer, plainly, tookOf, tookBuffer, takeBy, takeOf, bufferBy, bufferOf, lostBy, lostOf, closeBy, closeOf}
 use Rattle.session.specs.Inner.{wholeOf, countedRest, takenWith, reportedWith, closedWith, Ready}
 
 -- ---- what the code finds of the record's parts, it finds of the record
@@ -136,17 +136,26 @@ module _ (r : Rest) (l buffer t : List ℕ) where
   abbrev s : Session
   s = wholeOf r l
 
-  pub took-idle : (x : Reading) (m : List ℕ) (y : Rest) → x ≡ readingOf (r .opening) t → x ≡ Idle → m ≡ plusAt l idleAt 1 →
-      y ≡ countedRest r (r .track) (r .last) →
+  -- a transfer that is no part of a frame, once its fate is entered
+  fated-done : (f : Fate) (n : ℕ) (m : List ℕ) (last : Stamp) (w : Track) (y : Rest) →
+      ledgerWith m last ≡ fatedOf (ledgerWith l (r .last)) f n → y ≡ countedRest r w last →
+      takenWith (record { rest = y; outcome = Outcome.Taken (plainly f) }) m ≡ takenBy s (ledgerWith l (r .last)) (plainTurn w f n)
+  fated-done f n m last w y p q =
+      ap (λ (z : Rest). takenWith (record { rest = z; outcome = Outcome.Taken (plainly f) }) m) q
+      ∙ ap (λ (z : Ledger). record { session = countedOf s w z; outcome = Outcome.Taken (plainly f) }) p
+
+  pub took-idle : (x : Reading) (m : List ℕ) (last : Stamp) (y : Rest) → x ≡ readingOf (r .opening) t → x ≡ Idle →
+      ledgerWith m last ≡ fatedOf (ledgerWith l (r .last)) Fate.Idle 0 → y ≡ countedRest r (r .track) last →
       (takenWith (record { rest = y; outcome = Outcome.Taken (plainly Fate.Idle) }) m ≡ tookOf s t) × (buffer ≡ tookBuffer s buffer t)
   unfolding tookOf tookBuffer
-  took-idle x m y e i p q = (rw (← e, i, q, p, with-idle l (r .last)), rw (← e, i))
+  took-idle x m last y e i p q = (rw (← e, i) (fated-done Fate.Idle 0 m last (r .track) y p q), rw (← e, i))
 
-  pub took-unreadable : (x : Reading) (k : ℕ) (m : List ℕ) (w : Track) (y : Rest) → x ≡ readingOf (r .opening) t → x ≡ Unreadable k →
-      m ≡ enteredIn l Account.Unreadable (length t) → w ≡ spoiltOf (r .track) → y ≡ countedRest r w (r .last) →
+  pub took-unreadable : (x : Reading) (k : ℕ) (m : List ℕ) (last : Stamp) (w : Track) (y : Rest) → x ≡ readingOf (r .opening) t →
+      x ≡ Unreadable k → ledgerWith m last ≡ fatedOf (ledgerWith l (r .last)) (Fate.Unreadable k) (length t) → w ≡ spoiltOf (r .track) →
+      y ≡ countedRest r w last →
       (takenWith (record { rest = y; outcome = Outcome.Taken (plainly (Fate.Unreadable k)) }) m ≡ tookOf s t) × (buffer ≡ tookBuffer s buffer t)
   unfolding tookOf tookBuffer
-  took-unreadable x k m w y e i p v q = (rw (← e, i, q, p, v, with-unreadable l (r .last) (length t)), rw (← e, i))
+  took-unreadable x k m last w y e i p v q = (rw (← e, i, ← v) (fated-done (Fate.Unreadable k) (length t) m last w y p q), rw (← e, i))
 
   pub took-readable : (x : Reading) (h : Header) (y : Taken) (b : List ℕ) → x ≡ readingOf (r .opening) t → x ≡ Readable h →
       y ≡ readOf s h (length t - h .len) → b ≡ readBuffer s h buffer t → (y ≡ tookOf s t) × (b ≡ tookBuffer s buffer t)

@@ -277,11 +277,11 @@ impl Rest {
     {
         let o = self.opening;
         let track = self.track;
-        let last = self.last;
+        let was = self.last;
         let reading = payload::read(o, t);
         match reading {
             Reading::Idle => {
-                Ledger::plus(m, Ledger::IDLE, 1);
+                let last = Ledger::fated(m, was, Fate::Idle, 0);
                 RestTaken {
                     rest: self.counted(track, last),
                     outcome: Outcome::Taken(Answer {
@@ -291,7 +291,7 @@ impl Rest {
                 }
             }
             Reading::Unreadable(number) => {
-                Ledger::entered(m, Account::Unreadable, t.len() as u64);
+                let last = Ledger::fated(m, was, Fate::Unreadable(number), t.len() as u64);
                 RestTaken {
                     rest: self.counted(track.spoilt(), last),
                     outcome: Outcome::Taken(Answer {

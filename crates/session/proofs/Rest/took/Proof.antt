@@ -1,8 +1,6 @@
 use mathlib.Core.List.{[]}
 use denote.Ref.{now}
-use Rattle.ledger.specs.declared.Account.{Account}
-use Rattle.ledger.specs.Accounts.{idleAt}
-use Rattle.ledger.proofs.Rooms.{room-up, entering, adding}
+use Rattle.ledger.proofs.Rooms.{room-up}
 use Rattle.session.specs.Inner.{wholeOf}
 use Rattle.session.proofs.Calls.{took-idle, took-unreadable, took-readable, header-within}
 use Rattle.session.proofs.Ready.{ready-able}
@@ -17,11 +15,11 @@ read-requires c κs = search needs
 enum-told : tie.Need-enum-told
 enum-told c = search needs
 
-plus-requires : tie.Need-plus-requires
-plus-requires c κs =
+fated-requires : tie.Need-fated-requires
+fated-requires c κs =
     let s = c .before .before .before .before .before .before .before .before in
     let r = wholeOf (s .args .self) (now (s .args .m)) in
-    adding _ _ idleAt 1 (ready-able r (s .pre .0) .room) (omega arith) (omega arith) (omega arith)
+    (room-up _ _ _ (ready-able r (s .pre .0) .room) (omega arith), omega arith)
 
 counted-requires : tie.Need-counted-requires
 counted-requires c κs = search needs
@@ -29,12 +27,11 @@ counted-requires c κs = search needs
 enum-known-reading : tie.Need-enum-known-reading
 enum-known-reading c = search needs
 
-entered-requires : tie.Need-entered-requires
-entered-requires c κs =
+fated-requires-2 : tie.Need-fated-requires-2
+fated-requires-2 c κs =
     let s = c .before .before .before .before .before .before .before .before .before in
     let r = wholeOf (s .args .self) (now (s .args .m)) in
-    entering _ _ _ Account.Unreadable _ (room-up _ _ _ (ready-able r (s .pre .0) .room) (omega arith)) (λ e. omega arith)
-    (omega (arith, s .pre .2))
+    (room-up _ _ _ (ready-able r (s .pre .0) .room) (omega arith), omega (arith, s .pre .2))
 
 spoilt-requires : tie.Need-spoilt-requires
 spoilt-requires c κs = search needs
@@ -57,14 +54,14 @@ read-requires-2 c κs =
 returns : tie.Need-returns
 returns c =
     let s = c .before .before .before .before .before .before .before .before .before .before in
-    took-idle (s .args .self) (now (s .args .m)) (now (s .args .buffer)) (now (s .args .t)) _ _ _ (c .before .before .before .before .before .read .ensures)
-    (c .before .before .before .enum-told .given .1) (c .before .plus .ensures) (c .counted .ensures)
+    took-idle (s .args .self) (now (s .args .m)) (now (s .args .buffer)) (now (s .args .t)) _ _ _ _ (c .before .before .before .before .before .read .ensures)
+    (c .before .before .before .enum-told .given .1) (c .before .fated .ensures) (c .counted .ensures)
 
 returns-2 : tie.Need-returns-2
 returns-2 c =
     let s = c .before .before .before .before .before .before .before .before .before .before .before .before in
-    took-unreadable (s .args .self) (now (s .args .m)) (now (s .args .buffer)) (now (s .args .t)) _ _ _ _ _ (c .before .before .before .before .before .before .before .read .ensures)
-    (c .before .before .before .before .before .reading .given .1) (c .before .before .entered .ensures) (c .before .spoilt .ensures) (c .counted2 .ensures)
+    took-unreadable (s .args .self) (now (s .args .m)) (now (s .args .buffer)) (now (s .args .t)) _ _ _ _ _ _ (c .before .before .before .before .before .before .before .read .ensures)
+    (c .before .before .before .before .before .reading .given .1) (c .before .before .fated2 .ensures) (c .before .spoilt .ensures) (c .counted2 .ensures)
 
 same-length : tie.Need-same-length
 same-length c = search needs
@@ -81,10 +78,10 @@ took-spec =
     (tie.spec
     read-requires
     enum-told
-    plus-requires
+    fated-requires
     counted-requires
     enum-known-reading
-    entered-requires
+    fated-requires-2
     spoilt-requires
     counted-requires-2
     enum-known-reading-2
