@@ -13,12 +13,3 @@ aheadOf earlier later = (later + 2 ^ 32 - earlier) % 2 ^ 32
 abbrev pub stepOf : ℕ → ℕ → Step
 stepOf earlier later =
     pick (ltb (aheadOf earlier later) (2 ^ 31)) (Forward (aheadOf earlier later)) (Backward (2 ^ 32 - aheadOf earlier later))
-
--- zero or more adds to the ticks; negative adds 1 to backward and no ticks
-abbrev pub ticksOf : Step → ℕ
-ticksOf (Forward n) = n
-ticksOf (Backward n) = 0
-
-abbrev pub backOf : Step → ℕ
-backOf (Forward n) = 0
-backOf (Backward n) = 1
