@@ -5,12 +5,18 @@ use Rattle.rules.specs.declared.Verdict.the-variants.{Accepted}
 use Rattle.control_map.specs.declared.Map.the-variants.{Controls}
 use Rattle.text.specs.Decimal.{decimal}
 use Rattle.text.specs.Text.{bytes}
-use Rattle.block_text.specs.Lines.{frameLine, refusedLine}
-use Rattle.block_text.specs.Answers.{controlBy, mapText}
+use Rattle.words.specs.Words.{wordsOf}
+use Rattle.block_lines.specs.Lines.{frameLine}
+use Rattle.block_text.specs.Answers.{refusedText, controlBy, mapText}
 
-refused : refusedLine 16 4096 ≡ bytes "refused 16 at 4096\n"
-unfolding decimal
+refused : refusedText 13 4000 ≡ bytes "refused 13 at 4000\na source names nothing\n"
+unfolding decimal wordsOf
 refused = refl
+
+-- a number that is not in the table of words
+no-words : refusedText 17 0 ≡ bytes "refused 17 at 0\n"
+unfolding decimal wordsOf
+no-words = refl
 
 mapped : mapText (Controls 1 20 255) ≡ bytes "controls 1 20 255\n"
 unfolding decimal

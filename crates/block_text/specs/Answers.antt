@@ -1,4 +1,4 @@
--- What is printed of a whole answer: its lines, or the refusal's one line.
+-- What is printed of a whole answer: its lines; or the refusal's line, and its number in plain words.
 use mathlib.Core.Bool.{Bool, true, false}
 use mathlib.Core.List.{List, [], _∷_, _++_}
 use Prim.Native.Nat.{ℕ, _*_}
@@ -13,8 +13,9 @@ use Rattle.control_map.specs.declared.Map.the-variants.{Controls, Refused as Ma
 use Rattle.streaming.specs.declared.Streaming.{Streaming}
 use Rattle.probe.specs.declared.Probe.{Probe}
 use Rattle.text.specs.Text.{bytes, line, texts}
-use Rattle.block_text.specs.Lines.{entityLine, formatLine, frameLine, controlsLine, refusedLine, acceptedLine, lineMost}
-use Rattle.block_text.specs.Fields.{fieldsText}
+use Rattle.block_lines.specs.Lines.{entityLine, formatLine, frameLine, controlsLine, refusedLine, acceptedLine, lineMost}
+use Rattle.block_lines.specs.Fields.{fieldsText}
+use Rattle.words.specs.Words.{wordsOf}
 
 -- whether an answer is one, and no refusal: what the status tells
 abbrev pub isAccepted : Verdict → Bool
@@ -25,20 +26,24 @@ abbrev pub isGiven : Map → Bool
 isGiven (Controls a b c) = true
 isGiven (MapRefused k o) = false
 
+-- the rule's number and the place that breaks it; below, what is wrong. (A number that is not in the table of words has no second line)
+abbrev pub refusedText : ℕ → ℕ → List ℕ
+refusedText k o = refusedLine k o ++ wordsOf k
+
 -- the clock frequency, and the used places of the entity table
 abbrev pub tableText : Table → List ℕ
 tableText t = acceptedLine ++ (line (bytes "clock") (t .clock ∷ []) ++ texts entityLine (used t))
 
 abbrev pub controlBy : Verdict → Table → List ℕ
 controlBy Accepted t = tableText t
-controlBy (Refused k o) t = refusedLine k o
+controlBy (Refused k o) t = refusedText k o
 
 abbrev pub controlText : Control → List ℕ
 controlText c = controlBy (c .verdict) (c .table)
 
 abbrev pub mapText : Map → List ℕ
 mapText (Controls a b c) = controlsLine a b c
-mapText (MapRefused k o) = refusedLine k o
+mapText (MapRefused k o) = refusedText k o
 
 -- the endpoint, the link, the used formats, the used frames
 abbrev pub listedText : Streaming → List ℕ
@@ -48,7 +53,7 @@ listedText s =
 
 abbrev pub streamingBy : Verdict → Streaming → List ℕ
 streamingBy Accepted s = listedText s
-streamingBy (Refused k o) s = refusedLine k o
+streamingBy (Refused k o) s = refusedText k o
 
 abbrev pub streamingText : Streaming → List ℕ
 streamingText s = streamingBy (s .verdict) s
@@ -56,7 +61,7 @@ streamingText s = streamingBy (s .verdict) s
 -- the verdict of the check, and the fields
 abbrev pub probeText : Verdict → Probe → List ℕ
 probeText Accepted p = acceptedLine ++ fieldsText p
-probeText (Refused k o) p = refusedLine k o
+probeText (Refused k o) p = refusedText k o
 
 -- enough for any answer: the most lines are those of a streaming block, three and eight formats and 64 frames
 abbrev pub room : ℕ

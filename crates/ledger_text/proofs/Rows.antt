@@ -1,50 +1,14 @@
 -- What the code's tables say of each row: tests that antt computes, one row after the other.
-use mathlib.Core.Path.{_≡_, refl, sym, ap, subst, _∙_}
-use mathlib.Core.Bool.{Bool, true, false}
+use mathlib.Core.Path.{_≡_, sym, subst, _∙_}
 use mathlib.Core.List.{List, [], _∷_, map}
-use Prim.Native.Nat.{ℕ, zero, suc, _+_, _-_, _*_, _≤_, _<_}
-use native.Mathlib.Nat.{not-suc-le-zero, le-of-suc-le-suc}
+use Prim.Native.Nat.{ℕ, _+_, _-_, _*_, _≤_, _<_}
 use native.Mathlib.Omega.{arith}
-use lib.Dec.{T, eqb, eqb→eq, leb, leb→le}
+use lib.Dec.{eqb, eqb→eq, leb, leb→le}
 use lib.ListN.{length, take, drop, getD, length-map}
 use Rattle.ledger.specs.Accounts.{accountCount, numberCount, lineCount}
 use Rattle.text.specs.Text.{total, bytes}
+use Rattle.text.proofs.Computed.{below, equal, equal→eq}
 use Rattle.ledger_text.specs.Report.{rows, rowAt}
-
-abbrev both : Bool → Bool → Bool
-both true b = b
-both false b = false
-
-both-left : (a b : Bool) → T (both a b) → T a
-both-left true b t = tt
-both-left false b t = t
-
-both-right : (a b : Bool) → T (both a b) → T b
-both-right true b t = t
-both-right false b t = absurd t
-
--- the test f passes at each place below k
-abbrev every : (ℕ → Bool) → ℕ → Bool
-every f zero = true
-every f (suc k) = both (f zero) (every (λ i. f (suc i)) k)
-
-below : (f : ℕ → Bool) (k : ℕ) → T (every f k) → (i : ℕ) → i < k → T (f i)
-below f zero t i h = absurd (not-suc-le-zero h)
-below f (suc k) t zero h = both-left (f zero) (every (λ i. f (suc i)) k) t
-below f (suc k) t (suc i) h = below (λ j. f (suc j)) k (both-right (f zero) (every (λ i. f (suc i)) k) t) i (le-of-suc-le-suc h)
-
-abbrev equal : List ℕ → List ℕ → Bool
-equal [] [] = true
-equal [] (y ∷ ys) = false
-equal (x ∷ xs) [] = false
-equal (x ∷ xs) (y ∷ ys) = both (eqb x y) (equal xs ys)
-
-equal→eq : (xs ys : List ℕ) → T (equal xs ys) → xs ≡ ys
-equal→eq [] [] t = refl
-equal→eq [] (y ∷ ys) t = absurd t
-equal→eq (x ∷ xs) [] t = absurd t
-equal→eq (x ∷ xs) (y ∷ ys) t =
-    rw (eqb→eq x y (both-left (eqb x y) (equal xs ys) t)) (ap (λ (l : List ℕ). y ∷ l) (equal→eq xs ys (both-right (eqb x y) (equal xs ys) t)))
 
 -- the code's tables
 abbrev pub widths : List ℕ

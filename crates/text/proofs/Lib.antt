@@ -5,3 +5,4 @@ pub mod Texts
 pub mod Whole
 pub mod Values
 pub mod Different
+pub mod Computed

@@ -1,0 +1,88 @@
+-- EACH NUMBER FOR BLOCKS HAS WORDS, no other number has, and no two numbers have the same.
+use mathlib.Core.Path.{_≡_, refl, sym, ap, subst, _∙_}
+use mathlib.Core.Bool.{Bool, true, false, _||_, _&&_}
+use mathlib.Core.List.{List, [], _∷_, _++_}
+use Prim.Native.Nat.{ℕ, _≤_, _<_}
+use native.Mathlib.Omega.{arith}
+use borrow.Author.Tests.{ltb-true, ltb-false, lt-leb}
+use lib.Dec.{T, eqb, eqb→eq, ltb, leb}
+use Rattle.text.specs.Text.{bytes}
+use Rattle.text.proofs.Computed.{every, below, equal}
+use Rattle.words.specs.Words.{Entry, table, wordsOf}
+use Rattle.words.proofs.Right.{past}
+
+abbrev pub between : ℕ → ℕ → ℕ → Bool
+between least most n = leb n most && leb least n
+
+-- document 01's numbers for a control block, a streaming block and a probe block
+abbrev pub forBlocks : ℕ → Bool
+forBlocks n = between 1 16 n || (between 20 38 n || between 41 46 n)
+
+abbrev pub some : List ℕ → Bool
+some [] = false
+some (x ∷ xs) = true
+
+abbrev alike : Bool → Bool → Bool
+alike true b = b
+alike false true = false
+alike false false = true
+
+alike→eq : (a b : Bool) → T (alike a b) → a ≡ b
+alike→eq true true t = refl
+alike→eq true false t = absurd t
+alike→eq false true t = absurd t
+alike→eq false false t = refl
+
+low : (n : ℕ) → n < 47 → some (wordsOf n) ≡ forBlocks n
+unfolding wordsOf
+low n h = alike→eq (some (wordsOf n)) (forBlocks n) (below (λ i. alike (some (wordsOf i)) (forBlocks i)) 47 tt n h)
+
+high : (n : ℕ) → 47 ≤ n → some (wordsOf n) ≡ forBlocks n
+high n h = rw (past n h, lt-leb n 16 (omega arith), lt-leb n 38 (omega arith), lt-leb n 46 (omega arith))
+
+pub words-exactly : (n : ℕ) → some (wordsOf n) ≡ forBlocks n
+words-exactly n = by-test (ltb n 47) refl
+  where
+    by-test : (b : Bool) → ltb n 47 ≡ b → some (wordsOf n) ≡ forBlocks n
+    by-test true e = low n (ltb-true n 47 e)
+    by-test false e = high n (ltb-false n 47 e)
+
+-- the number that has these words
+abbrev numberBy : Bool → ℕ → (Unit {0} → ℕ) → ℕ
+numberBy true n more = n
+numberBy false n more = more tt
+
+abbrev numberIn : List Entry → List ℕ → ℕ
+numberIn [] l = 0
+numberIn (e ∷ es) l = numberBy (equal (bytes (e .words) ++ (10 ∷ [])) l) (e .number) (λ u. numberIn es l)
+
+-- a test that is asked only of a number that has words
+abbrev where-some : List ℕ → Bool → Bool
+where-some [] b = true
+where-some (x ∷ xs) b = b
+
+where-some→ : (l : List ℕ) (b : Bool) → some l ≡ true → T (where-some l b) → T b
+where-some→ [] b e t = absurd (subst T (sym e) tt)
+where-some→ (x ∷ xs) b e t = t
+
+bounded : (n : ℕ) → some (wordsOf n) ≡ true → n < 47
+bounded n e = by-test (ltb n 47) refl
+  where
+    by-test : (b : Bool) → ltb n 47 ≡ b → n < 47
+    by-test true h = ltb-true n 47 h
+    by-test false h =
+        let z : some [] ≡ true = rw (past n (ltb-false n 47 h)) at e in
+        absurd (subst T (sym z) tt)
+
+back : (n : ℕ) → some (wordsOf n) ≡ true → numberIn table (wordsOf n) ≡ n
+unfolding wordsOf
+back n e =
+    eqb→eq (numberIn table (wordsOf n)) n
+    (where-some→ (wordsOf n) (eqb (numberIn table (wordsOf n)) n) e
+    (below (λ i. where-some (wordsOf i) (eqb (numberIn table (wordsOf i)) i)) 47 tt n (bounded n e)))
+
+pub words-different : (n m : ℕ) → forBlocks n ≡ true → wordsOf n ≡ wordsOf m → n ≡ m
+words-different n m f e =
+    let s : some (wordsOf n) ≡ true = words-exactly n ∙ f in
+    let t : some (wordsOf m) ≡ true = ap some (sym e) ∙ s in
+    sym (back n s) ∙ (ap (λ (l : List ℕ). numberIn table l) e ∙ back m t)

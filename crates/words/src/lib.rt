@@ -1,0 +1,132 @@
+// A refusal's number in plain words.
+ghost use mathlib.Core.Path.{_≡_};
+ghost use Prim.Native.Nat.{_+_, _≤_, _<_};
+ghost use lib.ListN.{length};
+ghost use Rattle.text.specs.Put.{Put};
+ghost use Rattle.words.specs.Words.{wordsOf};
+
+// Numbers from here on have no words.
+const PAST: usize = 47;
+
+// How long the line of each number is, from 0 on, with its end; 0 where a number has no words.
+const WIDTHS: [usize; PAST] = [
+    0,
+    37,
+    39,
+    60,
+    65,
+    66,
+    67,
+    72,
+    33,
+    28,
+    40,
+    43,
+    40,
+    23,
+    34,
+    40,
+    50,
+    0,
+    0,
+    0,
+    35,
+    39,
+    42,
+    56,
+    63,
+    68,
+    68,
+    46,
+    54,
+    52,
+    48,
+    47,
+    50,
+    58,
+    66,
+    43,
+    43,
+    47,
+    49,
+    0,
+    0,
+    33,
+    58,
+    57,
+    67,
+    39,
+    43,
+];
+
+fn width(n: usize) -> usize
+    requires { ⌜ n < 47 ⌝ }
+    ensures { λ r. ⌜ (r ≡ length (wordsOf n)) × (r ≤ 72) ⌝ }
+{
+    WIDTHS[n]
+}
+
+// Inner: a number's line of words, of at most 72 bytes; nothing of a number that has none.
+pub fn put(buf: &mut [u8], at: usize, number: u8) -> usize
+    requires { ⌜ at + 72 ≤ length (now buf) ⌝ }
+    ensures { λ r. ⌜ Put (now (buf .entry)) at (wordsOf number) r (now (buf .exit)) ⌝ }
+    ensures { λ r. ⌜ r ≤ at + 72 ⌝ }
+{
+    let n = number as usize;
+    if PAST <= n {
+        return at;
+    }
+    // A line of 72 bytes for each number, from 0 on: its words, their end, and dots.
+    let lines: &[u8] = b"\
+........................................................................\
+the control block has under 12 bytes\n...................................\
+the control block has over 4,096 bytes\n.................................\
+the control block does not start with a VideoControl header\n............\
+the control header gives another total length than the block has\n.......\
+a control descriptor is shorter than 3 bytes or runs past the end\n......\
+a control descriptor is not of type 0x24, or a second header comes\n.....\
+a control descriptor has not the length or the control size of its kind\n\
+the camera's revision is not 1.5\n.......................................\
+a terminal or unit has ID 0\n............................................\
+two terminals or units have the same ID\n................................\
+there are more than 32 terminals and units\n.............................\
+a unit has no input pin or more than 16\n................................\
+a source names nothing\n.................................................\
+a source names an output terminal\n......................................\
+a chain of sources returns to its start\n................................\
+no camera terminal or processing unit has this ID\n......................\
+........................................................................\
+........................................................................\
+........................................................................\
+the entity table says more than 32\n.....................................\
+the streaming block has under 13 bytes\n.................................\
+the streaming block has over 16,384 bytes\n..............................\
+the streaming block does not start with an input header\n................\
+the input header gives another total length than the block has\n.........\
+a streaming descriptor is shorter than 3 bytes or runs past the end\n....\
+a streaming descriptor is not of type 0x24, or another header comes\n....\
+the camera has a format that is not read here\n..........................\
+a streaming descriptor has not the length of its kind\n..................\
+the endpoint sends to the camera instead of from it\n....................\
+the link is to no output terminal for streaming\n........................\
+the formats are not numbered 1, 2, .. in order\n.........................\
+a frame does not stand under a format of its kind\n......................\
+the frames of a format are not numbered 1, 2, .. in order\n..............\
+a frame's intervals are not sound, or its default is none of them\n......\
+there are more than 8 formats or 64 frames\n.............................\
+a format has not as many frames as it says\n.............................\
+a format's default frame is none of its frames\n.........................\
+the input header gives another number of formats\n.......................\
+........................................................................\
+........................................................................\
+the probe block has not 48 bytes\n.......................................\
+the probe block asks for a format that the camera has not\n..............\
+the probe block asks for a frame that its format has not\n...............\
+the probe block asks for an interval that its frame does not offer\n.....\
+the frame size is 0 or over 16,777,216\n.................................\
+the payload size is under 2 or over 65,536\n.............................\
+";
+    let from = 72 * n;
+    let to = from + width(n);
+    text::put(buf, at, &lines[from..to])
+}
