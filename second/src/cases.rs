@@ -169,7 +169,7 @@ fn verdict<T>(name: &str, v: &Result<T, Refusal>) -> String {
 }
 
 /// The entity table of a control block; none where it is refused.
-fn table(block: &[u8]) -> Table {
+pub fn table(block: &[u8]) -> Table {
     let entities = control::read(block).map_or(vec![], |c| c.entities);
     Table {
         count: entities.len(),

@@ -2,6 +2,8 @@
 //!
 //!   second corpus STDIN STDOUT       writes the stored cases, and what is to be printed of them
 //!   second compare N SEED COMMAND..  makes N cases from the seed, runs the command on them and compares what it prints
+//!   second programs N SEED PAGE FOLDER LAUNCHER
+//!                                    makes N runs of the launcher from the seed, with files in the folder and the words of the page, and compares
 
 mod blocks;
 mod cases;
@@ -9,6 +11,8 @@ mod compare;
 mod control;
 mod corpus;
 mod frames;
+mod printed;
+mod programs;
 mod random;
 mod session;
 mod streaming;
@@ -29,7 +33,11 @@ fn main() {
             (Ok(count), Ok(seed)) => compare::run(count, seed, command),
             _ => Err("compare: N and SEED are numbers".to_string()),
         },
-        _ => Err("usage: second corpus STDIN STDOUT | second compare N SEED COMMAND..".to_string()),
+        ["programs", count, seed, page, folder, launcher] => match (count.parse(), seed.parse()) {
+            (Ok(count), Ok(seed)) => programs::compare(count, seed, page, folder, launcher),
+            _ => Err("programs: N and SEED are numbers".to_string()),
+        },
+        _ => Err("usage: second corpus .., second compare .. or second programs ..: see main.rs".to_string()),
     };
     if let Err(problem) = done {
         eprintln!("{problem}");

@@ -194,7 +194,7 @@ pub fn control(r: &mut Random) -> Vec<u8> {
     blocks::control(r.next() as u32, &interfaces, &all)
 }
 
-fn maybe_damaged_control(r: &mut Random) -> Vec<u8> {
+pub fn maybe_damaged_control(r: &mut Random) -> Vec<u8> {
     let mut block = control(r);
     if r.once_in(2) {
         damage(r, &mut block, CONTROL_TOTAL);
@@ -203,7 +203,7 @@ fn maybe_damaged_control(r: &mut Random) -> Vec<u8> {
 }
 
 /// A control block whose output terminal with ID 9 is one that a streaming block can name.
-fn linked_control(r: &mut Random) -> Vec<u8> {
+pub fn linked_control(r: &mut Random) -> Vec<u8> {
     if r.once_in(12) {
         return maybe_damaged_control(r);
     }
@@ -308,7 +308,7 @@ pub fn streaming(r: &mut Random) -> (Vec<u8>, Vec<u32>) {
     (blocks::streaming(p as u8, endpoint, link, n, &all), offered)
 }
 
-fn maybe_damaged_streaming(r: &mut Random) -> (Vec<u8>, Vec<u32>) {
+pub fn maybe_damaged_streaming(r: &mut Random) -> (Vec<u8>, Vec<u32>) {
     let (mut block, offered) = streaming(r);
     if r.once_in(3) {
         damage(r, &mut block, STREAMING_TOTAL);
@@ -346,7 +346,7 @@ fn size_near(r: &mut Random, edges: &[u32]) -> u32 {
     }
 }
 
-fn probe(r: &mut Random, offered: &[u32]) -> Vec<u8> {
+pub fn probe(r: &mut Random, offered: &[u32]) -> Vec<u8> {
     let format = if r.once_in(5) { r.below(11) } else { 1 + r.below(2) } as u8;
     let frame = if r.once_in(5) { r.below(70) } else { 1 + r.below(2) } as u8;
     let interval = if r.once_in(6) { interval(r) } else { r.pick(offered) };
