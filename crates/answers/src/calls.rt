@@ -7,6 +7,7 @@ use frames::Ended;
 use frames::Fate;
 use frames::Reason;
 use ledger::Ledger;
+use ledger::Numbers;
 use payload::Stamp;
 use session::Closing;
 use session::Outcome;
@@ -214,11 +215,12 @@ fn delivered(d: Delivery) {
 }
 
 fn ledger(l: Ledger) {
-    print::text(b"ledger");
-    let mut i: usize = 0;
-    while i < Ledger::NUMBERS {
-        print::field(l.numbers[i]);
-        i += 1;
-    }
-    print::end();
+    let numbers = l.numbers;
+    each(numbers);
+}
+
+fn each(numbers: Numbers) {
+    let mut buf = [0u8; 7 + 21 * Ledger::NUMBERS];
+    let n = text::line(&mut buf, 0, b"ledger", &numbers);
+    print::front(&buf, n);
 }

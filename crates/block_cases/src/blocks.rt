@@ -1,4 +1,5 @@
 // Control and streaming blocks.
+use crate::lines;
 use cases::input;
 use cases::print;
 use control_map::Map;
@@ -18,34 +19,12 @@ pub fn control() -> bool {
     let c = control::read(&block[..n]);
     let verdict = c.verdict;
     let table = c.table;
-    print::verdict(b"control", verdict);
+    lines::verdict(b"control ", verdict);
     print::line(b"count", table.count as u64);
     print::line(b"clock", table.clock as u64);
-    used(table);
+    lines::entities(table);
     print::rest(rest_zero(table));
     true
-}
-
-fn used(t: Table) {
-    let n = t.count;
-    let mut i: usize = 0;
-    while i < 32 {
-        if n <= i {
-            return;
-        }
-        let e = t.entities[i];
-        entity(e);
-        i += 1;
-    }
-}
-
-fn entity(e: Entity) {
-    print::text(b"entity");
-    print::field(e.id as u64);
-    print::field(e.kind as u64);
-    print::field(e.terminal as u64);
-    print::field(e.offset as u64);
-    print::end();
 }
 
 // Whether every place past the used ones is all zero.
@@ -86,21 +65,13 @@ pub fn map() -> bool {
     }
     let id = input::byte();
     match control_map::controls(&block[..n], id) {
-        Map::Controls(a, b, c) => controls(a, b, c),
+        Map::Controls(a, b, c) => lines::controls(a, b, c),
         Map::Refused { number, offset } => {
-            print::text(b"map");
-            print::refused(number, offset);
+            print::text(b"map ");
+            lines::refused(number, offset);
         }
     }
     true
-}
-
-fn controls(a: u8, b: u8, c: u8) {
-    print::text(b"controls");
-    print::field(a as u64);
-    print::field(b as u64);
-    print::field(c as u64);
-    print::end();
 }
 
 pub fn streaming() -> bool {
@@ -130,67 +101,20 @@ fn against(table: Table) -> bool {
 
 fn described(s: Streaming) {
     let verdict = s.verdict;
-    print::verdict(b"streaming", verdict);
+    lines::verdict(b"streaming ", verdict);
     print::line(b"endpoint", s.endpoint as u64);
     print::line(b"link", s.link as u64);
     let formats = s.formats;
-    formats_used(formats, s.format_count);
+    print::line(b"formats", s.format_count as u64);
+    lines::formats(formats, s.format_count);
     let frames = s.frames;
-    frames_used(frames, s.frame_count);
+    print::line(b"frames", s.frame_count as u64);
+    lines::frames(frames, s.frame_count);
     if formats_rest(formats, s.format_count) {
         print::rest(frames_rest(frames, s.frame_count));
     } else {
         print::rest(false);
     }
-}
-
-fn formats_used(formats: [Format; 8], n: usize) {
-    print::line(b"formats", n as u64);
-    let mut i: usize = 0;
-    while i < 8 {
-        if n <= i {
-            return;
-        }
-        let f = formats[i];
-        format(f);
-        i += 1;
-    }
-}
-
-fn format(f: Format) {
-    print::text(b"format");
-    print::field(f.kind as u64);
-    print::field(f.guid as u64);
-    print::field(f.bits as u64);
-    print::field(f.frames as u64);
-    print::field(f.default as u64);
-    print::field(f.offset as u64);
-    print::end();
-}
-
-fn frames_used(frames: [Frame; 64], n: usize) {
-    print::line(b"frames", n as u64);
-    let mut i: usize = 0;
-    while i < 64 {
-        if n <= i {
-            return;
-        }
-        let f = frames[i];
-        frame(f);
-        i += 1;
-    }
-}
-
-fn frame(f: Frame) {
-    print::text(b"frame");
-    print::field(f.format as u64);
-    print::field(f.width as u64);
-    print::field(f.height as u64);
-    print::field(f.size as u64);
-    print::field(f.interval as u64);
-    print::field(f.k as u64);
-    print::field(f.offset as u64);
-    print::end();
 }
 
 fn formats_rest(formats: [Format; 8], n: usize) -> bool {

@@ -1,4 +1,5 @@
 // Probe blocks.
+use crate::lines;
 use cases::input;
 use cases::print;
 use probe::Probe;
@@ -24,7 +25,7 @@ pub fn check() -> bool {
     if !third.fine {
         return false;
     }
-    print::verdict(b"check", probe::check(table, &streaming[..m], &probe[..k]));
+    lines::verdict(b"check ", probe::check(table, &streaming[..m], &probe[..k]));
     true
 }
 
@@ -45,14 +46,14 @@ pub fn write() -> bool {
     let read = probe::read(&block[..n]);
     let verdict = read.verdict;
     let p = read.probe;
-    print::verdict(b"probe", verdict);
+    lines::verdict(b"probe ", verdict);
     fields(p);
     written(p, &mut room[..m]);
     true
 }
 
 fn written(p: Probe, room: &mut [u8]) {
-    print::verdict(b"write", probe::write(p, room));
+    lines::verdict(b"write ", probe::write(p, room));
     print::hex(b"room", room);
 }
 
@@ -104,10 +105,13 @@ fn coding(p: Probe) {
     print::half(p.rate_modes);
 }
 
-fn bytes(layout: [u8; 8]) {
-    let mut i: usize = 0;
-    while i < 8 {
-        print::field(layout[i] as u64);
-        i += 1;
-    }
+fn bytes(l: [u8; 8]) {
+    print::byte(l[0]);
+    print::byte(l[1]);
+    print::byte(l[2]);
+    print::byte(l[3]);
+    print::byte(l[4]);
+    print::byte(l[5]);
+    print::byte(l[6]);
+    print::byte(l[7]);
 }

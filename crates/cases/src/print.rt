@@ -1,6 +1,7 @@
 // The lines that are printed.
+ghost use Prim.Native.Nat.{_≤_};
+ghost use lib.ListN.{length};
 use libc::STDOUT_FILENO;
-use rules::Verdict;
 
 pub fn text(bytes: &[u8]) {
     io::write_all(STDOUT_FILENO, bytes);
@@ -28,27 +29,21 @@ pub fn word(n: u32) {
     field(n as u64);
 }
 
-pub fn line(name: &[u8], n: u64) {
-    text(name);
-    field(n);
-    end();
+// Inner: the first n bytes.
+pub fn front(bytes: &[u8], n: usize)
+    requires { ⌜ n ≤ length (now bytes) ⌝ }
+{
+    text(&bytes[..n]);
 }
 
-pub fn refused(number: u8, offset: usize) {
-    text(b" refused");
-    field(number as u64);
-    text(b" at");
-    field(offset as u64);
-    end();
-}
-
-// A reader's verdict, after its name.
-pub fn verdict(name: &[u8], v: Verdict) {
-    text(name);
-    match v {
-        Verdict::Accepted => text(b" accepted\n"),
-        Verdict::Refused { number, offset } => refused(number, offset),
-    }
+// Inner: a name, a number, and the line's end.
+pub fn line(name: &[u8], n: u64)
+    requires { ⌜ length (now name) ≤ 40 ⌝ }
+{
+    let mut buf = [0u8; 64];
+    let ns = [n];
+    let m = text::line(&mut buf, 0, name, &ns);
+    front(&buf, m);
 }
 
 pub fn rest(zero: bool) {

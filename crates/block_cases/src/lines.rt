@@ -1,0 +1,48 @@
+// The lines of an answer. Those of entities, formats, frames, controls and refusals are those that `describe` prints.
+use block_lines::LINE_MOST;
+use cases::print;
+use entities::Table;
+use rules::Verdict;
+use streaming_rules::FORMATS_MOST;
+use streaming_rules::FRAMES_MOST;
+use streaming_rules::Format;
+use streaming_rules::Frame;
+
+// A reader's verdict, after its name.
+pub fn verdict(name: &[u8], v: Verdict) {
+    print::text(name);
+    match v {
+        Verdict::Accepted => print::text(b"accepted\n"),
+        Verdict::Refused { number, offset } => refused(number, offset),
+    }
+}
+
+pub fn refused(number: u8, offset: usize) {
+    let mut buf = [0u8; LINE_MOST];
+    let n = block_lines::refused(&mut buf, 0, number, offset);
+    print::front(&buf, n);
+}
+
+pub fn entities(t: Table) {
+    let mut buf = [0u8; LINE_MOST * 32];
+    let n = block_lines::entities(&mut buf, 0, t);
+    print::front(&buf, n);
+}
+
+pub fn controls(a: u8, b: u8, c: u8) {
+    let mut buf = [0u8; LINE_MOST];
+    let n = block_lines::controls(&mut buf, 0, a, b, c);
+    print::front(&buf, n);
+}
+
+pub fn formats(all: [Format; FORMATS_MOST], count: usize) {
+    let mut buf = [0u8; LINE_MOST * 8];
+    let n = block_lines::formats(&mut buf, 0, all, count);
+    print::front(&buf, n);
+}
+
+pub fn frames(all: [Frame; FRAMES_MOST], count: usize) {
+    let mut buf = [0u8; LINE_MOST * 64];
+    let n = block_lines::frames(&mut buf, 0, all, count);
+    print::front(&buf, n);
+}
