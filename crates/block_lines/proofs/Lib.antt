@@ -1,3 +1,4 @@
 -- Laws of the blocks' lines.
 pub mod Tables
 pub mod Layouts
+pub mod Different

@@ -1,3 +1,4 @@
 -- Laws of the blocks' text.
 pub mod Unique
 pub mod Samples
+pub mod Different

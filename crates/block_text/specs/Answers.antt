@@ -30,13 +30,17 @@ isGiven (MapRefused k o) = false
 abbrev pub refusedText : ℕ → ℕ → List ℕ
 refusedText k o = refusedLine k o ++ wordsOf k
 
+-- the text of what was accepted, or the refusal
+abbrev pub toldBy : Verdict → List ℕ → List ℕ
+toldBy Accepted t = t
+toldBy (Refused k o) t = refusedText k o
+
 -- the clock frequency, and the used places of the entity table
 abbrev pub tableText : Table → List ℕ
 tableText t = acceptedLine ++ (line (bytes "clock") (t .clock ∷ []) ++ texts entityLine (used t))
 
 abbrev pub controlBy : Verdict → Table → List ℕ
-controlBy Accepted t = tableText t
-controlBy (Refused k o) t = refusedText k o
+controlBy v t = toldBy v (tableText t)
 
 abbrev pub controlText : Control → List ℕ
 controlText c = controlBy (c .verdict) (c .table)
@@ -52,16 +56,14 @@ listedText s =
     ++ (texts formatLine (take (s .«format_count») (s .formats)) ++ texts frameLine (take (s .«frame_count») (s .frames)))))
 
 abbrev pub streamingBy : Verdict → Streaming → List ℕ
-streamingBy Accepted s = listedText s
-streamingBy (Refused k o) s = refusedText k o
+streamingBy v s = toldBy v (listedText s)
 
 abbrev pub streamingText : Streaming → List ℕ
 streamingText s = streamingBy (s .verdict) s
 
 -- the verdict of the check, and the fields
 abbrev pub probeText : Verdict → Probe → List ℕ
-probeText Accepted p = acceptedLine ++ fieldsText p
-probeText (Refused k o) p = refusedText k o
+probeText v p = toldBy v (acceptedLine ++ fieldsText p)
 
 -- enough for any answer: the most lines are those of a streaming block, three and eight formats and 64 frames
 abbrev pub room : ℕ

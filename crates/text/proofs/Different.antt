@@ -5,7 +5,7 @@ use Prim.Native.Nat.{ℕ, _+_, _<_}
 use native.Mathlib.Omega.{arith}
 use lib.ListN.{length, take, drop, length-take, length-drop, take-append-drop}
 use Rattle.text.specs.Decimal.{decimal}
-use Rattle.text.specs.Text.{Row, number, numbers, line, lines, total}
+use Rattle.text.specs.Text.{Row, texts, number, numbers, line, lines, total}
 use Rattle.text.proofs.Values.{AllDigits, spells, decimal-different}
 
 -- a list that begins below the digits: with a space or a line end
@@ -71,3 +71,18 @@ lines-different (r ∷ rs) ns ms h k e =
     let d : drop c ns ≡ drop c ms
     = lines-different rs (drop c ns) (drop c ms) (simp length-drop (omega arith)) (simp length-drop (omega arith)) (w .1) in
     sym (take-append-drop c ns) ∙ (rw (w .0, d) (take-append-drop c ms))
+
+-- LISTS OF LINES tell their things: where a line tells its thing and what follows it, and what follows the last line begins with no such line
+module _ {A : Type 0} (f : A → List ℕ) (each : (x y : A) (s t : List ℕ) → f x ++ s ≡ f y ++ t → (x ≡ y) × (s ≡ t)) where
+  abbrev pub Ends : List ℕ → Type 0
+  Ends s = (x : A) (u : List ℕ) → f x ++ u ≡ s → ⊥
+
+  pub texts-different : (xs ys : List A) (s t : List ℕ) → Ends s → Ends t → texts f xs ++ s ≡ texts f ys ++ t → (xs ≡ ys) × (s ≡ t)
+  texts-different [] [] s t h k e = (refl, e)
+  texts-different [] (y ∷ ys) s t h k e = absurd (h y (texts f ys ++ t) (sym (e ∙ append-assoc (f y) (texts f ys) t)))
+  texts-different (x ∷ xs) [] s t h k e = absurd (k x (texts f xs ++ s) (sym (append-assoc (f x) (texts f xs) s) ∙ e))
+  texts-different (x ∷ xs) (y ∷ ys) s t h k e =
+      let r : f x ++ (texts f xs ++ s) ≡ f y ++ (texts f ys ++ t) = sym (append-assoc (f x) (texts f xs) s) ∙ (e ∙ append-assoc (f y) (texts f ys) t) in
+      let one : (x ≡ y) × (texts f xs ++ s ≡ texts f ys ++ t) = each x y (texts f xs ++ s) (texts f ys ++ t) r in
+      let rest : (xs ≡ ys) × (s ≡ t) = texts-different xs ys s t h k (one .1) in
+      (rw (one .0, rest .0), rest .1)

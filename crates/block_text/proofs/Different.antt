@@ -1,0 +1,126 @@
+-- BLOCKS THAT PRINT ALIKE ARE ALIKE: the same verdict and, where accepted, the same of all that is printed.
+use mathlib.Core.Path.{_≡_, refl, sym, ap, _∙_}
+use mathlib.Core.List.{List, [], _∷_, _++_, append-assoc, append-nil, append-cancel-left}
+use Prim.Native.Nat.{ℕ}
+use native.Mathlib.Omega.{arith}
+use lib.ListN.{length, take, getD}
+use Rattle.rules.specs.declared.Verdict.{Verdict}
+use Rattle.rules.specs.declared.Verdict.the-variants.{Accepted, Refused}
+use Rattle.entities.specs.declared.Entity.{Entity}
+use Rattle.entities.specs.declared.Table.{Table}
+use Rattle.entities.specs.Table.{used}
+use Rattle.control_map.specs.declared.Map.{Map}
+use Rattle.control_map.specs.declared.Map.the-variants.{Controls, Refused as MapRefused}
+use Rattle.streaming_rules.specs.declared.Format.{Format}
+use Rattle.streaming_rules.specs.declared.Frame.{Frame}
+use Rattle.streaming.specs.declared.Streaming.{Streaming}
+use Rattle.probe.specs.declared.Probe.{Probe}
+use Rattle.text.specs.Text.{bytes, number, line, texts}
+use Rattle.text.proofs.Different.{number-split, line-split, texts-different}
+use Rattle.words.specs.Words.{wordsOf}
+use Rattle.block_lines.specs.Lines.{entityLine, formatLine, frameLine, acceptedLine}
+use Rattle.block_lines.specs.Fields.{fieldsText}
+use Rattle.block_lines.proofs.Different.{entity-split, format-split, frame-split, fields-different}
+use Rattle.block_text.specs.Answers.{refusedText, toldBy, tableText, controlBy, mapText, listedText, streamingBy, probeText}
+
+abbrev first : List ℕ → ℕ
+first l = getD l 0 0
+
+-- ---- a refusal's text tells its number and its offset
+refused-split : (j l n m : ℕ) → refusedText j n ≡ refusedText l m → (j ≡ l) × (n ≡ m)
+refused-split j l n m e =
+    let s : List ℕ = line (bytes " at") (n ∷ []) in
+    let t : List ℕ = line (bytes " at") (m ∷ []) in
+    let r : number j ++ (s ++ wordsOf j) ≡ number l ++ (t ++ wordsOf l)
+    = sym (append-assoc (number j) s (wordsOf j)) ∙ (append-cancel-left (bytes "refused") ((number j ++ s) ++ wordsOf j) ((number l ++ t) ++ wordsOf l) e ∙ append-assoc (number l) t (wordsOf l)) in
+    let k : (j ≡ l) × (s ++ wordsOf j ≡ t ++ wordsOf l) = number-split j l (s ++ wordsOf j) (t ++ wordsOf l) (omega arith) (omega arith) r in
+    let w : ((n ∷ []) ≡ (m ∷ [])) × (wordsOf j ≡ wordsOf l) = line-split (bytes " at") (n ∷ []) (m ∷ []) (wordsOf j) (wordsOf l) refl (k .1) in
+    (k .0, ap first (w .0))
+
+not-accepted : (k o : ℕ) → Refused k o ≡ Accepted → ⊥
+not-accepted k o p = let z : _≡_ {A = ℕ} 0 1 = cc in omega arith
+
+-- an accepted text begins with a, and a refusal with r
+told-different : (v w : Verdict) (a b : List ℕ) → first a ≡ 97 → first b ≡ 97 → toldBy v a ≡ toldBy w b → (v ≡ w) × (v ≡ Accepted → a ≡ b)
+told-different Accepted Accepted a b h k e = (refl, λ p. e)
+told-different Accepted (Refused l m) a b h k e = let z : _≡_ {A = ℕ} 97 114 = sym h ∙ ap first e in absurd (omega arith)
+told-different (Refused j n) Accepted a b h k e = let z : _≡_ {A = ℕ} 114 97 = ap first e ∙ k in absurd (omega arith)
+told-different (Refused j n) (Refused l m) a b h k e = let s = refused-split j l n m e in (rw (s .0, s .1), λ p. absurd (not-accepted j n p))
+
+-- ---- A CONTROL BLOCK
+-- what an accepted control block shows
+pub record SameTable (t u : Table) : Type 0 where
+  pub clock : t .clock ≡ u .clock
+  pub entities : used t ≡ used u
+
+table-different : (t u : Table) → tableText t ≡ tableText u → SameTable t u
+table-different t u e =
+    let a : line (bytes "clock") (t .clock ∷ []) ++ texts entityLine (used t) ≡ line (bytes "clock") (u .clock ∷ []) ++ texts entityLine (used u)
+    = append-cancel-left acceptedLine (line (bytes "clock") (t .clock ∷ []) ++ texts entityLine (used t)) (line (bytes "clock") (u .clock ∷ []) ++ texts entityLine (used u)) e in
+    let c = line-split (bytes "clock") (t .clock ∷ []) (u .clock ∷ []) (texts entityLine (used t)) (texts entityLine (used u)) refl a in
+    let ends : (x : Entity) (v : List ℕ) → entityLine x ++ v ≡ [] → ⊥ = λ x v q. let z : _≡_ {A = ℕ} 101 0 = ap first q in omega arith in
+    let l = texts-different entityLine entity-split (used t) (used u) [] [] ends ends (ap (λ (r : List ℕ). r ++ []) (c .1)) in
+    record { clock = ap first (c .0); entities = l .0 }
+
+pub control-different : (v w : Verdict) (t u : Table) → controlBy v t ≡ controlBy w u → (v ≡ w) × (v ≡ Accepted → SameTable t u)
+control-different v w t u e =
+    let h = told-different v w (tableText t) (tableText u) refl refl e in
+    (h .0, λ p. table-different t u (h .1 p))
+
+-- ---- A UNIT'S CONTROLS
+pub map-different : (m n : Map) → mapText m ≡ mapText n → m ≡ n
+map-different (Controls a b c) (Controls d g f) e =
+    let w = line-split (bytes "controls") (a ∷ b ∷ c ∷ []) (d ∷ g ∷ f ∷ []) [] [] refl (ap (λ (r : List ℕ). r ++ []) e) in
+    ap (λ (l : List ℕ). Controls (getD l 0 0) (getD l 1 0) (getD l 2 0)) (w .0)
+map-different (Controls a b c) (MapRefused l m) e = let z : _≡_ {A = ℕ} 99 114 = ap first e in absurd (omega arith)
+map-different (MapRefused j n) (Controls d g f) e = let z : _≡_ {A = ℕ} 114 99 = ap first e in absurd (omega arith)
+map-different (MapRefused j n) (MapRefused l m) e = let s = refused-split j l n m e in rw (s .0, s .1)
+
+-- ---- A STREAMING BLOCK
+abbrev pub formatsOf : Streaming → List Format
+formatsOf s = take (s .«format_count») (s .formats)
+
+abbrev pub framesOf : Streaming → List Frame
+framesOf s = take (s .«frame_count») (s .frames)
+
+-- what an accepted streaming block shows
+pub record SameListing (s t : Streaming) : Type 0 where
+  pub endpoint : s .endpoint ≡ t .endpoint
+  pub link : s .link ≡ t .link
+  pub formats : formatsOf s ≡ formatsOf t
+  pub frames : framesOf s ≡ framesOf t
+
+-- a format's line does not begin as a frame's does, nor is there one in nothing
+no-format : (l : List Frame) (x : Format) (u : List ℕ) → formatLine x ++ u ≡ texts frameLine l ++ [] → ⊥
+no-format [] x u e = let z : _≡_ {A = ℕ} 102 0 = ap first e in omega arith
+no-format (f ∷ l) x u e = let z : _≡_ {A = ℕ} 111 114 = ap (λ (r : List ℕ). getD r 1 0) e in omega arith
+
+no-frame : (x : Frame) (u : List ℕ) → frameLine x ++ u ≡ [] → ⊥
+no-frame x u e = let z : _≡_ {A = ℕ} 102 0 = ap first e in omega arith
+
+listed-different : (s t : Streaming) → listedText s ≡ listedText t → SameListing s t
+listed-different s t e =
+    let fs = texts formatLine (formatsOf s) ++ texts frameLine (framesOf s) in
+    let ft = texts formatLine (formatsOf t) ++ texts frameLine (framesOf t) in
+    let ls = line (bytes "link") (s .link ∷ []) ++ fs in
+    let lt = line (bytes "link") (t .link ∷ []) ++ ft in
+    let a : line (bytes "endpoint") (s .endpoint ∷ []) ++ ls ≡ line (bytes "endpoint") (t .endpoint ∷ []) ++ lt
+    = append-cancel-left acceptedLine (line (bytes "endpoint") (s .endpoint ∷ []) ++ ls) (line (bytes "endpoint") (t .endpoint ∷ []) ++ lt) e in
+    let b = line-split (bytes "endpoint") (s .endpoint ∷ []) (t .endpoint ∷ []) ls lt refl a in
+    let c = line-split (bytes "link") (s .link ∷ []) (t .link ∷ []) fs ft refl (b .1) in
+    let d : texts formatLine (formatsOf s) ++ (texts frameLine (framesOf s) ++ []) ≡ texts formatLine (formatsOf t) ++ (texts frameLine (framesOf t) ++ [])
+    = rw (append-nil (texts frameLine (framesOf s)), append-nil (texts frameLine (framesOf t))) (c .1) in
+    let g = texts-different formatLine format-split (formatsOf s) (formatsOf t) (texts frameLine (framesOf s) ++ []) (texts frameLine (framesOf t) ++ []) (no-format (framesOf s)) (no-format (framesOf t)) d in
+    let h = texts-different frameLine frame-split (framesOf s) (framesOf t) [] [] no-frame no-frame (g .1) in
+    record { endpoint = ap first (b .0); link = ap first (c .0); formats = g .0; frames = h .0 }
+
+pub streaming-different : (v w : Verdict) (s t : Streaming) → streamingBy v s ≡ streamingBy w t → (v ≡ w) × (v ≡ Accepted → SameListing s t)
+streaming-different v w s t e =
+    let h = told-different v w (listedText s) (listedText t) refl refl e in
+    (h .0, λ p. listed-different s t (h .1 p))
+
+-- ---- A PROBE BLOCK: its layout has eight numbers
+pub probe-different : (v w : Verdict) (p q : Probe) → length (p .layout) ≡ 8 → length (q .layout) ≡ 8 → probeText v p ≡ probeText w q → (v ≡ w) × (v ≡ Accepted → p ≡ q)
+probe-different v w p q h k e =
+    let t = told-different v w (acceptedLine ++ fieldsText p) (acceptedLine ++ fieldsText q) refl refl e in
+    (t .0, λ a. fields-different p q h k (append-cancel-left acceptedLine (fieldsText p) (fieldsText q) (t .1 a)))
