@@ -7,7 +7,7 @@ use native.Mathlib.Omega.{arith}
 use borrow.Author.Tests.{ltb-true, ltb-false, lt-leb}
 use lib.Dec.{T, eqb, eqb→eq, ltb, leb}
 use Rattle.text.specs.Text.{bytes}
-use Rattle.text.proofs.Computed.{every, below, equal}
+use Rattle.text.proofs.Computed.{below, equal}
 use Rattle.words.specs.Words.{Entry, table, wordsOf}
 use Rattle.words.proofs.Right.{past}
 
