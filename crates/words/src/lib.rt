@@ -9,7 +9,7 @@ ghost use Rattle.words.specs.Words.{wordsOf};
 const PAST: usize = 47;
 
 // How long the line of each number is, from 0 on, with its end; 0 where a number has no words.
-const WIDTHS: [usize; PAST] = [
+const WIDTHS: [u8; PAST] = [
     0,
     37,
     39,
@@ -59,7 +59,7 @@ const WIDTHS: [usize; PAST] = [
     43,
 ];
 
-fn width(n: usize) -> usize
+fn width(n: usize) -> u8
     requires { ⌜ n < 47 ⌝ }
     ensures { λ r. ⌜ (r ≡ length (wordsOf n)) × (r ≤ 72) ⌝ }
 {
@@ -127,6 +127,6 @@ the frame size is 0 or over 16,777,216\n.................................\
 the payload size is under 2 or over 65,536\n.............................\
 ";
     let from = 72 * n;
-    let to = from + width(n);
+    let to = from + width(n) as usize;
     text::put(buf, at, &lines[from..to])
 }

@@ -17,6 +17,9 @@ mul-from c = search needs
 width-requires : tie.Need-width-requires
 width-requires c κs = search needs
 
+cast-to : tie.Need-cast-to
+cast-to c = search needs
+
 add-to : tie.Need-add-to
 add-to c = search needs
 
@@ -49,6 +52,7 @@ put-spec =
     slice-aggregate-lines
     mul-from
     width-requires
+    cast-to
     add-to
     sub-put
     part-put-start

@@ -4,9 +4,6 @@ use Rattle.words.proofs.Right.{width-right}
 use Rattle.words.proofs.width.Statement.{statement}
 use Rattle.words.proofs.width.Tie as tie
 
-mul-result : tie.Need-mul-result
-mul-result c = search needs
-
 array-read-result : tie.Need-array-read-result
 array-read-result c = search needs
 
@@ -15,4 +12,4 @@ unfolding wordsOf
 returns c = width-right (c .args .n) (c .pre)
 
 pub width-spec : {M : Type 1} → statement M
-width-spec = tie.close (tie.spec mul-result array-read-result returns)
+width-spec = tie.close (tie.spec array-read-result returns)
