@@ -11,8 +11,9 @@ use lib.Bits.{bitOr}
 use borrow.Author.Count.{below-more}
 use Rattle.rules.specs.Chain.{Chain, Chain.one, Chain.more}
 use Rattle.rules.proofs.Firsts.{lt-or-ge}
-use Rattle.graph.specs.Rows.{places, bitOf, Bit, Edge, Through}
-use Rattle.graph.proofs.Bits.{bit-zero, or-cases, or-l, or-r}
+use Rattle.bits.specs.Bits.{bitOf, Bit}
+use Rattle.bits.proofs.Bits.{bit-zero, or-cases, or-l, or-r}
+use Rattle.graph.specs.Rows.{places, Edge, Through}
 
 pub data Via (E : ℕ → ℕ → Type 0) (k : ℕ) : ℕ → ℕ → Type 0 where
   straight : {i j : ℕ} → E i j → Via E k i j

@@ -1,4 +1,3 @@
 -- The laws that belong to no one function.
-pub mod Bits
 pub mod Chains
 pub mod Unique

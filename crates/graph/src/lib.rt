@@ -3,9 +3,9 @@ ghost use mathlib.Core.Path.{_≡_};
 ghost use mathlib.Core.Logic.{_↔_};
 ghost use Prim.Native.Nat.{ℕ, _<_};
 ghost use lib.ListN.{length};
-ghost use lib.Dec.{eqb};
 ghost use Rattle.rules.specs.Chain.{Chain, FirstLoop};
-ghost use Rattle.graph.specs.Rows.{places, bitOf, Edge, Through};
+ghost use Rattle.bits.specs.Bits.{hasBit};
+ghost use Rattle.graph.specs.Rows.{places, Edge, Through};
 
 // The places of a graph, and the bits of a row.
 pub const PLACES: usize = 32;
@@ -58,7 +58,7 @@ fn round(m: &mut [u32; PLACES], k: usize)
 
 fn bit(x: u32, j: usize) -> bool
     requires { ⌜ j < places ⌝ }
-    ensures { λ r. ⌜ r ≡ eqb (bitOf x j) 1 ⌝ }
+    ensures { λ r. ⌜ r ≡ hasBit x j ⌝ }
 {
-    (x >> j) % 2 == 1
+    bits::has(x as u64, j)
 }

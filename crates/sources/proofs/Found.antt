@@ -7,8 +7,9 @@ use lib.Dec.{eqb}
 use lib.Seq.{getD-take}
 use borrow.Author.Tests.{eq-eqb, eqb-true}
 use native.Mathlib.Omega.{arith}
-use Rattle.graph.specs.Rows.{places, Bit}
-use Rattle.graph.proofs.Bits.{bit-zero, one-bit, one-bit-only, shl-one}
+use Rattle.bits.specs.Bits.{Bit}
+use Rattle.bits.proofs.Bits.{bit-zero, one-bit, one-bit-only, shl-one}
+use Rattle.graph.specs.Rows.{places}
 use Rattle.entities.specs.Table.{entityAt, used}
 use Rattle.entities.specs.declared.Table.{Table}
 use Rattle.entities.specs.declared.Found.{Found}

@@ -16,8 +16,9 @@ use Rattle.rules.specs.First.{First}
 use Rattle.rules.specs.Chain.{Chain, Chain.one, Chain.more, OnLoop, FirstLoop}
 use Rattle.rules.specs.declared.Verdict.the-variants.{Accepted, Refused}
 use Rattle.rules.proofs.Firsts.{lt-or-ge}
-use Rattle.graph.specs.Rows.{places, bitOf, Bit, Edge}
-use Rattle.graph.proofs.Bits.{bit-zero}
+use Rattle.bits.specs.Bits.{bitOf, Bit}
+use Rattle.bits.proofs.Bits.{bit-zero}
+use Rattle.graph.specs.Rows.{places, Edge}
 use Rattle.entities.specs.Table.{entitiesMost, entityAt, used}
 use Rattle.entities.specs.declared.Table.{Table}
 use Rattle.sources.specs.Sources.{Names, Feeds, Breaks13, Breaks14, None, Judged, Judged.thirteen, Judged.fourteen, Judged.fifteen, Judged.fine}

@@ -9,8 +9,8 @@ use lib.Bits.{bitOr}
 use native.Mathlib.Omega.{arith}
 use native.Mathlib.Nat.{eq-or-lt-of-le}
 use Rattle.rules.proofs.Rows.{or-either}
-use Rattle.graph.specs.Rows.{Bit}
-use Rattle.graph.proofs.Bits.{bit-zero, or-cases, or-l, or-r}
+use Rattle.bits.specs.Bits.{Bit}
+use Rattle.bits.proofs.Bits.{bit-zero, or-cases, or-l, or-r}
 use Rattle.entities.specs.Table.{entityAt, findFrom, used}
 use Rattle.entities.specs.declared.Table.{Table}
 use Rattle.entities.proofs.Finding.{found-within}

@@ -4,7 +4,7 @@ use mathlib.Core.Path.{_≡_}
 use mathlib.Core.List.{List}
 use mathlib.Core.Logic.{_↔_}
 use mathlib.Core.Bool.{Bool, true}
-use Rattle.graph.specs.Rows.{Bit}
+use Rattle.bits.specs.Bits.{Bit}
 use Rattle.entities.specs.declared.Entity.{Entity}
 use Rattle.sources.specs.Sources.{Lost, Names, ToOutput}
 

@@ -3,7 +3,7 @@ ghost use mathlib.Core.Path.{_≡_};
 ghost use mathlib.Core.Bool.{true};
 ghost use mathlib.Core.Logic.{_↔_};
 ghost use Prim.Native.Nat.{ℕ, _<_, _≤_};
-ghost use Rattle.graph.specs.Rows.{Bit};
+ghost use Rattle.bits.specs.Bits.{Bit};
 ghost use Rattle.entities.specs.Table.{entitiesMost, used, entityAt};
 ghost use Rattle.entities.specs.declared.Found.the-variants.{At, Nothing};
 ghost use Rattle.control_rules.specs.Descriptors.{kindOf, sourceCount, sourcePlace};

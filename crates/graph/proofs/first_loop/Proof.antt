@@ -5,7 +5,8 @@ use borrow.Author.Needs.{needs}
 use borrow.Author.Count.{below-more}
 use borrow.Author.Tests.{eqb-true, eqb-false}
 use lib.ListN.{getD}
-use Rattle.graph.specs.Rows.{places, bitOf, Edge}
+use Rattle.bits.specs.Bits.{bitOf}
+use Rattle.graph.specs.Rows.{places, Edge}
 use Rattle.graph.proofs.first_loop.Statement.{statement}
 use Rattle.graph.proofs.first_loop.Tie as tie
 

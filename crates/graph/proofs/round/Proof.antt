@@ -5,7 +5,8 @@ use native.Mathlib.Omega.{arith}
 use borrow.Author.Needs.{needs}
 use lib.ListN.{getD}
 use borrow.Author.Tests.{eqb-true, eqb-false}
-use Rattle.graph.specs.Rows.{places, bitOf}
+use Rattle.bits.specs.Bits.{bitOf}
+use Rattle.graph.specs.Rows.{places}
 use Rattle.graph.proofs.Chains.{Rounding, rounding, taken-in, stays, rounded}
 use Rattle.graph.proofs.round.Statement.{statement}
 use Rattle.graph.proofs.round.Tie as tie

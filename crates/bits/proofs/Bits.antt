@@ -1,17 +1,14 @@
--- The laws of a number's bits, at every width: what a union has, and what one mark more has.
+-- The laws of a number's bits, at every width: what a union has, and what one bit alone has.
 use Prim.Native.Nat.{ℕ, zero, suc, _+_, _*_, _-_, _/_, _%_, _^_, _≤_, _<_, max}
-use mathlib.Core.Path.{_≡_, refl, sym, ap, _∙_}
-use mathlib.Core.Bool.{Bool, true, false}
+use mathlib.Core.Path.{_≡_, sym, ap, _∙_}
 use mathlib.Core.Logic.{_⊎_, inl, inr, ⊎-elim}
 use native.Mathlib.Omega.{arith}
 use native.Mathlib.Nat.{mod-lt, zero-lt-suc, zero-div, div-eq-of-lt, lt-of-lt-of-le, mul-mod-left, pow-suc, one-mul, mod-eq-of-lt, eq-or-lt-of-le}
 use lib.Arith.{digits-mod}
 use lib.Bits.{bitOr, or-shr, or-step}
 use lib.Pow.{pow-mono, pow-lt, pow-add, shl-shr}
-use lib.Dec.{eqb}
-use borrow.Author.Tests.{eqb-true, eqb-false}
 use Rattle.rules.proofs.Firsts.{lt-or-ge}
-use Rattle.graph.specs.Rows.{bitOf, Bit}
+use Rattle.bits.specs.Bits.{bitOf, Bit}
 
 pub bit-lt : (x j : ℕ) → bitOf x j < 2
 unfolding bitOf
@@ -49,14 +46,7 @@ or-l x y j h = bit-or x y j ∙ omega (arith, bit-lt y j)
 pub or-r : (x y j : ℕ) → Bit y j → Bit (bitOr x y) j
 or-r x y j h = bit-or x y j ∙ omega (arith, bit-lt x j)
 
-pub bit-dec : (x j : ℕ) → Bit x j ⊎ (Bit x j → ⊥)
-bit-dec x j = go (eqb (bitOf x j) 1) refl
-  where
-    go : (b : Bool) → eqb (bitOf x j) 1 ≡ b → Bit x j ⊎ (Bit x j → ⊥)
-    go true e = inl (eqb-true (bitOf x j) 1 e)
-    go false e = inr (eqb-false (bitOf x j) 1 e)
-
--- ---- one mark
+-- ---- one bit
 pow-even : (d : ℕ) → 2 ^ suc d % 2 ≡ 0
 pow-even d = ap (λ (x : ℕ). x % 2) (pow-suc 2 d) ∙ mul-mod-left (2 ^ d) 2
 
@@ -82,13 +72,3 @@ one-bit k = ap (λ (x : ℕ). x / 2 ^ k % 2) (sym (one-mul (2 ^ k))) ∙ ap (λ 
 -- `1 << k` at width w
 pub shl-one : (w k : ℕ) → k < w → (1 * 2 ^ k) % 2 ^ w ≡ 2 ^ k
 shl-one w k l = ap (λ (x : ℕ). x % 2 ^ w) (one-mul (2 ^ k)) ∙ mod-eq-of-lt (pow-lt l)
-
--- x | (1 << k): x's marks and k
-pub mark-cases : (w x k j : ℕ) → k < w → Bit (bitOr x ((1 * 2 ^ k) % 2 ^ w)) j → Bit x j ⊎ (j ≡ k)
-mark-cases w x k j l h = ⊎-elim (λ p. inl p) (λ p. inr (one-bit-only k j p)) (or-cases x (2 ^ k) j (rw (shl-one w k l) at h))
-
-pub mark-kept : (w x k j : ℕ) → Bit x j → Bit (bitOr x ((1 * 2 ^ k) % 2 ^ w)) j
-mark-kept w x k j h = or-l x _ j h
-
-pub mark-made : (w x k : ℕ) → k < w → Bit (bitOr x ((1 * 2 ^ k) % 2 ^ w)) k
-mark-made w x k l = rw (shl-one w k l) (or-r x (2 ^ k) k (one-bit k))

@@ -1,0 +1,8 @@
+-- Each promise leaves one answer.
+use Prim.Native.Nat.{ℕ}
+use mathlib.Core.Path.{_≡_, sym, _∙_}
+use mathlib.Core.Bool.{Bool}
+use Rattle.bits.specs.Bits.{hasBit}
+
+pub has-unique : (x j : ℕ) (r s : Bool) → r ≡ hasBit x j → s ≡ hasBit x j → r ≡ s
+has-unique x j r s p q = p ∙ sym q
