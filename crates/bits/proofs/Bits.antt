@@ -1,14 +1,17 @@
--- The laws of a number's bits, at every width: what a union has, and what one bit alone has.
+-- The laws of a number's bits, at every width: what a union has, what one bit alone has, and what a number with one bit more has.
 use Prim.Native.Nat.{ℕ, zero, suc, _+_, _*_, _-_, _/_, _%_, _^_, _≤_, _<_, max}
-use mathlib.Core.Path.{_≡_, sym, ap, _∙_}
+use mathlib.Core.Path.{_≡_, refl, sym, ap, _∙_}
+use mathlib.Core.Bool.{Bool, true, false, _||_, or-true, or-false}
 use mathlib.Core.Logic.{_⊎_, inl, inr, ⊎-elim}
 use native.Mathlib.Omega.{arith}
 use native.Mathlib.Nat.{mod-lt, zero-lt-suc, zero-div, div-eq-of-lt, lt-of-lt-of-le, mul-mod-left, pow-suc, one-mul, mod-eq-of-lt, eq-or-lt-of-le}
 use lib.Arith.{digits-mod}
 use lib.Bits.{bitOr, or-shr, or-step}
 use lib.Pow.{pow-mono, pow-lt, pow-add, shl-shr}
+use lib.Dec.{eqb}
+use borrow.Author.Tests.{eq-eqb, eqb-true, eqb-false}
 use Rattle.rules.proofs.Firsts.{lt-or-ge}
-use Rattle.bits.specs.Bits.{bitOf, Bit}
+use Rattle.bits.specs.Bits.{bitOf, Bit, hasBit, withBit}
 
 pub bit-lt : (x j : ℕ) → bitOf x j < 2
 unfolding bitOf
@@ -72,3 +75,20 @@ one-bit k = ap (λ (x : ℕ). x / 2 ^ k % 2) (sym (one-mul (2 ^ k))) ∙ ap (λ 
 -- `1 << k` at width w
 pub shl-one : (w k : ℕ) → k < w → (1 * 2 ^ k) % 2 ^ w ≡ 2 ^ k
 shl-one w k l = ap (λ (x : ℕ). x % 2 ^ w) (one-mul (2 ^ k)) ∙ mod-eq-of-lt (pow-lt l)
+
+-- ---- one bit more: those that x has, and this one
+pub with-has : (x i j : ℕ) → hasBit (withBit x i) j ≡ (hasBit x j || eqb i j)
+unfolding withBit
+with-has x i j = go (eqb i j) refl
+  where
+    other : (i ≡ j → ⊥) → bitOf (2 ^ i) j ≡ 0
+    other n = let l = bit-lt (2 ^ i) j in let m : bitOf (2 ^ i) j ≡ 1 → ⊥ = λ b. n (sym (one-bit-only i j b)) in omega arith
+
+    go : (b : Bool) → eqb i j ≡ b → eqb (bitOf (bitOr x (2 ^ i)) j) 1 ≡ (eqb (bitOf x j) 1 || eqb i j)
+    go true e =
+        let k : i ≡ j = eqb-true i j e in
+        rw (e, or-true) (eq-eqb (bitOf (bitOr x (2 ^ i)) j) 1 (or-r x (2 ^ i) j (rw k (one-bit j))))
+    go false e =
+        let z = other (eqb-false i j e) in
+        let k : bitOf (bitOr x (2 ^ i)) j ≡ bitOf x j = bit-or x (2 ^ i) j ∙ omega arith in
+        rw (e, or-false, k)

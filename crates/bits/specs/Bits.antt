@@ -2,6 +2,7 @@
 use Prim.Native.Nat.{ℕ, _/_, _%_, _^_}
 use mathlib.Core.Path.{_≡_}
 use mathlib.Core.Bool.{Bool}
+use lib.Bits.{bitOr}
 use lib.Dec.{eqb}
 
 -- the bits of a word
@@ -18,3 +19,7 @@ Bit x j = bitOf x j ≡ 1
 
 abbrev pub hasBit : ℕ → ℕ → Bool
 hasBit x j = eqb (bitOf x j) 1
+
+-- x with bit j set too
+unfoldable pub withBit : ℕ → ℕ → ℕ
+withBit x j = bitOr x (2 ^ j)

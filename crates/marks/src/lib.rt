@@ -1,21 +1,25 @@
-// The marks of the repeated-ID test: a set of IDs, kept as 256 places, one a byte. Nothing outside this crate knows how.
+// The marks of the repeated-ID test: a set of IDs, kept as the bits of four words. Nothing outside this crate knows how.
 ghost use mathlib.Core.Path.{_≡_};
 ghost use Rattle.marks.specs.Marks.{noMarks, marked, withMark};
+use bits::WIDTH;
 
-pub type Marks = [u8; 256];
+// Four words have a bit for each of 256 IDs.
+const WORDS: usize = 4;
+
+pub type Marks = [u64; WORDS];
 
 // No ID is marked.
 pub fn none() -> Marks
     ensures { λ r. ⌜ r ≡ noMarks ⌝ }
 {
-    [0u8; 256]
+    [0u64; WORDS]
 }
 
 pub fn has(m: &Marks, id: u8) -> bool
     ensures { λ r. ⌜ r ≡ marked (now (m .entry)) id ⌝ }
 {
     let i = le::wide(id);
-    m[i] == 1
+    bits::has(m[i / WIDTH], i % WIDTH)
 }
 
 // The ID is marked too.
@@ -23,5 +27,6 @@ pub fn with(m: &mut Marks, id: u8)
     ensures { λ _. ⌜ now (m .exit) ≡ withMark (now (m .entry)) id ⌝ }
 {
     let i = le::wide(id);
-    m[i] = 1;
+    let word = m[i / WIDTH];
+    m[i / WIDTH] = bits::with(word, i % WIDTH);
 }
