@@ -2,8 +2,8 @@
 
 use crate::blocks::{self, CONTROL_TOTAL, STREAMING_TOTAL};
 use crate::cases::Case;
-use crate::session::{Phase, Record};
 use crate::frames::Call;
+use crate::session::{Phase, Record};
 use crate::streaming::Place;
 
 /// splitmix64.
@@ -123,6 +123,10 @@ pub fn control(r: &mut Random) -> Vec<u8> {
         _ => 1 + r.below(8),
     };
     let mut ids: Vec<u8> = if r.once_in(3) { (1..=255).collect() } else { (1..=40).collect() };
+    if r.once_in(3) {
+        let first = r.below(ids.len());
+        ids.rotate_left(first);
+    }
     if r.once_in(3) {
         r.shuffle(&mut ids);
     }

@@ -111,6 +111,21 @@ fn control_descriptors() -> Vec<Vec<u8>> {
         d.push(last);
         all.push(whole(d));
     }
+    // IDs around 64, 128 and 192, and the last ones; then IDs that are 64 apart. None is repeated, then each in turn.
+    for ids in [
+        vec![62, 63, 64, 65, 126, 127, 128, 129, 190, 191, 192, 193, 254, 255],
+        vec![1, 65, 129, 193],
+        vec![64, 128, 192],
+        vec![63, 127, 191, 255],
+    ] {
+        let once: Vec<Vec<u8>> = ids.iter().map(|&id| input(id, 0x0401, &[])).collect();
+        all.push(whole(once.clone()));
+        for again in &once {
+            let mut d = once.clone();
+            d.push(again.clone());
+            all.push(whole(d));
+        }
+    }
     all
 }
 
