@@ -1,0 +1,108 @@
+-- A job split at a middle frame.
+use Prim.Native.Nat.{ℕ, _+_}
+use mathlib.Core.Path.{_≡_, refl, ap, _∙_, subst}
+use mathlib.Core.List.{List, [], _∷_, _++_, map, append-nil}
+use native.Mathlib.Omega.{arith}
+use native.Mathlib.Nat.{zero-add, add-zero}
+use Rattle.payload.specs.declared.Stamp.{Stamp}
+use Rattle.payload.specs.declared.Stamp.the-variants.{At}
+use Rattle.frames.specs.declared.Delivery.{Delivery}
+use Rattle.ledger.specs.Accounts.{ticksAt, backwardAt, untimedAt}
+use Rattle.ledger.specs.Entry.{Entry}
+use Rattle.session.specs.Session.{fresh}
+use Rattle.session.specs.Calls.{taken}
+use Rattle.books.specs.Rule.{Event, idle, unreadable, missing, readable, Item, events, loose, entryOf, entries, total, stamps, stampList, untimed, noStamp, forward, back, between}
+use Rattle.books.proofs.Posts.{total-append}
+use Rattle.books.proofs.History.{map-append, stamps-append}
+use Rattle.books.proofs.Accounts.{loose-stamped}
+use Rattle.books.proofs.Theorems.{accounts-right}
+use Rattle.steps.specs.Halves.{StampHalves, EntryHalves, Job, framesIn, Split, billed, BillAsWhole, Halves}
+
+-- ---- stamps: what is added up between neighbours, of two parts that share one
+between-shared : (f : ℕ → ℕ → ℕ) (before : List ℕ) (m : ℕ) (after : List ℕ) →
+    between f (before ++ (m ∷ after)) ≡ between f (before ++ (m ∷ [])) + between f (m ∷ after)
+between-shared f [] m after = omega arith
+between-shared f (a ∷ []) m after = omega arith
+between-shared f (a ∷ b ∷ before) m after = let i = between-shared f (b ∷ before) m after in omega arith
+
+of-stamps : (before : List ℕ) (middle : ℕ) (after : List ℕ) → StampHalves before middle after
+of-stamps before middle after =
+    record { ticks = between-shared forward before middle after; backward = between-shared back before middle after }
+
+-- ---- entries
+module _ (before after : List Entry) (d : Delivery) (s : ℕ) (e : d .stamp ≡ At s) where
+  abbrev middle : Entry
+  middle = Entry.Delivered d
+
+  cut : (rest : List Entry) → stamps (before ++ (middle ∷ rest)) ≡ stamps before ++ (s ∷ stamps rest)
+  cut rest = stamps-append before (middle ∷ rest) ∙ ap (λ (x : Stamp). stamps before ++ (stampList x ++ stamps rest)) e
+
+  here : (rest : List Entry) → stamps (middle ∷ rest) ≡ s ∷ stamps rest
+  here rest = ap (λ (x : Stamp). stampList x ++ stamps rest) e
+
+  shared : (f : ℕ → ℕ → ℕ) → between f (stamps (before ++ (middle ∷ after))) ≡
+      between f (stamps (before ++ (middle ∷ []))) + between f (stamps (middle ∷ after))
+  shared f = rw (cut after, cut [], here after) (between-shared f (stamps before) s (stamps after))
+
+  plain : total untimed (before ++ (middle ∷ after)) ≡ total untimed (before ++ (middle ∷ [])) + total untimed (middle ∷ after)
+  plain =
+      let u : untimed middle ≡ 0 = ap noStamp e in
+      omega (arith, u, total-append untimed before (middle ∷ after), total-append untimed before (middle ∷ []))
+
+  of-entries : EntryHalves before middle after
+  of-entries = record { ticks = shared forward; backward = shared back; plain = plain }
+
+-- ---- jobs: what has no frame has no stamp and is not untimed
+loose-timed : (es : List Event) → total untimed (loose es) ≡ 0
+loose-timed [] = refl
+loose-timed (idle ∷ es) = zero-add _ ∙ loose-timed es
+loose-timed (unreadable n ∷ es) = zero-add _ ∙ loose-timed es
+loose-timed (missing ∷ es) = zero-add _ ∙ loose-timed es
+loose-timed (readable h d ∷ es) = zero-add _ ∙ loose-timed es
+
+-- a job's time, from the entries of its frames alone
+record Timed (j : Job) (es : List Entry) : Type 0 where
+  ticks : billed j ticksAt ≡ between forward (stamps es)
+  backward : billed j backwardAt ≡ between back (stamps es)
+  plain : billed j untimedAt ≡ total untimed es
+
+timed : (j : Job) → Timed j (map entryOf (framesIn j))
+timed j =
+    let right = accounts-right (j .opening) (j .offered) in
+    record {
+      ticks = right .ticks ∙ ap (between forward) stamped;
+      backward = right .backward ∙ ap (between back) stamped;
+      plain = right .plain ∙ total-append untimed (map entryOf (framesIn j)) (loose others) ∙ ap (total untimed (map entryOf (framesIn j)) +_) (loose-timed others) ∙ add-zero _;
+    }
+  where
+    others : List Event
+    others = events (j .opening) (taken (fresh (j .opening)) (j .offered))
+
+    stamped : stamps (entries (j .opening) (taken (fresh (j .opening)) (j .offered))) ≡ stamps (map entryOf (framesIn j))
+    stamped =
+        stamps-append (map entryOf (framesIn j)) (loose others) ∙ ap (stamps (map entryOf (framesIn j)) ++_) (loose-stamped others) ∙ append-nil _
+
+module _ (whole first second : Job) (p : Split whole first second) where
+  timed-at : (j : Job) (before after : List Item) → framesIn j ≡ before ++ (p .middle ∷ after) →
+      Timed j (map entryOf before ++ (Entry.Delivered (p .delivery) ∷ map entryOf after))
+  timed-at j before after e =
+      subst (Timed j)
+      (ap (map entryOf) e
+      ∙ map-append before (p .middle ∷ after)
+      ∙ ap (λ (x : Entry). map entryOf before ++ (x ∷ map entryOf after)) (p .delivered))
+      (timed j)
+
+  of-jobs : BillAsWhole whole first second
+  of-jobs =
+      let w = timed-at whole (p .before) (p .after) (p .all) in
+      let f = timed-at first (p .before) [] (p .up-to) in
+      let s = timed-at second [] (p .after) (p .from) in
+      let h = of-entries (map entryOf (p .before)) (map entryOf (p .after)) (p .delivery) (p .stamp) (p .stamped) in
+      record {
+        ticks = rw (w .ticks, f .ticks, s .ticks) (h .ticks);
+        backward = rw (w .backward, f .backward, s .backward) (h .backward);
+        untimed = rw (w .plain, f .plain, s .plain) (h .plain);
+      }
+
+pub halves : Halves
+halves = record { of-stamps = of-stamps; of-entries = of-entries; of-jobs = of-jobs }

@@ -1,0 +1,4 @@
+pub mod Signed
+pub mod Six
+pub mod Halves
+pub mod Turns

@@ -1,0 +1,34 @@
+-- The signed step as an integer: what the ledger's step (ledger/specs/Step) stands for.
+use Prim.Native.Nat.{ℕ, _-_, _^_}
+use mathlib.Core.Path.{_≡_}
+use lib.IntN.{ℤ, pos, negℤ, _-ℤ_, _*ℤ_}
+use lib.Signed.{_≤ℤ_}
+use Rattle.ledger.specs.declared.Step.{Step}
+use Rattle.ledger.specs.declared.Step.the-variants.{Forward, Backward}
+use Rattle.ledger.specs.Step.{stepOf}
+
+-- so many ticks forward, or so many backward
+abbrev pub numberOf : Step → ℤ
+numberOf (Forward n) = pos n
+numberOf (Backward n) = negℤ (pos n)
+
+-- the signed step from a to b
+abbrev pub signed : ℕ → ℕ → ℤ
+signed a b = numberOf (stepOf a b)
+
+-- −2^31 and 2^31−1
+abbrev pub lowest : ℤ
+lowest = negℤ (pos (2 ^ 31))
+
+abbrev pub highest : ℤ
+highest = pos (2 ^ 31 - 1)
+
+-- from −2^31 to 2^31−1
+pub record InRange (z : ℤ) : Type 0 where
+  pub low : lowest ≤ℤ z
+  pub high : z ≤ℤ highest
+
+-- equal modulo 2^32: the difference is a multiple of 2^32
+pub record Modulo (x y : ℤ) : Type 0 where
+  pub times : ℤ
+  pub multiple : x -ℤ y ≡ times *ℤ pos (2 ^ 32)
