@@ -8,8 +8,8 @@ use lib.Dec.{ltb}
 use borrow.Author.Tests.{lt-ltb}
 use lib.IntN.{pos}
 use Rattle.books.specs.Rule.{step, forward, back, between}
-use Rattle.steps.specs.Signed.{signed}
-use Rattle.steps.specs.Turns.{lastOf, Stamps, OverTurns, stampAt, Follows, InFull, Turns}
+use Rattle.steps.specs.Signed.{signed, Stamps, lastStamp}
+use Rattle.steps.specs.Turns.{OverTurns, stampAt, Follows, InFull, Turns}
 use Rattle.steps.proofs.Integers.{is-pos}
 use Rattle.steps.proofs.Steps.{leads, modulo}
 
@@ -26,7 +26,7 @@ one-step a b h m = go (ltb (step a b) (2 ^ 31))
     go true e = record { below = m; k = (a + step a b) / 2 ^ 32; turns = omega arith }
     go false e = absurd (omega arith)
 
-reached : (a : ℕ) (bs : List ℕ) → Stamps (a ∷ bs) → between back (a ∷ bs) ≡ 0 → Reached a (lastOf a bs) (between forward (a ∷ bs))
+reached : (a : ℕ) (bs : List ℕ) → Stamps (a ∷ bs) → between back (a ∷ bs) ≡ 0 → Reached a (lastStamp a bs) (between forward (a ∷ bs))
 reached a [] (h, _) e = record { below = h; k = 0; turns = omega arith }
 reached a (b ∷ bs) (h, (m, r)) e =
     let x = one-step a b h m (omega arith) in
@@ -36,12 +36,12 @@ reached a (b ∷ bs) (h, (m, r)) e =
 over-turns : (a : ℕ) (bs : List ℕ) → Stamps (a ∷ bs) → between back (a ∷ bs) ≡ 0 → OverTurns a bs
 over-turns a bs h e =
     let r = reached a bs h e in
-    let l = leads a (lastOf a bs) (h .0) (r .below) in
+    let l = leads a (lastStamp a bs) (h .0) (r .below) in
     record {
       turns = between forward (a ∷ bs) / 2 ^ 32;
-      ticks = single (between forward (a ∷ bs)) (lastOf a bs) (r .k) (h .0) (r .below) (r .turns);
+      ticks = single (between forward (a ∷ bs)) (lastStamp a bs) (r .k) (h .0) (r .below) (r .turns);
       as-signed =
-          modulo (pos (between forward (a ∷ bs))) (signed a (lastOf a bs)) (between forward (a ∷ bs)) 0 (l .p) (l .q) (l .v) (r .k + l .u) (is-pos _) (l .is)
+          modulo (pos (between forward (a ∷ bs))) (signed a (lastStamp a bs)) (between forward (a ∷ bs)) 0 (l .p) (l .q) (l .v) (r .k + l .u) (is-pos _) (l .is)
           (omega (arith, r .turns, l .turns));
     }
   where

@@ -2,9 +2,11 @@
 use Prim.Native.Nat.{ℕ, _+_, _-_, _*_, _/_, _≤_, _<_, _^_}
 use mathlib.Core.Path.{_≡_, refl, subst}
 use mathlib.Core.Bool.{Bool, true, false, cond}
+use mathlib.Core.List.{List, [], _∷_}
+use mathlib.Core.Logic.{_↔_}
 use native.Mathlib.Omega.{arith}
 use lib.Dec.{ltb}
-use lib.IntN.{ℤ, pos, negℤ, subℕ, _+ℤ_, _-ℤ_}
+use lib.IntN.{ℤ, pos, negℤ, subℕ, _-ℤ_}
 use lib.Signed.{_≤ℤ_, _<ℤ_}
 use Rattle.rules.specs.Pick.{pick}
 use Rattle.ledger.specs.declared.Step.{Step}
@@ -13,8 +15,8 @@ use Rattle.ledger.specs.Step.{stepOf}
 use Rattle.ledger.proofs.Steps as ledger
 use Rattle.ledger.proofs.Steps.{step-reads}
 use Rattle.books.specs.Rule.{step}
-use Rattle.steps.specs.Signed.{numberOf, signed, lowest, highest, InRange, Modulo}
-use Rattle.steps.specs.Six.{Reads, RuleTakes, AddsUp, Returns, Six}
+use Rattle.steps.specs.Signed.{numberOf, signed, Stamps, lastStamp, along, lowest, highest, InRange, Modulo}
+use Rattle.steps.specs.Six.{Reads, RuleTakes, AddsUp, AllAddUp, Returns, Six}
 use Rattle.steps.proofs.Integers.{Is, is-pos, is-neg, is-negative, is-sub, same, at-most, across, across-below, differ-alike, is-plus, is-minus, is-times}
 
 -- the number z is p − q, lies within its range, and leads from a to b but for turns of the clock
@@ -84,28 +86,62 @@ reads a b h k =
           (is-minus (pos b) (pos a) b 0 a 0 (is-pos b) (is-pos a)) (omega (arith, l .turns));
     }
 
-module _ (a b c : ℕ) (h : a < 2 ^ 32) (k : b < 2 ^ 32) (m : c < 2 ^ 32) where
-  sum-is : Is (signed a b +ℤ signed b c) (leads a b h k .p + leads b c k m .p) (leads a b h k .q + leads b c k m .q)
-  sum-is = is-plus (signed a b) (signed b c) _ _ _ _ (leads a b h k .is) (leads b c k m .is)
+-- a sum that leads from a to c too, in its range or not: the step is equal to it modulo 2^32, and exactly where it lies in the range
+module _ (a c : ℕ) (h : a < 2 ^ 32) (m : c < 2 ^ 32) (x : ℤ) (p q u v : ℕ) (e : Is x p q) (t : a + p + u * 2 ^ 32 ≡ c + q + v * 2 ^ 32) where
+  sum-always : Modulo (signed a c) x
+  sum-always =
+      let z = leads a c h m in modulo (signed a c) x (z .p) (z .q) p q (z .u + v) (z .v + u) (z .is) e (omega (arith, t, z .turns))
 
-  adds-up : AddsUp a b c
-  adds-up =
-      let x = leads a b h k in
-      let y = leads b c k m in
-      let z = leads a c h m in
-      record {
-        always =
-            modulo (signed a c) (signed a b +ℤ signed b c) (z .p) (z .q) (x .p + y .p) (x .q + y .q) (z .u + x .v + y .v) (z .v + x .u + y .u) (z .is) sum-is
-            (omega (arith, x .turns, y .turns, z .turns));
-        exactly = (
-          λ e. subst InRange e (reads a c h m .range),
-          λ r.
-              let low = across lowest _ 0 (2 ^ 31) (x .p + y .p) (x .q + y .q) is-lowest sum-is (r .low) in
-              let high = across _ highest (x .p + y .p) (x .q + y .q) (2 ^ 31 - 1) 0 sum-is (is-pos (2 ^ 31 - 1)) (r .high) in
-              same (signed a c) _ (z .p) (z .q) (x .p + y .p) (x .q + y .q) (z .is) sum-is
-              (omega (arith, x .turns, y .turns, z .turns, z .low, z .high, low, high)),
-        );
-      }
+  sum-exactly : (signed a c ≡ x) ↔ InRange x
+  sum-exactly = (
+    λ f. subst InRange f (reads a c h m .range),
+    λ r.
+        let z = leads a c h m in
+        let low = across lowest x 0 (2 ^ 31) p q is-lowest e (r .low) in
+        let high = across x highest p q (2 ^ 31 - 1) 0 e (is-pos (2 ^ 31 - 1)) (r .high) in
+        same (signed a c) x (z .p) (z .q) p q (z .is) e (omega (arith, t, z .turns, z .low, z .high, low, high)),
+  )
+
+adds-up : (a b c : ℕ) → a < 2 ^ 32 → b < 2 ^ 32 → c < 2 ^ 32 → AddsUp a b c
+adds-up a b c h k m =
+    let x = leads a b h k in
+    let y = leads b c k m in
+    let e = is-plus (signed a b) (signed b c) (x .p) (x .q) (y .p) (y .q) (x .is) (y .is) in
+    let t : a + (x .p + y .p) + (x .u + y .u) * 2 ^ 32 ≡ c + (x .q + y .q) + (x .v + y .v) * 2 ^ 32 = omega (arith, x .turns, y .turns) in
+    record { always = sum-always a c h m _ _ _ _ _ e t; exactly = sum-exactly a c h m _ _ _ _ _ e t }
+
+-- the steps along a row
+record Along (a last : ℕ) (z : ℤ) : Type 0 where
+  below : last < 2 ^ 32
+  p : ℕ
+  q : ℕ
+  is : Is z p q
+  u : ℕ
+  v : ℕ
+  turns : a + p + u * 2 ^ 32 ≡ last + q + v * 2 ^ 32
+
+leads-along : (a : ℕ) (bs : List ℕ) → Stamps (a ∷ bs) → Along a (lastStamp a bs) (along a bs)
+leads-along a [] s = record { below = s .0; p = 0; q = 0; is = is-pos 0; u = 0; v = 0; turns = refl }
+leads-along a (b ∷ bs) s =
+    let x = leads a b (s .0) (s .1 .0) in
+    let y = leads-along b bs (s .1) in
+    record {
+      below = y .below;
+      p = x .p + y .p;
+      q = x .q + y .q;
+      is = is-plus (signed a b) (along b bs) (x .p) (x .q) (y .p) (y .q) (x .is) (y .is);
+      u = x .u + y .u;
+      v = x .v + y .v;
+      turns = omega (arith, x .turns, y .turns);
+    }
+
+all-add-up : (a : ℕ) (bs : List ℕ) → Stamps (a ∷ bs) → AllAddUp a bs
+all-add-up a bs s =
+    let w = leads-along a bs s in
+    record {
+      always = sum-always a (lastStamp a bs) (s .0) (w .below) (along a bs) (w .p) (w .q) (w .u) (w .v) (w .is) (w .turns);
+      exactly = sum-exactly a (lastStamp a bs) (s .0) (w .below) (along a bs) (w .p) (w .q) (w .u) (w .v) (w .is) (w .turns);
+    }
 
 to-itself : (a : ℕ) → a < 2 ^ 32 → signed a a ≡ pos 0
 to-itself a h = let l = leads a a h h in same (signed a a) (pos 0) (l .p) (l .q) 0 0 (l .is) (is-pos 0) (omega (arith, l .turns, l .low, l .high))
@@ -147,4 +183,4 @@ rule-takes : (a b : ℕ) → RuleTakes a b
 rule-takes a b = let r = taken-as (step a b) (omega arith) (ltb (step a b) (2 ^ 31)) in record { ticks = r .on; backward = r .under }
 
 pub six : Six
-six = record { reads = reads; rule-takes = rule-takes; adds-up = adds-up; to-itself = to-itself; returns = returns }
+six = record { reads = reads; rule-takes = rule-takes; adds-up = adds-up; all-add-up = all-add-up; to-itself = to-itself; returns = returns }

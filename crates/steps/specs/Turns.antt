@@ -4,23 +4,13 @@ use mathlib.Core.Path.{_≡_}
 use mathlib.Core.List.{List, [], _∷_, map}
 use lib.IntN.{pos}
 use Rattle.books.specs.Rule.{step, forward, back, between}
-use Rattle.steps.specs.Signed.{signed, Modulo}
-
--- the last stamp of a job that begins with a
-abbrev pub lastOf : ℕ → List ℕ → ℕ
-lastOf a [] = a
-lastOf a (b ∷ bs) = lastOf b bs
-
--- stamps are below 2^32
-abbrev pub Stamps : List ℕ → Type 0
-Stamps [] = Unit
-Stamps (a ∷ bs) = (a < 2 ^ 32) × Stamps bs
+use Rattle.steps.specs.Signed.{signed, Modulo, lastStamp, Stamps}
 
 -- ticks is the single step from the first stamp to the last, and so many turns of the clock
 pub record OverTurns (a : ℕ) (bs : List ℕ) : Type 0 where
   pub turns : ℕ
-  pub ticks : between forward (a ∷ bs) ≡ step a (lastOf a bs) + turns * 2 ^ 32
-  pub as-signed : Modulo (pos (between forward (a ∷ bs))) (signed a (lastOf a bs))
+  pub ticks : between forward (a ∷ bs) ≡ step a (lastStamp a bs) + turns * 2 ^ 32
+  pub as-signed : Modulo (pos (between forward (a ∷ bs))) (signed a (lastStamp a bs))
 
 -- A clock that never turns over; a stamp is its count modulo 2^32.
 abbrev pub stampAt : ℕ → ℕ
@@ -33,7 +23,7 @@ Follows t (u ∷ us) = (t ≤ u) × (u < t + 2 ^ 31) × Follows u us
 
 -- ticks is all the time from the first count to the last, and nothing is backward
 pub record InFull (t : ℕ) (us : List ℕ) : Type 0 where
-  pub ticks : t + between forward (map stampAt (t ∷ us)) ≡ lastOf t us
+  pub ticks : t + between forward (map stampAt (t ∷ us)) ≡ lastStamp t us
   pub backward : between back (map stampAt (t ∷ us)) ≡ 0
 
 pub record Turns : Type 0 where
