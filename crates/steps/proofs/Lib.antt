@@ -1,6 +1,8 @@
--- Six, Halves and Turns (specs/) are proved in Steps, Split and Clock; Samples has cases by computation.
+-- What specs/ states is proved in Steps (Six), Split (Halves) and Clock (Turns); Samples has cases by computation.
 pub mod Integers
 pub mod Steps
+pub mod Alike
+pub mod Begins
 pub mod Split
 pub mod Clock
 pub mod Samples

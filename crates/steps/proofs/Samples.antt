@@ -1,14 +1,15 @@
--- Cases by computation. They also show that a job can be split so.
+-- Cases by computation.
 use Prim.Native.Nat.{ℕ}
-use mathlib.Core.Path.{_≡_, refl}
+use mathlib.Core.Path.{_≡_, refl, sym}
+use mathlib.Core.Bool.{true≢false}
 use mathlib.Core.List.{List, [], _∷_, map}
 use lib.ListN.{replicate}
 use lib.IntN.{pos, negℤ, _+ℤ_}
 use Rattle.rules.specs.Pick.{pick}
 use Rattle.rules.specs.Numbered.{firstFrom, anyBelow}
 use Rattle.sizes.specs.Sizes.{frameSizeBroken, payloadSizeBroken, sizesBroken}
-use Rattle.payload.specs.declared.Stamp.{Stamp}
-use Rattle.payload.specs.declared.Stamp.the-variants.{Absent, At}
+use Rattle.sizes.specs.declared.Opening.{Opening}
+use Rattle.payload.specs.declared.Stamp.the-variants.{At}
 use Rattle.payload.specs.Transfer.{flagOf, needOf, transferFlags, stampOf, headerOf, readingOf}
 use Rattle.frames.specs.Inner.{turnOf, spoiltOf, closedOf}
 use Rattle.ledger.specs.Entry.{Entry}
@@ -16,10 +17,11 @@ use Rattle.ledger.specs.Ledger.{plusOf, timedOf, postOf, shownOf}
 use Rattle.ledger.specs.Accounts.{ticksAt, backwardAt, untimedAt}
 use Rattle.rule_50.specs.Rule50.{rule50, fillBroken, accountsBroken, countsBroken}
 use Rattle.session.specs.Session.{readOf, tookOf, takeOf}
+use Rattle.session.specs.Call.{Call}
 use Rattle.session.specs.Calls.{Offer}
-use Rattle.books.specs.Rule.{Item}
 use Rattle.steps.specs.Signed.{signed, lowest}
-use Rattle.steps.specs.Halves.{Job, Split, billed, BillAsWhole}
+use Rattle.steps.specs.Cut.{Middle}
+use Rattle.steps.specs.Halves.{job, billed, BillAsWhole}
 use Rattle.steps.proofs.Split.{halves}
 
 -- ---- steps: over the end of the clock and back; half the clock, both ways; a sum that is out of range
@@ -44,8 +46,11 @@ unfolding pick
 out-of-range = (refl, refl)
 
 -- ---- a job: five frames with stamps FFFFFFF0, 10, none, C and 20, split at the second
-abbrev job : List (List ℕ) → Job
-job ts = record { opening = record { frame = 256; payload = 62 }; offered = map (Offer.take (replicate 256 0)) ts }
+abbrev opening : Opening
+opening = record { frame = 256; payload = 62 }
+
+abbrev offered : List (List ℕ) → List Offer
+offered ts = map (Offer.take (replicate 256 0)) ts
 
 abbrev first : List ℕ
 first = 0x06 ∷ 0x86 ∷ 0xF0 ∷ 0xFF ∷ 0xFF ∷ 0xFF ∷ 0xAA ∷ []
@@ -54,40 +59,43 @@ abbrev middle : List ℕ
 middle = 0x06 ∷ 0x87 ∷ 0x10 ∷ 0x00 ∷ 0x00 ∷ 0x00 ∷ 0xBB ∷ []
 
 abbrev others : List (List ℕ)
-others = (0x02 ∷ 0x82 ∷ 0xCC ∷ []) ∷ (0x06 ∷ 0x87 ∷ 0x0C ∷ 0x00 ∷ 0x00 ∷ 0x00 ∷ 0xDD ∷ []) ∷ (0x06 ∷ 0x86 ∷ 0x20 ∷ 0x00 ∷ 0x00 ∷ 0x00 ∷ 0xEE ∷ []) ∷ []
+others =
+    (0x02 ∷ 0x82 ∷ 0xCC ∷ [])
+    ∷ (0x06 ∷ 0x87 ∷ 0x0C ∷ 0x00 ∷ 0x00 ∷ 0x00 ∷ 0xDD ∷ [])
+    ∷ (0x06 ∷ 0x86 ∷ 0x20 ∷ 0x00 ∷ 0x00 ∷ 0x00 ∷ 0xEE ∷ [])
+    ∷ []
 
-abbrev whole : Job
-whole = job (first ∷ middle ∷ others)
+abbrev whole : List Offer
+whole = offered (first ∷ middle ∷ others)
 
-abbrev first-half : Job
-first-half = job (first ∷ middle ∷ [])
+abbrev first-half : List Offer
+first-half = offered (first ∷ middle ∷ [])
 
-abbrev second-half : Job
-second-half = job (middle ∷ others)
+abbrev second-half : List Offer
+second-half = offered (middle ∷ others)
 
-abbrev delivered : Stamp → ℕ → Item
-delivered s byte = record { entry = Entry.Delivered (record { len = 1; stamp = s }); load = byte ∷ [] }
-
-split : Split whole first-half second-half
+at-middle : Middle opening (Call.transfer first ∷ []) middle []
 unfolding pick firstFrom anyBelow frameSizeBroken payloadSizeBroken flagOf needOf transferFlags stampOf headerOf readingOf turnOf spoiltOf closedOf plusOf timedOf postOf shownOf sizesBroken fillBroken accountsBroken countsBroken rule50 readOf tookOf takeOf
-split =
+at-middle =
     record {
-      before = delivered (At 0xFFFFFFF0) 0xAA ∷ [];
-      middle = delivered (At 0x10) 0xBB;
-      after = delivered Absent 0xCC ∷ delivered (At 0x0C) 0xDD ∷ delivered (At 0x20) 0xEE ∷ [];
-      all = refl;
-      up-to = refl;
-      from = refl;
+      header = headerOf middle;
+      reads = refl;
+      other = λ e. true≢false (sym e);
+      unspoilt = refl;
+      item = record { entry = Entry.Delivered (record { len = 1; stamp = At 0x10 }); load = 0xBB ∷ [] };
+      alone = refl;
       delivery = record { len = 1; stamp = At 0x10 };
       delivered = refl;
       stamp = 0x10;
       stamped = refl;
     }
 
--- forward 32 and 20, once backward, once untimed; and as the two halves
-numbers : (billed whole ticksAt ≡ 52) × (billed whole backwardAt ≡ 1) × (billed whole untimedAt ≡ 1)
+in-halves : BillAsWhole (job opening whole) (job opening first-half) (job opening second-half)
+unfolding pick firstFrom anyBelow frameSizeBroken payloadSizeBroken flagOf needOf transferFlags stampOf headerOf readingOf turnOf spoiltOf closedOf plusOf timedOf postOf shownOf sizesBroken fillBroken accountsBroken countsBroken rule50 readOf tookOf takeOf
+in-halves =
+    halves .of-calls opening whole first-half second-half (Call.transfer first ∷ []) middle [] (map Call.transfer others) at-middle refl refl refl
+
+-- forward 32 in the first half and 20 in the second, once backward and once untimed
+numbers : (billed (job opening whole) ticksAt ≡ 52) × (billed (job opening whole) backwardAt ≡ 1) × (billed (job opening whole) untimedAt ≡ 1)
 unfolding pick firstFrom anyBelow frameSizeBroken payloadSizeBroken flagOf needOf transferFlags stampOf headerOf readingOf turnOf spoiltOf closedOf plusOf timedOf postOf shownOf sizesBroken fillBroken accountsBroken countsBroken rule50 readOf tookOf takeOf
 numbers = (refl, refl, refl)
-
-as-halves : BillAsWhole whole first-half second-half
-as-halves = halves .of-jobs whole first-half second-half split

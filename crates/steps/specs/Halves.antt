@@ -12,8 +12,10 @@ use Rattle.ledger.specs.Accounts.{ticksAt, backwardAt, untimedAt}
 use Rattle.ledger.specs.Entry.{Entry}
 use Rattle.session.specs.Refusals.{ledgerOf}
 use Rattle.session.specs.Session.{fresh}
+use Rattle.session.specs.Call.{Call}
 use Rattle.session.specs.Calls.{Offer, after, taken}
 use Rattle.books.specs.Rule.{Item, framesBy, total, stamps, untimed, forward, back, between}
+use Rattle.steps.specs.Cut.{Middle}
 
 -- stamps
 pub record StampHalves (before : List ℕ) (middle : ℕ) (after : List ℕ) : Type 0 where
@@ -32,6 +34,9 @@ pub record EntryHalves (before : List Entry) (middle : Entry) (after : List Entr
 pub record Job : Type 0 where
   pub opening : Opening
   pub offered : List Offer
+
+abbrev pub job : Opening → List Offer → Job
+job o xs = record { opening = o; offered = xs }
 
 abbrev pub ledgerAfter : Job → Ledger
 ledgerAfter j = ledgerOf (after (fresh (j .opening)) (j .offered))
@@ -65,3 +70,8 @@ pub record Halves : Type 0 where
   pub of-stamps : (before : List ℕ) (middle : ℕ) (after : List ℕ) → StampHalves before middle after
   pub of-entries : (before after : List Entry) (d : Delivery) (s : ℕ) → d .stamp ≡ At s → EntryHalves before (Entry.Delivered d) after
   pub of-jobs : (whole first second : Job) → Split whole first second → BillAsWhole whole first second
+  pub of-calls : (o : Opening) (whole first second : List Offer) (before : List Call) (t : List ℕ) (own after : List Call) → Middle o before t own →
+      taken (fresh o) whole ≡ before ++ (Call.transfer t ∷ (own ++ after)) →
+      taken (fresh o) first ≡ before ++ (Call.transfer t ∷ own) →
+      taken (fresh o) second ≡ Call.transfer t ∷ (own ++ after) →
+      BillAsWhole (job o whole) (job o first) (job o second)

@@ -1,4 +1,5 @@
 pub mod Signed
 pub mod Six
+pub mod Cut
 pub mod Halves
 pub mod Turns

@@ -1,0 +1,84 @@
+-- What calls enter depends on the opening and on the track of a session alone.
+use Prim.Native.Nat.{ℕ}
+use mathlib.Core.Path.{_≡_, refl, sym, ap, _∙_}
+use mathlib.Core.List.{List, [], _∷_, _++_, append-assoc}
+use Rattle.sizes.specs.declared.Opening.{Opening}
+use Rattle.payload.specs.declared.Reading.{Reading}
+use Rattle.payload.specs.declared.Reading.the-variants.{Idle, Unreadable, Readable}
+use Rattle.payload.specs.Transfer.{readingOf}
+use Rattle.frames.specs.declared.Track.{Track}
+use Rattle.frames.specs.Inner.{spoiltOf, closedOf}
+use Rattle.session.specs.declared.Session.{Session}
+use Rattle.session.specs.Session.{readOf, tookBy, tookOf}
+use Rattle.session.specs.Call.{Call}
+use Rattle.session.specs.Calls.{nextCall, run}
+use Rattle.books.proofs.History.{itemsBy, dataBy, callItems, dataNext, items, dataRun, next-opening}
+
+pub record Alike (s r : Session) : Type 0 where
+  pub opening : s .rest .opening ≡ r .rest .opening
+  pub track : s .rest .track ≡ r .rest .track
+
+module _ (s r : Session) (a : Alike s r) where
+  took-track : (t : List ℕ) (x : Reading) → tookBy x s t .session .rest .track ≡ tookBy x r t .session .rest .track
+  unfolding readOf
+  took-track t Idle = a .track
+  took-track t (Unreadable k) = ap spoiltOf (a .track)
+  took-track t (Readable h) = rw (a .opening, a .track) refl
+
+  next-track : (c : Call) → nextCall s c .rest .track ≡ nextCall r c .rest .track
+  unfolding tookOf
+  next-track (Call.transfer t) =
+      took-track t (readingOf (s .rest .opening) t) ∙ ap (λ (o : Opening). tookBy (readingOf o t) r t .session .rest .track) (a .opening)
+  next-track Call.lost = ap spoiltOf (a .track)
+  next-track Call.close = ap (λ (w : Track). closedOf w .track) (a .track)
+
+  pub next-alike : (c : Call) → Alike (nextCall s c) (nextCall r c)
+  next-alike c = record { opening = next-opening s c ∙ a .opening ∙ sym (next-opening r c); track = next-track c }
+
+  module _ (D : List ℕ) where
+    by-items : (t : List ℕ) (x : Reading) → itemsBy x s D t ≡ itemsBy x r D t
+    by-items t Idle = refl
+    by-items t (Unreadable k) = refl
+    by-items t (Readable h) = rw (a .opening, a .track) refl
+
+    by-data : (t : List ℕ) (x : Reading) → dataBy x s D t ≡ dataBy x r D t
+    by-data t Idle = refl
+    by-data t (Unreadable k) = refl
+    by-data t (Readable h) = rw (a .track) refl
+
+    call-items : (c : Call) → callItems s D c ≡ callItems r D c
+    call-items (Call.transfer t) =
+        by-items t (readingOf (s .rest .opening) t) ∙ ap (λ (o : Opening). itemsBy (readingOf o t) r D t) (a .opening)
+    call-items Call.lost = refl
+    call-items Call.close = rw (a .track) refl
+
+    call-data : (c : Call) → dataNext s D c ≡ dataNext r D c
+    call-data (Call.transfer t) = by-data t (readingOf (s .rest .opening) t) ∙ ap (λ (o : Opening). dataBy (readingOf o t) r D t) (a .opening)
+    call-data Call.lost = refl
+    call-data Call.close = refl
+
+pub items-alike : (cs : List Call) (s r : Session) (D : List ℕ) → Alike s r → items s D cs ≡ items r D cs
+items-alike [] s r D a = refl
+items-alike (c ∷ cs) s r D a =
+    rw (call-items s r a D c, call-data s r a D c) (ap (callItems r D c ++_) (items-alike cs (nextCall s c) (nextCall r c) (dataNext r D c) (next-alike s r a c)))
+
+pub data-alike : (cs : List Call) (s r : Session) (D : List ℕ) → Alike s r → dataRun s D cs ≡ dataRun r D cs
+data-alike [] s r D a = refl
+data-alike (c ∷ cs) s r D a = rw (call-data s r a D c) (data-alike cs (nextCall s c) (nextCall r c) (dataNext r D c) (next-alike s r a c))
+
+pub run-alike : (cs : List Call) (s r : Session) → Alike s r → Alike (run s cs) (run r cs)
+run-alike [] s r a = a
+run-alike (c ∷ cs) s r a = run-alike cs (nextCall s c) (nextCall r c) (next-alike s r a c)
+
+-- ---- calls after calls
+pub run-append : (cs ds : List Call) (s : Session) → run s (cs ++ ds) ≡ run (run s cs) ds
+run-append [] ds s = refl
+run-append (c ∷ cs) ds s = run-append cs ds (nextCall s c)
+
+pub data-append : (cs ds : List Call) (s : Session) (D : List ℕ) → dataRun s D (cs ++ ds) ≡ dataRun (run s cs) (dataRun s D cs) ds
+data-append [] ds s D = refl
+data-append (c ∷ cs) ds s D = data-append cs ds (nextCall s c) (dataNext s D c)
+
+pub items-append : (cs ds : List Call) (s : Session) (D : List ℕ) → items s D (cs ++ ds) ≡ items s D cs ++ items (run s cs) (dataRun s D cs) ds
+items-append [] ds s D = refl
+items-append (c ∷ cs) ds s D = ap (callItems s D c ++_) (items-append cs ds (nextCall s c) (dataNext s D c)) ∙ sym (append-assoc (callItems s D c) _ _)
