@@ -6,7 +6,10 @@ use mathlib.Core.Bool.{Bool, true, false, _||_, _&&_, true≢false}
 use mathlib.Core.Logic.{_⊎_, inl, inr, ⊎-elim, _↔_}
 use native.Mathlib.Omega.{arith}
 use native.Mathlib.Nat.{eq-or-lt-of-le}
-use Rattle.rules.specs.Numbered.{Row, orElse, firstRow, Given, here, later, NoneOf, anyBelow}
+use lib.Dec.{eqb}
+use borrow.Author.Tests.{eq-eqb, eqb-true}
+use Rattle.rules.specs.Pick.{pick}
+use Rattle.rules.specs.Numbered.{Row, orElse, firstRow, Given, here, later, NoneOf, anyBelow, rowsBefore, rowsAfter, isBroken}
 
 pub row-here : (r : Row) (rs : List Row) → r .broken ≡ true → firstRow (r ∷ rs) ≡ r .number
 row-here r rs e = rw e
@@ -78,6 +81,36 @@ row-whole rows p = (row-none rows p, none-row rows)
 -- number k is given exactly where it is the first broken row's, and that is not 0
 pub given-exactly : (rows : List Row) → Numbered rows → (k : ℕ) → Given rows k ↔ ((firstRow rows ≡ k) × (0 < k))
 given-exactly rows p k = (λ g. (given-row g, given-number g p), λ e. row-gives rows k (sym (e .0)) (λ z. omega (arith, e .1)))
+
+-- ---- one number of a list in which it stands once
+given-here : (k : ℕ) (r : Row) (rs : List Row) → r .number ≡ k → r .broken ≡ true → Given (r ∷ rs) k
+given-here k r rs e b = subst (Given (r ∷ rs)) e (here r rs b)
+
+-- no row has the number k
+abbrev pub Elsewhere : ℕ → List Row → Type 0
+Elsewhere k rows = Each (λ n. n ≡ k → ⊥) rows
+
+given-to : (rows : List Row) (k : ℕ) → Elsewhere k (rowsAfter k rows) → Given rows k → NoneOf (rowsBefore k rows) × (isBroken k rows ≡ true)
+unfolding rowsBefore rowsAfter isBroken pick
+given-to rows k p (here r rs e) = rw (eq-eqb (r .number) (r .number) refl) (tt, e)
+given-to rows k p (later r rs j e g) = go (eqb (r .number) k) p (λ x. given-to rs k x g)
+  where
+    go : (b : Bool) → Elsewhere k (pick b rs (rowsAfter k rs)) → (Elsewhere k (rowsAfter k rs) → NoneOf (rowsBefore k rs) × (isBroken k rs ≡ true)) → NoneOf (pick b [] (r ∷ rowsBefore k rs)) × (pick b (r .broken) (isBroken k rs) ≡ true)
+    go true x f = absurd (given-each (λ n. n ≡ k → ⊥) g x refl)
+    go false x f = let y = f x in ((e, y .0), y .1)
+
+given-from : (rows : List Row) (k : ℕ) → NoneOf (rowsBefore k rows) → isBroken k rows ≡ true → Given rows k
+unfolding rowsBefore isBroken pick
+given-from [] k n e = absurd (true≢false (sym e))
+given-from (r ∷ rs) k n e = go (eqb (r .number) k) refl n e (given-from rs k)
+  where
+    go : (b : Bool) → eqb (r .number) k ≡ b → NoneOf (pick b [] (r ∷ rowsBefore k rs)) → pick b (r .broken) (isBroken k rs) ≡ true → (NoneOf (rowsBefore k rs) → isBroken k rs ≡ true → Given rs k) → Given (r ∷ rs) k
+    go true q x y f = given-here k r rs (eqb-true (r .number) k q) y
+    go false q x y f = later r rs k (x .0) (f (x .1) y)
+
+-- number k is given exactly when its row is broken and none of those checked before it
+pub given-by : (rows : List Row) (k : ℕ) → Elsewhere k (rowsAfter k rows) → Given rows k ↔ (NoneOf (rowsBefore k rows) × (isBroken k rows ≡ true))
+given-by rows k p = (given-to rows k p, λ x. given-from rows k (x .0) (x .1))
 
 -- rows checked before others
 pub row-before : (rs qs : List Row) (k : ℕ) → firstRow rs ≡ suc k → firstRow (rs ++ qs) ≡ suc k

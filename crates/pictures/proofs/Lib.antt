@@ -1,0 +1,4 @@
+pub mod Tests
+pub mod Deciding
+pub mod Samples
+pub mod Unique
