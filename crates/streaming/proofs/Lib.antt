@@ -6,4 +6,5 @@ pub mod ExactlyWhen
 pub mod Unique
 pub mod Inside
 pub mod Listed
+pub mod Sizes
 pub mod Samples

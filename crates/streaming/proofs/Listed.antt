@@ -26,6 +26,7 @@ use Rattle.streaming_rules.specs.declared.Sofar.{Sofar}
 use Rattle.streaming_rules.specs.declared.Format.{Format}
 use Rattle.streaming_rules.specs.declared.Frame.{Frame}
 use Rattle.streaming_rules.proofs.Fine.{Fine, fine}
+use Rattle.streaming_rules.proofs.Sizes.{sizes-true}
 use Rattle.streaming.specs.Answer.{Seen, linkedTo, linkOf, lastOf, sofar, after, acceptedWith, streamingOf}
 use Rattle.streaming.specs.Broken.{blockCourse, formatIn, Sound}
 use Rattle.streaming.specs.Listed.{frameIn, Starts, FormatStands, numbered, FrameStands, Listed}
@@ -72,6 +73,7 @@ module _ (t : Table) (s : List ℕ) where
         number = h .number;
         order = h .order;
         default = h .default;
+        sizes = rw old (h .sizes);
       }
     where
       old : numbered (l ++ (x ∷ [])) (y .format) ≡ numbered l (y .format)
@@ -118,6 +120,7 @@ module _ (t : Table) (s : List ℕ) where
           number = f .numbered q;
           order = h .frames-before;
           default = offered-decides s (o + intervalsAt) (kAt (formatOf (kindAt s o)) s o) _ .0 (f .default q);
+          sizes = λ u c. let e = sym same-kind ∙ u in rw e (sizes-true (lastOf (a .formats)) (length (a .formats)) s o c (rw e at (f .true-size q)));
         }
       where
         some : length (a .formats) ≡ 0 → ⊥

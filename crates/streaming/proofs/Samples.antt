@@ -9,9 +9,10 @@ use Rattle.rules.specs.declared.Verdict.the-variants.{Accepted, Refused}
 use Rattle.entities.specs.Table.{noEntity, findFrom}
 use Rattle.entities.specs.declared.Table.{Table}
 use Rattle.intervals.specs.Intervals.{listAt, rises, among, offered}
-use Rattle.streaming_rules.specs.Descriptors.{kindOf, layoutOf, shape, formatAt, frameAt}
+use Rattle.pictures.specs.Pictures.{bitsOf, untrue}
+use Rattle.streaming_rules.specs.Descriptors.{kindOf, layoutOf, shape, guidEnd, sameBytes, sortOf, formatAt, frameAt}
 use Rattle.blocks.specs.Blocks.{wholeRows, lengthBroken, typeBroken}
-use Rattle.streaming_rules.specs.Rules.{headRows, misplaced, offersUnder, kindRows, rows}
+use Rattle.streaming_rules.specs.Rules.{headRows, misplaced, offersUnder, untrueAt, kindRows, rows}
 use Rattle.rules.specs.Place.{placeFrom}
 use Rattle.streaming.specs.Answer.{isOutput, linkedAt, countUnder, after, defaultBroken, lateBy, refusedBy, acceptedWith, afterWalk, afterHead, streamingOf}
 
@@ -43,9 +44,26 @@ unlinked = refl
 
 -- a format with its frame; and the frame whose default is not in its list
 filmed : streamingOf table (header 58 1 3 ++ (mjpeg ++ frame 0x15)) .verdict ≡ Accepted
-unfolding table header mjpeg frame streamingOf afterHead headRows wholeRows afterWalk walk walkFrom rows lengthBroken typeBroken kindRows kindOf layoutOf shape linkedAt findFrom isOutput after pick formatAt frameAt misplaced offersUnder offered listAt rises among countUnder lateBy placeFrom defaultBroken acceptedWith
+unfolding table header mjpeg frame streamingOf afterHead headRows wholeRows afterWalk walk walkFrom rows lengthBroken typeBroken kindRows kindOf layoutOf shape linkedAt findFrom isOutput after pick formatAt frameAt misplaced offersUnder untrueAt offered listAt rises among countUnder lateBy placeFrom defaultBroken acceptedWith
 filmed = refl
 
 unlisted : streamingOf table (header 58 1 3 ++ (mjpeg ++ frame 0x16)) .verdict ≡ Refused 34 24
 unfolding table header mjpeg frame streamingOf afterHead headRows wholeRows afterWalk walk walkFrom rows lengthBroken typeBroken kindRows kindOf layoutOf shape linkedAt findFrom isOutput after pick formatAt frameAt misplaced offersUnder offered listAt rises among countUnder refusedBy
 unlisted = refl
+
+-- an NV12 format with one frame, of 3 by 3: 14 bytes hold it, and 13 do not
+nv12 : List ℕ
+nv12 = 0x1B ∷ 0x24 ∷ 0x04 ∷ 0x01 ∷ 0x01 ∷ 0x4E ∷ 0x56 ∷ 0x31 ∷ 0x32 ∷ (guidEnd ++ (0x0C ∷ 0x01 ∷ 0x00 ∷ 0x00 ∷ 0x00 ∷ 0x00 ∷ []))
+
+picture : ℕ → List ℕ
+picture size =
+    0x1E ∷ 0x24 ∷ 0x05 ∷ 0x01 ∷ 0x00 ∷ 0x03 ∷ 0x00 ∷ 0x03 ∷ 0x00 ∷ 0 ∷ 0 ∷ 0 ∷ 0 ∷ 0 ∷ 0 ∷ 0 ∷ 0 ∷ size ∷ 0x00 ∷ 0x00 ∷ 0x00 ∷ 0x15 ∷ 0x16 ∷ 0x05 ∷ 0x00 ∷ 0x01
+    ∷ 0x15 ∷ 0x16 ∷ 0x05 ∷ 0x00 ∷ []
+
+held : streamingOf table (header 70 1 3 ++ (nv12 ++ picture 14)) .verdict ≡ Accepted
+unfolding table header nv12 picture streamingOf afterHead headRows wholeRows afterWalk walk walkFrom rows lengthBroken typeBroken kindRows kindOf layoutOf shape linkedAt findFrom isOutput after pick sameBytes sortOf formatAt frameAt misplaced offersUnder untrueAt untrue bitsOf offered listAt rises among countUnder lateBy placeFrom defaultBroken acceptedWith
+held = refl
+
+too-small : streamingOf table (header 70 1 3 ++ (nv12 ++ picture 13)) .verdict ≡ Refused 39 40
+unfolding table header nv12 picture streamingOf afterHead headRows wholeRows afterWalk walk walkFrom rows lengthBroken typeBroken kindRows kindOf layoutOf shape linkedAt findFrom isOutput after pick sameBytes sortOf formatAt frameAt misplaced offersUnder untrueAt untrue bitsOf offered listAt rises among countUnder refusedBy
+too-small = refl

@@ -9,7 +9,9 @@ use Rattle.le.specs.Le.{byte}
 use Rattle.rules.specs.Walk.{Reached}
 use Rattle.entities.specs.declared.Table.{Table}
 use Rattle.intervals.specs.Intervals.{Offered}
+use Rattle.pictures.specs.Pictures.{Asked}
 use Rattle.streaming_rules.specs.Descriptors.{kindAt, isFormat, isFrame, noFormat, noFrame, formatAt, frameAt, intervalsAt}
+use Rattle.streaming_rules.specs.Rules.{SizesTrue}
 use Rattle.streaming_rules.specs.declared.Kind.the-variants.{Formats, Frames}
 use Rattle.streaming_rules.specs.declared.Format.{Format}
 use Rattle.streaming_rules.specs.declared.Frame.{Frame}
@@ -55,6 +57,8 @@ pub record FrameStands (t : Table) (s : List ℕ) (formats : List Format) (befor
   pub order : (j : ℕ) → j < length before → getD before j noFrame .offset < x .offset
   -- its default interval is one that it offers
   pub default : Offered s (x .offset + intervalsAt) (x .k) (x .interval)
+  -- its sizes can be true, where its format is uncompressed and YUY2 or NV12
+  pub sizes : numbered formats (x .format) .kind ≡ 4 → Asked (numbered formats (x .format) .guid) → SizesTrue (numbered formats (x .format)) x
 
 pub record Listed (t : Table) (s : List ℕ) (a : Seen) : Type 0 where
   pub formats : (i : ℕ) → i < length (a .formats) → FormatStands t s i (take i (a .formats)) (formatIn a i)

@@ -13,7 +13,7 @@ use Rattle.rules.proofs.Rows.{Numbered, or-first, or-second, and-not}
 use Rattle.blocks.specs.Blocks.{wholeRows}
 use Rattle.blocks.proofs.Right.{placed, sizes}
 use Rattle.streaming_rules.specs.Descriptors.{lenAt, kindAt, shape, isFormat, isFrame, formatOf, layoutOf, frameLengthAt}
-use Rattle.streaming_rules.specs.Rules.{misplaced, defaultOffered, limits, headRows, kindRows, rows, formatsMost, framesMost}
+use Rattle.streaming_rules.specs.Rules.{misplaced, defaultOffered, untrueAt, limits, headRows, kindRows, rows, formatsMost, framesMost}
 use Rattle.streaming_rules.specs.declared.Kind.{Kind}
 use Rattle.streaming_rules.specs.declared.Kind.the-variants.{Header, Formats, Frames, Unread, Other}
 use Rattle.streaming_rules.specs.declared.Sofar.{Sofar}
@@ -28,6 +28,7 @@ pub record Fine (s : List ℕ) (o : ℕ) (a : Sofar) : Type 0 where
   pub placed : isFrame (kindAt s o) ≡ true → misplaced (formatOf (kindAt s o)) a ≡ false
   pub numbered : isFrame (kindAt s o) ≡ true → byte s o 3 ≡ a .numbered + 1
   pub default : isFrame (kindAt s o) ≡ true → defaultOffered (formatOf (kindAt s o)) s o ≡ true
+  pub true-size : isFrame (kindAt s o) ≡ true → untrueAt (formatOf (kindAt s o)) (a .last) s o ≡ false
   pub few : isFrame (kindAt s o) ≡ true → a .frames < framesMost
 
 pub fine : (s : List ℕ) (o : ℕ) (a : Sofar) → NoneOf (rows s o a) → Fine s o a
@@ -43,6 +44,7 @@ fine s o a d =
       placed = λ e. and-not (isFrame k) _ (b .1 .1 .1 .0) e;
       numbered = λ e. eqb-true (byte s o 3) (a .numbered + 1) (not-false _ (and-not (isFrame k) _ (b .1 .1 .1 .1 .0) e));
       default = λ e. not-false _ (and-not (isFrame k) _ (b .1 .1 .1 .1 .1 .0) e);
+      true-size = λ e. and-not (isFrame k) _ (b .1 .1 .1 .1 .1 .1 .0) e;
       few = λ e. leb-false framesMost (a .frames) (and-not (isFrame k) _ (or-second (isFormat k && leb formatsMost (a .formats)) _ last) e);
     }
   where
@@ -53,7 +55,7 @@ fine s o a d =
     b = d .1 .1 .1 .1
 
     last : ((isFormat (kindAt s o) && leb formatsMost (a .formats)) || (isFrame (kindAt s o) && leb framesMost (a .frames))) ≡ false
-    last = b .1 .1 .1 .1 .1 .1 .0
+    last = b .1 .1 .1 .1 .1 .1 .1 .0
 
 -- no rule has number 0
 pub head-numbered : (t : ℕ) (s : List ℕ) → Numbered (headRows t s)

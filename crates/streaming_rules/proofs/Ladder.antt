@@ -6,18 +6,20 @@ use mathlib.Core.Bool.{Bool, true, false, not, _||_}
 use lib.ListN.{length}
 use lib.Dec.{eqb}
 use borrow.Author.Tests.{eq-eqb, ne-eqb, not-false}
-use Rattle.le.specs.Le.{byte, le32At}
+use Rattle.le.specs.Le.{byte, le16At, le32At}
 use Rattle.rules.specs.Numbered.{firstRow}
 use Rattle.blocks.specs.Blocks.{lengthBroken, typeBroken}
 use Rattle.blocks.proofs.Right.{said-placed}
 use Rattle.intervals.specs.Intervals.{offered}
+use Rattle.pictures.specs.Pictures.{untrue}
 use Rattle.streaming_rules.specs.Descriptors.{lenAt, kindAt, shape, layoutOf, kAt, intervalsAt, isHeader, isFormat, isFrame, formatOf}
-use Rattle.streaming_rules.specs.Rules.{isUnread, misplaced, offersUnder, offersAt, defaultOffered, kindRows, rows}
+use Rattle.streaming_rules.specs.Rules.{isUnread, misplaced, offersUnder, offersAt, defaultOffered, untrueAt, kindRows, rows}
 use Rattle.streaming_rules.specs.declared.Kind.{Kind}
 use Rattle.streaming_rules.specs.declared.Layout.{Layout}
+use Rattle.streaming_rules.specs.declared.Format.{Format}
 use Rattle.streaming_rules.specs.declared.Sofar.{Sofar}
 
--- ---- no header, format or frame breaks none of 29 to 35
+-- ---- no header, format or frame breaks none of 29 to 35 and 39
 pub kind-none : (k : Kind) (s : List ℕ) (o : ℕ) (a : Sofar) → isHeader k ≡ false → isFormat k ≡ false → isFrame k ≡ false → 0 ≡ firstRow (kindRows k s o a)
 unfolding kindRows
 kind-none k s o a h i j = rw (h, i, j)
@@ -83,6 +85,17 @@ default-is f l s o x r w e h = h ∙ (rw (e, w))
 
 pub own-subtype : (s : List ℕ) (o x : ℕ) (k : Kind) (f : ℕ) (r : Bool) → k ≡ kindAt s o → f ≡ formatOf k → r ≡ offersUnder f s o x → r ≡ offersAt s o x
 own-subtype s o x k f r e g h = rw (← e, ← g) h
+
+-- ---- 39
+pub not-uncompressed : (f : ℕ) (x : Format) (s : List ℕ) (o : ℕ) → (f ≡ 4 → ⊥) → false ≡ untrueAt f x s o
+unfolding untrueAt
+not-uncompressed f x s o h = rw (ne-eqb f 4 h)
+
+pub untrue-is :
+    (f : ℕ) (x : Format) (s : List ℕ) (o w h n : ℕ) (r : Bool) → f ≡ 4 → w ≡ le16At s (o + 5) → h ≡ le16At s (o + 7) → n ≡ le32At s (o + 17) →
+    r ≡ untrue (x .guid) (x .bits) w h n → r ≡ untrueAt f x s o
+unfolding untrueAt
+untrue-is f x s o w h n r e a b c q = rw (eq-eqb f 4 e, ← a, ← b, ← c) q
 
 -- ---- 28
 pub shaped : (k : Kind) (s : List ℕ) (o : ℕ) (q : Bool) → q ≡ shape k s o → not q ≡ false → shape k s o ≡ true

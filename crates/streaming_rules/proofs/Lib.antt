@@ -2,4 +2,5 @@ pub mod Subtypes
 pub mod Guids
 pub mod Ladder
 pub mod Fine
+pub mod Sizes
 pub mod Unique

@@ -1,16 +1,19 @@
--- Rules 20 to 35 of document 01, each with its number: of the block as a whole, and of the descriptor at an offset.
+-- Rules 20 to 35 of document 01 and 39 of document 02, each with its number: of the block as a whole, and of the descriptor at an offset.
 use Prim.Native.Nat.{ℕ, _+_, _/_, _%_, _^_}
 use mathlib.Core.List.{List, [], _∷_}
 use mathlib.Core.Bool.{Bool, true, false, not, _&&_, _||_}
 use lib.Dec.{ltb, leb, eqb}
-use Rattle.le.specs.Le.{byte, le32At}
+use Rattle.le.specs.Le.{byte, le16At, le32At}
 use Rattle.rules.specs.Numbered.{Row, row}
 use Rattle.blocks.specs.Blocks.{wholeRows, lengthBroken, typeBroken}
 use Rattle.blocks.specs.declared.Limits.{Limits}
 use Rattle.entities.specs.Table.{entitiesMost}
 use Rattle.intervals.specs.Intervals.{offered}
+use Rattle.pictures.specs.Pictures.{CanBeTrue, untrue}
 use Rattle.streaming_rules.specs.Descriptors.{kindAt, isHeader, isFormat, isFrame, formatOf, shape, layoutOf, kAt, intervalsAt}
 use Rattle.streaming_rules.specs.declared.Sofar.{Sofar}
+use Rattle.streaming_rules.specs.declared.Format.{Format}
+use Rattle.streaming_rules.specs.declared.Frame.{Frame}
 use Rattle.streaming_rules.specs.declared.Kind.{Kind}
 use Rattle.streaming_rules.specs.declared.Kind.the-variants.{Header, Formats, Frames, Unread, Other}
 
@@ -61,7 +64,15 @@ offersAt s o x = offersUnder (formatOf (kindAt s o)) s o x
 abbrev pub defaultOffered : ℕ → List ℕ → ℕ → Bool
 defaultOffered f s o = offersUnder f s o (le32At s (o + layoutOf f .interval))
 
--- 29 to 35, by the kind
+-- 39 in words, of the frame x under format f: its sizes can be true
+abbrev pub SizesTrue : Format → Frame → Type 0
+SizesTrue f x = CanBeTrue (f .guid) (f .bits) (x .width) (x .height) (x .size)
+
+-- 39: a frame under a format of subtype 4 whose sizes cannot be true; x is its format
+unfoldable pub untrueAt : ℕ → Format → List ℕ → ℕ → Bool
+untrueAt f x s o = eqb f 4 && untrue (x .guid) (x .bits) (le16At s (o + 5)) (le16At s (o + 7)) (le32At s (o + 17))
+
+-- 29 to 35 and 39, by the kind
 unfoldable pub kindRows : Kind → List ℕ → ℕ → Sofar → List Row
 kindRows k s o a =
     -- the header's endpoint and link
@@ -69,15 +80,16 @@ kindRows k s o a =
     ∷ row 30 (isHeader k && not (a .linked))
     -- the format's number
     ∷ row 31 (isFormat k && not (eqb (byte s o 3) (a .formats + 1)))
-    -- the frame's place, number and intervals
+    -- the frame's place, number, intervals and sizes
     ∷ row 32 (isFrame k && misplaced (formatOf k) a)
     ∷ row 33 (isFrame k && not (eqb (byte s o 3) (a .numbered + 1)))
     ∷ row 34 (isFrame k && not (defaultOffered (formatOf k) s o))
+    ∷ row 39 (isFrame k && untrueAt (formatOf k) (a .last) s o)
     -- a ninth format or a 65th frame
     ∷ row 35 ((isFormat k && leb formatsMost (a .formats)) || (isFrame k && leb framesMost (a .frames)))
     ∷ []
 
--- 25 to 35, of the descriptor at o: 25, 26 as 5, 6
+-- 25 to 35 and 39, of the descriptor at o: 25, 26 as 5, 6
 unfoldable pub rows : List ℕ → ℕ → Sofar → List Row
 rows s o a =
     row 25 (lengthBroken s o)

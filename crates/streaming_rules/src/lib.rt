@@ -1,4 +1,4 @@
-// The descriptors of a streaming block: their kinds and lengths, rules 20 to 35, and what a format and a frame give.
+// The descriptors of a streaming block: their kinds and lengths, rules 20 to 35 and 39, and what a format and a frame give.
 ghost use mathlib.Core.Path.{_≡_};
 ghost use mathlib.Core.Bool.{true};
 ghost use Prim.Native.Nat.{_+_, _≤_, _<_};
@@ -8,7 +8,7 @@ ghost use Rattle.le.specs.Le.{byte, le32At};
 ghost use Rattle.rules.specs.Pick.{pick};
 ghost use Rattle.rules.specs.Numbered.{firstRow};
 ghost use Rattle.streaming_rules.specs.Descriptors.{kindOf, kindAt, lenAt, shape, layoutOf, frameLengthAt, sortOf, guidAt, noFormat, noFrame, formatAt, frameAt, isFormat, isFrame, formatOf};
-ghost use Rattle.streaming_rules.specs.Rules.{formatsMost, limits, headRows, isUnread, misplaced, offersUnder, offersAt, defaultOffered, kindRows, rows};
+ghost use Rattle.streaming_rules.specs.Rules.{formatsMost, limits, headRows, isUnread, misplaced, offersUnder, offersAt, defaultOffered, untrueAt, kindRows, rows};
 use blocks::Limits;
 use entities::ENTITIES_MOST;
 
@@ -24,6 +24,8 @@ const LIMITS: Limits = Limits {
 };
 
 const OUTPUT_HEADER: u8 = 2;
+
+const UNCOMPRESSED: u8 = 4;
 
 const YUY2: [u8; 16] = *b"YUY2\x00\x00\x10\x00\x80\x00\x00\xAA\x00\x38\x9B\x71";
 
@@ -314,7 +316,21 @@ fn default_offered(s: &[u8], at: usize, format: u8) -> bool
     offers_under(s, at, format, le::le32(s, place))
 }
 
-// 32 to 35, of a frame.
+// 39: the sizes of a frame under this format, of subtype 4, cannot be true.
+fn is_untrue(s: &[u8], at: usize, format: u8, last: Format) -> bool
+    requires { ⌜ at + 26 ≤ length (now s) ⌝ }
+    ensures { λ r. ⌜ r ≡ untrueAt format last (now (s .entry)) at ⌝ }
+{
+    if format != UNCOMPRESSED {
+        return false;
+    }
+    let width = le::le16(s, at + 5);
+    let height = le::le16(s, at + 7);
+    let size = le::le32(s, at + 17);
+    pictures::untrue(last.guid, last.bits, width, height, size)
+}
+
+// 32 to 35 and 39, of a frame.
 fn frame_rule(s: &[u8], at: usize, format: u8, a: Sofar) -> u8
     requires { ⌜ at + frameLengthAt format (now s) at ≤ length (now s) ⌝ }
     ensures { λ r. ⌜ r ≡ firstRow (kindRows (Kind.Frames format) (now (s .entry)) at a) ⌝ }
@@ -329,13 +345,16 @@ fn frame_rule(s: &[u8], at: usize, format: u8, a: Sofar) -> u8
     if !offered {
         return 34;
     }
+    if is_untrue(s, at, format, a.last) {
+        return 39;
+    }
     if FRAMES_MOST <= a.frames {
         return 35;
     }
     0
 }
 
-// 29 to 35, by the kind; 0 where none is broken.
+// 29 to 35 and 39, by the kind; 0 where none is broken.
 fn kind_rule(s: &[u8], at: usize, kind: Kind, a: Sofar) -> u8
     requires { ⌜ (shape kind (now s) at ≡ true) × (at + lenAt (now s) at ≤ length (now s)) ⌝ }
     requires { ⌜ a .formats ≤ formatsMost ⌝ }
@@ -350,7 +369,7 @@ fn kind_rule(s: &[u8], at: usize, kind: Kind, a: Sofar) -> u8
     }
 }
 
-// Inner: the first of 25 to 35 that the descriptor at `at` breaks; 0 where none is broken.
+// Inner: the first of 25 to 35 and 39 that the descriptor at `at` breaks; 0 where none is broken.
 pub fn rule_at(s: &[u8], at: usize, a: Sofar) -> u8
     requires { ⌜ (at < length (now s)) × (a .formats ≤ formatsMost) ⌝ }
     ensures { λ r. ⌜ r ≡ firstRow (rows (now (s .entry)) at a) ⌝ }

@@ -30,7 +30,7 @@ returns-2 c = search (rungs, agrees, or-no) depth 9
 
 returns-3 : tie.Need-returns-3
 unfolding kindRows
-returns-3 c = search (rungs, agrees, or-no) depth 9
+returns-3 c = search (rungs, agrees, or-no) depth 10
 
 pub format-rule-spec : {M : Type 1} → statement M
 format-rule-spec =

@@ -41,13 +41,20 @@ returns-3 : tie.Need-returns-3
 unfolding kindRows
 returns-3 c = search (rungs, agrees) depth 11
 
+is-untrue-requires : tie.Need-is-untrue-requires
+is-untrue-requires c κs = search frame-long
+
 returns-4 : tie.Need-returns-4
 unfolding kindRows
 returns-4 c = search (rungs, agrees) depth 12
 
 returns-5 : tie.Need-returns-5
 unfolding kindRows
-returns-5 c = search (rungs, agrees) depth 12
+returns-5 c = search (rungs, agrees) depth 13
+
+returns-6 : tie.Need-returns-6
+unfolding kindRows
+returns-6 c = search (rungs, agrees) depth 13
 
 pub frame-rule-spec : {M : Type 1} → statement M
 frame-rule-spec =
@@ -63,5 +70,7 @@ frame-rule-spec =
     returns-2
     default-offered-requires
     returns-3
+    is-untrue-requires
     returns-4
-    returns-5)
+    returns-5
+    returns-6)
