@@ -226,8 +226,26 @@ fn interval(r: &mut Random) -> u32 {
     }
 }
 
-fn frame(r: &mut Random, subtype: u8, index: u8, offered: &mut Vec<u32>) -> Vec<u8> {
-    let (width, height, size) = (r.next() as u16, r.next() as u16, r.next() as u32);
+/// Width, height and buffer size, mostly near what a picture of so many bits per pixel needs.
+fn sizes(r: &mut Random, bits: u8) -> (u16, u16, u32) {
+    if r.once_in(20) {
+        return (r.next() as u16, r.next() as u16, r.next() as u32);
+    }
+    let edge = r.pick(&[4, 100, 2_000, 65_536]);
+    let low = if r.once_in(20) { 0 } else { 1 };
+    let (width, height) = ((low + r.below(edge)).min(65_535), (low + r.below(edge)).min(65_535));
+    let bytes = (width * height * bits as usize + 7) / 8;
+    let size = match r.below(12) {
+        0 => bytes.saturating_sub(1),
+        1 => bytes / 2,
+        2 | 3 => bytes + r.below(1_000),
+        _ => bytes,
+    };
+    (width as u16, height as u16, size.min(u32::MAX as usize) as u32)
+}
+
+fn frame(r: &mut Random, subtype: u8, index: u8, bits: u8, offered: &mut Vec<u32>) -> Vec<u8> {
+    let (width, height, size) = sizes(r, bits);
     if r.once_in(3) {
         let shortest = if r.once_in(30) { 0 } else { interval(r) };
         let step = match r.below(20) {
@@ -277,12 +295,13 @@ pub fn streaming(r: &mut Random) -> (Vec<u8>, Vec<u32>) {
         let default = if r.once_in(25) { r.below(6) } else { 1 + r.below(frames) };
         let index = if r.once_in(25) { r.byte() } else { number as u8 };
         let subtype = r.pick(&[4, 6]);
+        let (mut guid, right) = r.pick(&[(blocks::YUY2, 16), (blocks::NV12, 12), ([7; 16], 24)]);
+        let bits = if r.once_in(20) { r.pick(&[0, 12, 16, 24, 255]) } else { right };
         if subtype == 4 {
-            let mut guid = r.pick(&[blocks::YUY2, blocks::NV12, [7; 16]]);
-            if r.once_in(4) {
+            if r.once_in(10) {
                 guid[r.below(16)] ^= 1;
             }
-            all.push(blocks::uncompressed(index, count as u8, &guid, r.byte(), default as u8));
+            all.push(blocks::uncompressed(index, count as u8, &guid, bits, default as u8));
         } else {
             all.push(blocks::mjpeg(index, count as u8, default as u8));
         }
@@ -299,7 +318,7 @@ pub fn streaming(r: &mut Random) -> (Vec<u8>, Vec<u32>) {
             }
             let subtype = if r.once_in(60) { r.pick(&[5, 7]) } else { subtype + 1 };
             let index = if r.once_in(60) { r.byte() } else { f as u8 };
-            all.push(frame(r, subtype, index, &mut offered));
+            all.push(frame(r, subtype, index, bits, &mut offered));
         }
     }
     if r.once_in(30) {

@@ -93,6 +93,17 @@ fn length_right(d: &[u8]) -> bool {
     }
 }
 
+/// Document 02, Five: whether a frame of subtype 5 can have these sizes under this format.
+fn possible(format: &Format, width: u16, height: u16, size: u32) -> bool {
+    let bits = match format.guid {
+        1 => 16,
+        2 => 12,
+        _ => return true,
+    };
+    let picture = u64::from(width) * u64::from(height) * u64::from(bits);
+    width != 0 && height != 0 && format.bits == bits && 8 * u64::from(size) >= picture
+}
+
 pub fn read(table: &Table, block: &[u8]) -> Result<Streaming, Refusal> {
     let whole = |number| Err(Refusal { number, offset: 0 });
     if table.count > 32 {
@@ -186,20 +197,14 @@ pub fn read(table: &Table, block: &[u8]) -> Result<Streaming, Refusal> {
                 if !offers.sound() || !offers.has(interval) {
                     return no(34);
                 }
+                let (width, height, size) = (u16_at(d, 5), u16_at(d, 7), u32_at(d, 17));
+                if d[2] == 5 && !possible(&s.formats[number - 1], width, height, size) {
+                    return no(39);
+                }
                 if s.frames.len() == 64 {
                     return no(35);
                 }
-                s.frames.push(Frame {
-                    format: number,
-                    index: d[3],
-                    width: u16_at(d, 5),
-                    height: u16_at(d, 7),
-                    size: u32_at(d, 17),
-                    interval,
-                    k: d[25],
-                    offset: at,
-                    offers,
-                });
+                s.frames.push(Frame { format: number, index: d[3], width, height, size, interval, k: d[25], offset: at, offers });
             }
             _ => {}
         }

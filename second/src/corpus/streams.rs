@@ -153,6 +153,7 @@ fn streaming_cases() -> Vec<Case> {
         two.extend((1..=n - 40).map(|i| picture(5, i)));
         blocks.push(streaming(2, 0x81, 9, 0, &two));
     }
+    blocks.extend(sizes());
     // 36 to 38.
     for (count, default, p) in [(2, 1, 1), (0, 1, 1), (1, 0, 1), (1, 2, 1), (1, 1, 0), (1, 1, 2), (2, 0, 2), (1, 0, 2)] {
         blocks.push(streaming(p, 0x81, 9, 0, &[mjpeg(1, count, default), picture(7, 1)]));
@@ -172,6 +173,74 @@ fn streaming_cases() -> Vec<Case> {
     all.push(Case::Streaming(with(&table_block(), 5, 0), good.clone()));
     all.push(Case::Streaming(vec![], none));
     all
+}
+
+/// 39: sizes that can be true and sizes that can't, at each boundary.
+fn sizes() -> Vec<Vec<u8>> {
+    let other = [0x77; 16];
+    let one = |guid: &[u8; 16], bits, width, height, size| {
+        streaming(1, 0x81, 9, 0, &[uncompressed(1, 1, guid, bits, 1), frame(5, 1, width, height, size, 10, 1, &[10])])
+    };
+    let mut blocks = Vec::new();
+    for (guid, right) in [(&YUY2, 16u8), (&NV12, 12), (&other, 16)] {
+        for bits in [0, 11, 12, 13, 15, 16, 17, 255] {
+            blocks.push(one(guid, bits, 4, 4, 1_000));
+        }
+        for (width, height) in [
+            (0u64, 0u64),
+            (0, 1),
+            (1, 0),
+            (1, 1),
+            (1, 2),
+            (1, 3),
+            (3, 1),
+            (3, 3),
+            (3, 5),
+            (640, 480),
+            (256, 257),
+            (16_384, 16_384),
+            (32_768, 65_535),
+            (65_535, 65_535),
+        ] {
+            let bytes = (width * height * u64::from(right) + 7) / 8;
+            for size in [bytes.saturating_sub(1), bytes, bytes + 1, bytes / 2, bytes % (1 << 32), 0, u64::from(u32::MAX)] {
+                blocks.push(one(guid, right, width as u16, height as u16, u32::try_from(size).unwrap_or(u32::MAX)));
+            }
+        }
+        // A format with the wrong bits and no frames is left to 36 and 37.
+        blocks.push(streaming(1, 0x81, 9, 0, &[uncompressed(1, 0, guid, 1, 1)]));
+        blocks.push(streaming(1, 0x81, 9, 0, &[uncompressed(1, 1, guid, 1, 1)]));
+        // The format read last decides; the second frame is the one that is too small.
+        blocks.push(streaming(
+            2,
+            0x81,
+            9,
+            0,
+            &[uncompressed(1, 1, guid, 24, 1), picture(5, 1), uncompressed(2, 1, &YUY2, 16, 1), picture(5, 1)],
+        ));
+        blocks.push(streaming(
+            2,
+            0x81,
+            9,
+            0,
+            &[uncompressed(1, 1, &YUY2, 16, 1), picture(5, 1), uncompressed(2, 1, guid, 24, 1), picture(5, 1)],
+        ));
+        let small = frame(5, 2, 640, 480, 460_799, 10, 1, &[10]);
+        blocks.push(streaming(1, 0x81, 9, 0, &[uncompressed(1, 2, guid, right, 1), picture(5, 1), small.clone()]));
+        // 33 and 34 come before 39.
+        blocks.push(streaming(1, 0x81, 9, 0, &[uncompressed(1, 2, guid, right, 1), small]));
+        blocks.push(streaming(1, 0x81, 9, 0, &[uncompressed(1, 1, guid, right, 1), frame(5, 1, 640, 480, 1, 11, 1, &[10])]));
+        // 39 comes before 35: a 65th frame that is too small.
+        for size in [1, 614_400] {
+            let mut all = vec![uncompressed(1, 65, guid, right, 1)];
+            all.extend((1..=64).map(|i| picture(5, i)));
+            all.push(frame(5, 65, 640, 480, size, 10, 1, &[10]));
+            blocks.push(streaming(1, 0x81, 9, 0, &all));
+        }
+    }
+    // MJPEG frames may say anything.
+    blocks.push(streaming(1, 0x81, 9, 0, &[mjpeg(1, 1, 1), frame(7, 1, 0, 0, 0, 10, 1, &[10])]));
+    blocks
 }
 
 /// 20 and 30 on tables that no block gave.
@@ -203,7 +272,7 @@ fn probes() -> Vec<Case> {
         0,
         &[
             uncompressed(1, 2, &YUY2, 16, 1),
-            frame(5, 1, 1, 1, 1, 20, 0, &[10, 30, 5]),
+            frame(5, 1, 1, 1, 2, 20, 0, &[10, 30, 5]),
             picture(5, 2),
             mjpeg(2, 1, 1),
             frame(7, 1, 1, 1, 1, 100, 3, &[100, 200, 300]),
