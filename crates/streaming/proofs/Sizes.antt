@@ -1,63 +1,79 @@
--- A block is refused by 39 at o exactly when a frame stands there whose sizes cannot be true, and nothing before that is broken.
+-- A block is refused by a rule of a descriptor exactly when that rule comes to be asked there and is broken; and for 39 in words.
 use Prim.Native.Nat.{ℕ}
 use mathlib.Core.Path.{_≡_, refl, sym, _∙_}
 use mathlib.Core.List.{List}
+use mathlib.Core.Bool.{true}
 use mathlib.Core.Logic.{_↔_}
 use lib.ListN.{length}
 use native.Mathlib.Omega.{arith}
-use Rattle.rules.specs.Numbered.{Given}
+use Rattle.rules.specs.Numbered.{isBroken, rowsAfter}
 use Rattle.rules.specs.Walk.{FirstBreak}
 use Rattle.rules.specs.declared.Verdict.the-variants.{Refused}
-use Rattle.rules.proofs.Rows.{Elsewhere, given-each}
+use Rattle.rules.proofs.Rows.{Elsewhere, given-each, given-by}
 use Rattle.blocks.specs.Blocks.{wholeRows}
 use Rattle.entities.specs.declared.Table.{Table}
-use Rattle.streaming_rules.specs.Rules.{headRows}
-use Rattle.streaming_rules.proofs.Sizes.{row-39, given-39}
-use Rattle.streaming.specs.Answer.{linkedTo, linkOf, sofar, streamingOf}
-use Rattle.streaming.specs.Broken.{BlockRight, blockCourse, FirstBroken, by-block, by-descriptor, by-36, by-37, by-38}
-use Rattle.streaming.specs.Sizes.{Untrue}
+use Rattle.streaming_rules.specs.Rules.{headRows, rows}
+use Rattle.streaming_rules.specs.declared.Sofar.{Sofar}
+use Rattle.streaming_rules.proofs.Sizes.{row-39, once-39}
+use Rattle.streaming.specs.Answer.{Seen, linkedTo, linkOf, sofar, streamingOf}
+use Rattle.streaming.specs.Broken.{BlockRight, blockCourse, Comes, FirstBroken, by-block, by-descriptor, by-36, by-37, by-38}
+use Rattle.streaming.specs.Listed.{Untrue}
 use Rattle.streaming.proofs.ExactlyWhen.{refused}
 
--- 39 is no rule of the block as a whole
-head-elsewhere : (n : ℕ) (s : List ℕ) → Elsewhere 39 (headRows n s)
-unfolding headRows wholeRows
-head-elsewhere n s = omega arith
+-- k is the number of one rule, and that is a descriptor's
+pub record OfDescriptor (k : ℕ) : Type 0 where
+  pub no-head : (n : ℕ) (s : List ℕ) → Elsewhere k (headRows n s)
+  pub once : (s : List ℕ) (o : ℕ) (a : Sofar) → Elsewhere k (rowsAfter k (rows s o a))
+  pub no-36 : 36 ≡ k → ⊥
+  pub no-37 : 37 ≡ k → ⊥
+  pub no-38 : 38 ≡ k → ⊥
 
 module _ (t : Table) (s : List ℕ) where
-  of-break : (o : ℕ) → BlockRight t s → FirstBreak (blockCourse t s) 39 o → Untrue t s o
-  of-break o b f =
-      let a = sofar (linkedTo t (linkOf s)) (f .seen) in
-      let g = given-39 s o a .0 (f .given) in
-      let r = row-39 s o a (length (f .seen .formats)) .0 (g .1) in
-      record {
-        block = b;
-        earlier = f .earliest;
-        starts = record { seen = f .seen; there = f .there; inside = f .inside };
-        before = g .0;
-        frame = r .0;
-        asked = r .1;
-        untrue = r .2;
-      }
+  -- what the descriptors before leave to the rules of the next one
+  abbrev left : Seen → Sofar
+  left a = sofar (linkedTo t (linkOf s)) a
 
-  of-untrue : (o : ℕ) → Untrue t s o → FirstBreak (blockCourse t s) 39 o
-  of-untrue o u =
-      let x = u .starts in
-      let a = sofar (linkedTo t (linkOf s)) (x .seen) in
-      record {
-        seen = x .seen;
-        there = x .there;
-        inside = x .inside;
-        given = given-39 s o a .1 (u .before, row-39 s o a (length (x .seen .formats)) .1 (u .frame, u .asked, u .untrue));
-        earliest = u .earlier;
-      }
+  -- rule k comes to be asked at o, and is broken
+  abbrev pub Broken : ℕ → ℕ → Type 0
+  Broken k o = (c : Comes t s k o) × (isBroken k (blockCourse t s .rows (c .seen) o) ≡ true)
 
-  first-39 : {k o : ℕ} → FirstBroken t s k o → k ≡ 39 → Untrue t s o
-  first-39 (by-block k g) e = absurd (given-each (λ n. n ≡ 39 → ⊥) g (head-elsewhere (t .count) s) e)
-  first-39 (by-descriptor k o b f) e = of-break o b (rw e at (f))
-  first-39 (by-36 a w i l f) e = absurd (omega (arith, e))
-  first-39 (by-37 a w c i l f) e = absurd (omega (arith, e))
-  first-39 (by-38 a w c d n) e = absurd (omega (arith, e))
+  module _ (k : ℕ) (d : OfDescriptor k) where
+    of-break : (o : ℕ) → BlockRight t s → FirstBreak (blockCourse t s) k o → Broken k o
+    of-break o b f =
+        let g = given-by (rows s o (left (f .seen))) k (d .once s o (left (f .seen))) .0 (f .given) in
+        (record { block = b; seen = f .seen; there = f .there; inside = f .inside; earlier = f .earliest; before = g .0 }, g .1)
 
-  -- EXACTLY WHEN
+    of-broken : (o : ℕ) → Broken k o → FirstBreak (blockCourse t s) k o
+    of-broken o r =
+        let c = r .0 in
+        record {
+          seen = c .seen;
+          there = c .there;
+          inside = c .inside;
+          given = given-by (rows s o (left (c .seen))) k (d .once s o (left (c .seen))) .1 (c .before, r .1);
+          earliest = c .earlier;
+        }
+
+    first-by : {j o : ℕ} → FirstBroken t s j o → j ≡ k → Broken k o
+    first-by (by-block j g) e = absurd (given-each (λ n. n ≡ k → ⊥) g (d .no-head (t .count) s) e)
+    first-by (by-descriptor j o b f) e = of-break o b (rw e at (f))
+    first-by (by-36 a w i l f) e = absurd (d .no-36 e)
+    first-by (by-37 a w c i l f) e = absurd (d .no-37 e)
+    first-by (by-38 a w c x n) e = absurd (d .no-38 e)
+
+    -- EXACTLY WHEN, of a descriptor's rule
+    pub refused-by : (o : ℕ) → (streamingOf t s .verdict ≡ Refused k o) ↔ Broken k o
+    refused-by o = (λ e. first-by (refused t s k o .0 e) refl, λ r. refused t s k o .1 (by-descriptor k o (r .0 .block) (of-broken o r)))
+
+  -- ---- 39
+  of-39 : OfDescriptor 39
+  unfolding headRows wholeRows
+  of-39 = record { no-head = λ n s. omega arith; once = once-39; no-36 = λ e. omega (arith, e); no-37 = λ e. omega (arith, e); no-38 = λ e. omega (arith, e) }
+
   pub refused-39 : (o : ℕ) → (streamingOf t s .verdict ≡ Refused 39 o) ↔ Untrue t s o
-  refused-39 o = (λ e. first-39 (refused t s 39 o .0 e) refl, λ u. refused t s 39 o .1 (by-descriptor 39 o (u .block) (of-untrue o u)))
+  refused-39 o = (λ e. to (refused-by 39 of-39 o .0 e), λ u. refused-by 39 of-39 o .1 (u .comes, row-39 s o (left (u .comes .seen)) (length (u .comes .seen .formats)) .1 (u .frame, u .asked, u .untrue)))
+    where
+      to : Broken 39 o → Untrue t s o
+      to b =
+          let r = row-39 s o (left (b .0 .seen)) (length (b .0 .seen .formats)) .0 (b .1) in
+          record { comes = b .0; frame = r .0; asked = r .1; untrue = r .2 }

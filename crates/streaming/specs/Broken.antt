@@ -3,7 +3,7 @@ use Prim.Native.Nat.{ℕ, _+_, _≤_, _<_}
 use mathlib.Core.Path.{_≡_}
 use mathlib.Core.List.{List}
 use lib.ListN.{length, getD}
-use Rattle.rules.specs.Numbered.{Given, NoneOf}
+use Rattle.rules.specs.Numbered.{Given, NoneOf, rowsBefore}
 use Rattle.rules.specs.First.{First}
 use Rattle.rules.specs.Walk.{Course, Reached, Clean, FirstBreak}
 use Rattle.entities.specs.declared.Table.{Table}
@@ -44,6 +44,15 @@ pub record Sound (t : Table) (s : List ℕ) (a : Seen) : Type 0 where
   pub counts : (i : ℕ) → i < length (a .formats) → CountWrong a i → ⊥
   pub defaults : (i : ℕ) → i < length (a .formats) → DefaultWrong a i → ⊥
   pub number : length (a .formats) ≡ formatCount s
+
+-- rule k of the descriptor at o comes to be asked: the block and every descriptor before o obey their rules, and this one obeys those that are checked before k
+pub record Comes (t : Table) (s : List ℕ) (k o : ℕ) : Type 0 where
+  pub block : BlockRight t s
+  pub seen : Seen
+  pub there : Reached (blockCourse t s) seen o
+  pub inside : o < length s
+  pub earlier : (a : Seen) (p : ℕ) → Reached (blockCourse t s) a p → p < o → NoneOf (blockCourse t s .rows a p)
+  pub before : NoneOf (rowsBefore k (blockCourse t s .rows seen o))
 
 -- rule k is the first that is broken, at the first place that breaks it
 pub data FirstBroken (t : Table) (s : List ℕ) : ℕ → ℕ → Type 0 where

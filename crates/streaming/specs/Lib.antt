@@ -1,4 +1,3 @@
 pub mod Answer
 pub mod Broken
 pub mod Listed
-pub mod Sizes

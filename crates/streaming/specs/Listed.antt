@@ -15,8 +15,8 @@ use Rattle.streaming_rules.specs.Rules.{SizesTrue}
 use Rattle.streaming_rules.specs.declared.Kind.the-variants.{Formats, Frames}
 use Rattle.streaming_rules.specs.declared.Format.{Format}
 use Rattle.streaming_rules.specs.declared.Frame.{Frame}
-use Rattle.streaming.specs.Answer.{Seen, countUnder, formatCount}
-use Rattle.streaming.specs.Broken.{blockCourse, formatIn}
+use Rattle.streaming.specs.Answer.{Seen, countUnder, formatCount, lastOf}
+use Rattle.streaming.specs.Broken.{blockCourse, formatIn, Comes}
 
 abbrev pub frameIn : Seen → ℕ → Frame
 frameIn a i = getD (a .frames) i noFrame
@@ -70,3 +70,10 @@ pub record Listed (t : Table) (s : List ℕ) (a : Seen) : Type 0 where
   pub counts : (i : ℕ) → i < length (a .formats) → formatIn a i .frames ≡ countUnder (i + 1) (a .frames)
   pub defaults : (i : ℕ) → i < length (a .formats) → (1 ≤ formatIn a i .default) × (formatIn a i .default ≤ formatIn a i .frames)
   pub number : length (a .formats) ≡ formatCount s
+
+-- 39 in words: a frame of subtype 5 under a YUY2 or NV12 format comes, and its sizes cannot be true
+pub record Untrue (t : Table) (s : List ℕ) (o : ℕ) : Type 0 where
+  pub comes : Comes t s 39 o
+  pub frame : kindAt s o ≡ Frames 4
+  pub asked : Asked (lastOf (comes .seen .formats) .guid)
+  pub untrue : SizesTrue (lastOf (comes .seen .formats)) (frameAt 4 (length (comes .seen .formats)) s o) → ⊥

@@ -9,8 +9,8 @@ use borrow.Author.Tests.{eq-eqb, eqb-true}
 use native.Mathlib.Omega.{arith}
 use Rattle.le.specs.Le.{le16At, le32At}
 use Rattle.rules.specs.Pick.{pick}
-use Rattle.rules.specs.Numbered.{Given, NoneOf, rowsBefore, rowsAfter, isBroken}
-use Rattle.rules.proofs.Rows.{Elsewhere, and-first, and-second, and-not, given-by}
+use Rattle.rules.specs.Numbered.{rowsAfter, isBroken}
+use Rattle.rules.proofs.Rows.{Elsewhere, and-first, and-second}
 use Rattle.pictures.specs.Pictures.{Asked, untrue}
 use Rattle.pictures.proofs.Deciding.{untrue-decides, can-be-true}
 use Rattle.streaming_rules.specs.Descriptors.{kindAt, isFrame, formatOf, layoutOf, frameAt}
@@ -73,10 +73,6 @@ module _ (s : List ℕ) (o : ℕ) (a : Sofar) where
       go false e = refl
 
   -- its number stands once
-  once : Elsewhere 39 (rowsAfter 39 (rows s o a))
+  pub once-39 : Elsewhere 39 (rowsAfter 39 (rows s o a))
   unfolding rows kindRows rowsAfter pick
-  once = omega arith
-
-  -- it is given exactly where its row is broken and no rule that is checked before it
-  pub given-39 : Given (rows s o a) 39 ↔ (NoneOf (rowsBefore 39 (rows s o a)) × (isBroken 39 (rows s o a) ≡ true))
-  given-39 = given-by (rows s o a) 39 once
+  once-39 = omega arith
