@@ -6,5 +6,5 @@ pub mod ExactlyWhen
 pub mod Unique
 pub mod Inside
 pub mod Listed
-pub mod Sizes
+pub mod ByNumber
 pub mod Samples
