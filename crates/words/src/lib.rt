@@ -49,7 +49,7 @@ const WIDTHS: [u8; PAST] = [
     43,
     47,
     49,
-    0,
+    60,
     0,
     33,
     58,
@@ -117,7 +117,7 @@ there are more than 8 formats or 64 frames\n.............................\
 a format has not as many frames as it says\n.............................\
 a format's default frame is none of its frames\n.........................\
 the input header gives another number of formats\n.......................\
-........................................................................\
+a frame's width, height, bits or buffer size cannot be true\n............\
 ........................................................................\
 the probe block has not 48 bytes\n.......................................\
 the probe block asks for a format that the camera has not\n..............\
