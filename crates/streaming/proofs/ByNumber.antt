@@ -1,4 +1,4 @@
--- A block is refused by a rule of a descriptor exactly when that rule comes to be asked there and is broken; and for 39 in words.
+-- A block is refused by a rule of a descriptor exactly when that rule comes to be asked there and is broken; and for 39 and 40 in words.
 use Prim.Native.Nat.{ℕ}
 use mathlib.Core.Path.{_≡_, refl, sym, _∙_}
 use mathlib.Core.List.{List}
@@ -15,9 +15,10 @@ use Rattle.entities.specs.declared.Table.{Table}
 use Rattle.streaming_rules.specs.Rules.{headRows, rows}
 use Rattle.streaming_rules.specs.declared.Sofar.{Sofar}
 use Rattle.streaming_rules.proofs.Sizes.{row-39, once-39}
+use Rattle.streaming_rules.proofs.Flags.{row-40, once-40}
 use Rattle.streaming.specs.Answer.{Seen, linkedTo, linkOf, sofar, streamingOf}
 use Rattle.streaming.specs.Broken.{BlockRight, blockCourse, Comes, FirstBroken, by-block, by-descriptor, by-36, by-37, by-38}
-use Rattle.streaming.specs.Listed.{Untrue}
+use Rattle.streaming.specs.Listed.{Untrue, Unsteady}
 use Rattle.streaming.proofs.ExactlyWhen.{refused}
 
 -- k is the number of one rule, and that is a descriptor's
@@ -77,3 +78,14 @@ module _ (t : Table) (s : List ℕ) where
       to b =
           let r = row-39 s o (left (b .0 .seen)) (length (b .0 .seen .formats)) .0 (b .1) in
           record { comes = b .0; frame = r .0; asked = r .1; untrue = r .2 }
+
+  -- ---- 40
+  of-40 : OfDescriptor 40
+  unfolding headRows wholeRows
+  of-40 = record { no-head = λ n s. omega arith; once = once-40; no-36 = λ e. omega (arith, e); no-37 = λ e. omega (arith, e); no-38 = λ e. omega (arith, e) }
+
+  pub refused-40 : (o : ℕ) → (streamingOf t s .verdict ≡ Refused 40 o) ↔ Unsteady t s o
+  refused-40 o = (λ e. to (refused-by 40 of-40 o .0 e), λ u. refused-by 40 of-40 o .1 (u .comes, row-40 s o (left (u .comes .seen)) .1 (u .wrong)))
+    where
+      to : Broken 40 o → Unsteady t s o
+      to b = record { comes = b .0; wrong = row-40 s o (left (b .0 .seen)) .0 (b .1) }

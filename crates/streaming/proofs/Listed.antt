@@ -27,6 +27,7 @@ use Rattle.streaming_rules.specs.declared.Format.{Format}
 use Rattle.streaming_rules.specs.declared.Frame.{Frame}
 use Rattle.streaming_rules.proofs.Fine.{Fine, fine}
 use Rattle.streaming_rules.proofs.Sizes.{sizes-true}
+use Rattle.streaming_rules.proofs.Flags.{flag-right, line-right}
 use Rattle.streaming.specs.Answer.{Seen, linkedTo, linkOf, lastOf, sofar, after, acceptedWith, streamingOf}
 use Rattle.streaming.specs.Broken.{blockCourse, formatIn, Sound}
 use Rattle.streaming.specs.Listed.{frameIn, Starts, FormatStands, numbered, FrameStands, Listed}
@@ -73,6 +74,7 @@ module _ (t : Table) (s : List ℕ) where
         number = h .number;
         order = h .order;
         default = h .default;
+        line = rw old (h .line);
         sizes = rw old (h .sizes);
       }
     where
@@ -93,7 +95,7 @@ module _ (t : Table) (s : List ℕ) where
     new-format : isFormat (kindAt s o) ≡ true → FormatStands t s (length (a .formats)) (a .formats) (formatAt (formatOf (kindAt s o)) s o)
     unfolding formatAt
     new-format q =
-        record { starts = here; kind = format-kind (kindAt s o) q; same = refl; number = f .index q; order = h .formats-before }
+        record { starts = here; kind = format-kind (kindAt s o) q; same = refl; number = f .index q; order = h .formats-before; flag = flag-right (formatOf (kindAt s o)) s o (f .flag q) }
 
     held-format : isFormat (kindAt s o) ≡ true → Held (record { formats = a .formats ++ (formatAt (formatOf (kindAt s o)) s o ∷ []); frames = a .frames }) p
     unfolding formatAt
@@ -120,6 +122,7 @@ module _ (t : Table) (s : List ℕ) where
           number = f .numbered q;
           order = h .frames-before;
           default = offered-decides s (o + intervalsAt) (kAt (formatOf (kindAt s o)) s o) _ .0 (f .default q);
+          line = λ u c. line-right (formatOf (kindAt s o)) s o (lastOf (a .formats)) (f .line q) (sym same-kind ∙ u) c;
           sizes = λ u c. let e = sym same-kind ∙ u in rw e (sizes-true (lastOf (a .formats)) (length (a .formats)) s o c (rw e at (f .true-size q)));
         }
       where

@@ -10,8 +10,8 @@ use Rattle.rules.specs.Walk.{Reached}
 use Rattle.entities.specs.declared.Table.{Table}
 use Rattle.intervals.specs.Intervals.{Offered}
 use Rattle.pictures.specs.Pictures.{Asked}
-use Rattle.streaming_rules.specs.Descriptors.{kindAt, isFormat, isFrame, noFormat, noFrame, formatAt, frameAt, intervalsAt}
-use Rattle.streaming_rules.specs.Rules.{SizesTrue}
+use Rattle.streaming_rules.specs.Descriptors.{kindAt, isFormat, isFrame, noFormat, noFrame, formatAt, frameAt, flagAt, lineAt, intervalsAt}
+use Rattle.streaming_rules.specs.Rules.{SizesTrue, FlagOrLine}
 use Rattle.streaming_rules.specs.declared.Kind.the-variants.{Formats, Frames}
 use Rattle.streaming_rules.specs.declared.Format.{Format}
 use Rattle.streaming_rules.specs.declared.Frame.{Frame}
@@ -36,6 +36,8 @@ pub record FormatStands (t : Table) (s : List ℕ) (i : ℕ) (before : List Form
   -- formats are numbered 1, 2, .. in order
   pub number : byte s (x .offset) 3 ≡ i + 1
   pub order : (j : ℕ) → j < length before → getD before j noFormat .offset < x .offset
+  -- the flag of a frame-based one is 0 or 1
+  pub flag : x .kind ≡ 0x10 → flagAt s (x .offset) ≤ 1
 
 -- the format of a number, from 1, of a list
 abbrev pub numbered : List Format → ℕ → Format
@@ -57,6 +59,8 @@ pub record FrameStands (t : Table) (s : List ℕ) (formats : List Format) (befor
   pub order : (j : ℕ) → j < length before → getD before j noFrame .offset < x .offset
   -- its default interval is one that it offers
   pub default : Offered s (x .offset + intervalsAt) (x .k) (x .interval)
+  -- under a frame-based format with the flag 1, its bytes per line are 0
+  pub line : numbered formats (x .format) .kind ≡ 0x10 → flagAt s (numbered formats (x .format) .offset) ≡ 1 → lineAt s (x .offset) ≡ 0
   -- its sizes can be true, where its format is uncompressed and YUY2 or NV12
   pub sizes : numbered formats (x .format) .kind ≡ 4 → Asked (numbered formats (x .format) .guid) → SizesTrue (numbered formats (x .format)) x
 
@@ -77,3 +81,8 @@ pub record Untrue (t : Table) (s : List ℕ) (o : ℕ) : Type 0 where
   pub frame : kindAt s o ≡ Frames 4
   pub asked : Asked (lastOf (comes .seen .formats) .guid)
   pub untrue : SizesTrue (lastOf (comes .seen .formats)) (frameAt 4 (length (comes .seen .formats)) s o) → ⊥
+
+-- 40 in words: such a format or frame comes
+pub record Unsteady (t : Table) (s : List ℕ) (o : ℕ) : Type 0 where
+  pub comes : Comes t s 40 o
+  pub wrong : FlagOrLine (lastOf (comes .seen .formats)) s o

@@ -13,7 +13,7 @@ use Rattle.rules.proofs.Rows.{Numbered, or-first, or-second, and-not}
 use Rattle.blocks.specs.Blocks.{wholeRows}
 use Rattle.blocks.proofs.Right.{placed, sizes}
 use Rattle.streaming_rules.specs.Descriptors.{lenAt, kindAt, shape, isFormat, isFrame, formatOf, layoutOf, frameLengthAt}
-use Rattle.streaming_rules.specs.Rules.{misplaced, defaultOffered, untrueAt, limits, headRows, kindRows, rows, formatsMost, framesMost}
+use Rattle.streaming_rules.specs.Rules.{misplaced, defaultOffered, untrueAt, flagWrong, lineWrong, limits, headRows, kindRows, rows, formatsMost, framesMost}
 use Rattle.streaming_rules.specs.declared.Kind.{Kind}
 use Rattle.streaming_rules.specs.declared.Kind.the-variants.{Header, Formats, Frames, Unread, Other}
 use Rattle.streaming_rules.specs.declared.Sofar.{Sofar}
@@ -29,6 +29,8 @@ pub record Fine (s : List ℕ) (o : ℕ) (a : Sofar) : Type 0 where
   pub numbered : isFrame (kindAt s o) ≡ true → byte s o 3 ≡ a .numbered + 1
   pub default : isFrame (kindAt s o) ≡ true → defaultOffered (formatOf (kindAt s o)) s o ≡ true
   pub true-size : isFrame (kindAt s o) ≡ true → untrueAt (formatOf (kindAt s o)) (a .last) s o ≡ false
+  pub flag : isFormat (kindAt s o) ≡ true → flagWrong (formatOf (kindAt s o)) s o ≡ false
+  pub line : isFrame (kindAt s o) ≡ true → lineWrong (formatOf (kindAt s o)) (a .last) s o ≡ false
   pub few : isFrame (kindAt s o) ≡ true → a .frames < framesMost
 
 pub fine : (s : List ℕ) (o : ℕ) (a : Sofar) → NoneOf (rows s o a) → Fine s o a
@@ -45,6 +47,8 @@ fine s o a d =
       numbered = λ e. eqb-true (byte s o 3) (a .numbered + 1) (not-false _ (and-not (isFrame k) _ (b .1 .1 .1 .1 .0) e));
       default = λ e. not-false _ (and-not (isFrame k) _ (b .1 .1 .1 .1 .1 .0) e);
       true-size = λ e. and-not (isFrame k) _ (b .1 .1 .1 .1 .1 .1 .0) e;
+      flag = λ e. and-not (isFormat k) _ (or-first _ _ (b .1 .1 .1 .1 .1 .1 .1 .0)) e;
+      line = λ e. and-not (isFrame k) _ (or-second (isFormat k && flagWrong (formatOf k) s o) _ (b .1 .1 .1 .1 .1 .1 .1 .0)) e;
       few = λ e. leb-false framesMost (a .frames) (and-not (isFrame k) _ (or-second (isFormat k && leb formatsMost (a .formats)) _ last) e);
     }
   where
@@ -55,7 +59,7 @@ fine s o a d =
     b = d .1 .1 .1 .1
 
     last : ((isFormat (kindAt s o) && leb formatsMost (a .formats)) || (isFrame (kindAt s o) && leb framesMost (a .frames))) ≡ false
-    last = b .1 .1 .1 .1 .1 .1 .1 .0
+    last = b .1 .1 .1 .1 .1 .1 .1 .1 .0
 
 -- no rule has number 0
 pub head-numbered : (t : ℕ) (s : List ℕ) → Numbered (headRows t s)

@@ -4,22 +4,23 @@ use mathlib.Core.Path.{_≡_, sym, _∙_}
 use mathlib.Core.List.{List}
 use mathlib.Core.Bool.{Bool, true, false, not, _||_}
 use lib.ListN.{length}
-use lib.Dec.{eqb}
+use lib.Dec.{eqb, ltb}
 use borrow.Author.Tests.{eq-eqb, ne-eqb, not-false}
 use Rattle.le.specs.Le.{byte, le16At, le32At}
+use Rattle.rules.specs.Pick.{pick}
 use Rattle.rules.specs.Numbered.{firstRow}
 use Rattle.blocks.specs.Blocks.{lengthBroken, typeBroken}
 use Rattle.blocks.proofs.Right.{said-placed}
 use Rattle.intervals.specs.Intervals.{offered}
 use Rattle.pictures.specs.Pictures.{untrue}
 use Rattle.streaming_rules.specs.Descriptors.{lenAt, kindAt, shape, layoutOf, kAt, intervalsAt, isHeader, isFormat, isFrame, formatOf}
-use Rattle.streaming_rules.specs.Rules.{isUnread, misplaced, offersUnder, offersAt, defaultOffered, untrueAt, kindRows, rows}
+use Rattle.streaming_rules.specs.Rules.{isUnread, misplaced, offersUnder, offersAt, defaultOffered, untrueAt, flagWrong, lineWrong, kindRows, rows}
 use Rattle.streaming_rules.specs.declared.Kind.{Kind}
 use Rattle.streaming_rules.specs.declared.Layout.{Layout}
 use Rattle.streaming_rules.specs.declared.Format.{Format}
 use Rattle.streaming_rules.specs.declared.Sofar.{Sofar}
 
--- ---- no header, format or frame breaks none of 29 to 35 and 39
+-- ---- no header, format or frame breaks none of 29 to 35, 39 and 40
 pub kind-none : (k : Kind) (s : List ℕ) (o : ℕ) (a : Sofar) → isHeader k ≡ false → isFormat k ≡ false → isFrame k ≡ false → 0 ≡ firstRow (kindRows k s o a)
 unfolding kindRows
 kind-none k s o a h i j = rw (h, i, j)
@@ -96,6 +97,34 @@ pub untrue-is :
     r ≡ untrue (x .guid) (x .bits) w h n → r ≡ untrueAt f x s o
 unfolding untrueAt
 untrue-is f x s o w h n r e a b c q = rw (eq-eqb f 4 e, ← a, ← b, ← c) q
+
+-- ---- 40
+module _ (f : ℕ) (s : List ℕ) (o : ℕ) where
+  pub no-flag : (f ≡ 0x10 → ⊥) → false ≡ flagWrong f s o
+  unfolding flagWrong
+  no-flag h = rw (ne-eqb f 0x10 h)
+
+  pub flag-is : f ≡ 0x10 → ltb 1 (byte s o 27) ≡ flagWrong f s o
+  unfolding flagWrong
+  flag-is h = rw (eq-eqb f 0x10 h)
+
+  pub flag-in : (n : ℕ) → f ≡ 0x10 → o + layoutOf f .length ≤ n → o + 28 ≤ n
+  unfolding layoutOf pick
+  flag-in n h w = rw h at w
+
+  module _ (x : Format) where
+    pub no-line : (f ≡ 0x10 → ⊥) → false ≡ lineWrong f x s o
+    unfolding lineWrong
+    no-line h = rw (ne-eqb f 0x10 h)
+
+    module _ (h : f ≡ 0x10) (b : ℕ) (e : b ≡ byte s (x .offset) 27) where
+      pub fixed-size : (b ≡ 1 → ⊥) → false ≡ lineWrong f x s o
+      unfolding lineWrong
+      fixed-size n = rw (eq-eqb f 0x10 h, ← e, ne-eqb b 1 n)
+
+      pub line-is : b ≡ 1 → (n : ℕ) → n ≡ le32At s (o + 22) → not (eqb n 0) ≡ lineWrong f x s o
+      unfolding lineWrong
+      line-is q n z = rw (eq-eqb f 0x10 h, ← e, eq-eqb b 1 q, ← z)
 
 -- ---- 28
 pub shaped : (k : Kind) (s : List ℕ) (o : ℕ) (q : Bool) → q ≡ shape k s o → not q ≡ false → shape k s o ≡ true

@@ -21,7 +21,7 @@ use Rattle.streaming_rules.specs.declared.Format.{Format}
 use Rattle.streaming_rules.specs.declared.Sofar.{Sofar}
 
 -- a kind that is a frame's
-frame-of : (k : Kind) (f : ℕ) → isFrame k ≡ true → formatOf k ≡ f → k ≡ Frames f
+pub frame-of : (k : Kind) (f : ℕ) → isFrame k ≡ true → formatOf k ≡ f → k ≡ Frames f
 frame-of Header f h e = absurd (true≢false (sym h))
 frame-of (Formats g) f h e = absurd (true≢false (sym h))
 frame-of (Frames g) f h e = ap Frames e

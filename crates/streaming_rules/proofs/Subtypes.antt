@@ -11,38 +11,51 @@ use native.Mathlib.Nat.{mul-le-mul}
 use Rattle.le.specs.Le.{byte}
 use Rattle.rules.specs.Pick.{pick, pick-all}
 use Rattle.intervals.specs.Intervals.{span}
-use Rattle.streaming_rules.specs.Descriptors.{kindOf, unread, lenAt, shape, uncompressed, mjpeg, noLayout, layoutOf, formatOf, frameLength, kAt, frameLengthAt}
+use Rattle.streaming_rules.specs.Descriptors.{kindOf, unread, lenAt, shape, uncompressed, mjpeg, frameBased, noLayout, layoutOf, formatOf, frameLength, kAt, frameLengthAt}
 use Rattle.streaming_rules.specs.declared.Kind.{Kind}
 use Rattle.streaming_rules.specs.declared.Kind.the-variants.{Header, Formats, Frames, Unread, Other}
 use Rattle.streaming_rules.specs.declared.Layout.{Layout}
 
+-- the code looks for 0x12 to 0x18 past 0x10 and 0x11
+past-seventeen : (n : ℕ) → 0x10 ≤ n → (n ≡ 0x10 → ⊥) → (n ≡ 0x11 → ⊥) → 0x12 ≤ n
+past-seventeen n l a b = omega arith
+
+below-eighteen : (n : ℕ) → n < 0x10 → n < 0x12
+below-eighteen n l = omega arith
+
+at-most : (n : ℕ) → n < 0x19 → n ≤ 0x18
+at-most n l = omega arith
+
+past-eighteen : (n : ℕ) → 0x18 < n → 0x12 ≤ n
+past-eighteen n l = omega arith
+
 -- a number that is none of those that are read
-module _ (n : ℕ) (a : n ≡ 1 → ⊥) (c : n ≡ 4 → ⊥) (d : n ≡ 5 → ⊥) (e : n ≡ 6 → ⊥) (f : n ≡ 7 → ⊥) where
+module _ (n : ℕ) (a : n ≡ 1 → ⊥) (c : n ≡ 4 → ⊥) (d : n ≡ 5 → ⊥) (e : n ≡ 6 → ⊥) (f : n ≡ 7 → ⊥) (i : n ≡ 0x10 → ⊥) (j : n ≡ 0x11 → ⊥) where
   rest : kindOf n ≡ pick (unread n) Unread Other
   unfolding kindOf pick
-  rest = rw (ne-eqb n 1 a, ne-eqb n 4 c, ne-eqb n 5 d, ne-eqb n 6 e, ne-eqb n 7 f)
+  rest = rw (ne-eqb n 1 a, ne-eqb n 4 c, ne-eqb n 5 d, ne-eqb n 6 e, ne-eqb n 7 f, ne-eqb n 0x10 i, ne-eqb n 0x11 j)
 
   module _ (g : n ≡ 0x0A → ⊥) (h : n ≡ 0x0C → ⊥) where
-    pub within : 0x10 ≤ n → n ≤ 0x18 → Unread ≡ kindOf n
+    pub within : 0x10 ≤ n → n < 0x19 → Unread ≡ kindOf n
     unfolding pick
     within l m = sym rest-is
       where
         rest-is : kindOf n ≡ Unread
-        rest-is = rest ∙ (rw (ne-eqb n 0x0A g, ne-eqb n 0x0C h, le-leb 0x10 n l, le-leb n 0x18 m))
+        rest-is = rest ∙ (rw (ne-eqb n 0x0A g, ne-eqb n 0x0C h, le-leb 0x12 n (past-seventeen n l i j), le-leb n 0x18 (at-most n m)))
 
     pub below : n < 0x10 → Other ≡ kindOf n
     unfolding pick
     below l = sym rest-is
       where
         rest-is : kindOf n ≡ Other
-        rest-is = rest ∙ (rw (ne-eqb n 0x0A g, ne-eqb n 0x0C h, lt-leb 0x10 n l))
+        rest-is = rest ∙ (rw (ne-eqb n 0x0A g, ne-eqb n 0x0C h, lt-leb 0x12 n (below-eighteen n l)))
 
     pub above : 0x18 < n → Other ≡ kindOf n
     unfolding pick
     above l = sym rest-is
       where
         rest-is : kindOf n ≡ Other
-        rest-is = rest ∙ (rw (ne-eqb n 0x0A g, ne-eqb n 0x0C h, le-leb 0x10 n (omega arith), lt-leb n 0x18 l))
+        rest-is = rest ∙ (rw (ne-eqb n 0x0A g, ne-eqb n 0x0C h, le-leb 0x12 n (past-eighteen n l), lt-leb n 0x18 l))
 
 -- ---- layouts: their fields lie within their lengths
 pub record Fits (l : Layout) : Type 0 where
@@ -55,13 +68,19 @@ pub record Fits (l : Layout) : Type 0 where
 
 pub fits : (f : ℕ) → Fits (layoutOf f)
 unfolding layoutOf
-fits f = pick-all Fits (eqb f 4) uncompressed (pick (eqb f 6) mjpeg noLayout) four (pick-all Fits (eqb f 6) mjpeg noLayout six none)
+fits f =
+    pick-all Fits (eqb f 4) uncompressed (pick (eqb f 6) mjpeg (pick (eqb f 0x10) frameBased noLayout)) four
+    (pick-all Fits (eqb f 6) mjpeg (pick (eqb f 0x10) frameBased noLayout) six
+    (pick-all Fits (eqb f 0x10) frameBased noLayout sixteen none))
   where
     four : Fits uncompressed
     four = record { numbered = omega arith; default = omega arith; guided = λ h. omega arith; short = omega arith; interval = omega arith; k = omega arith }
 
     six : Fits mjpeg
     six = record { numbered = omega arith; default = omega arith; guided = λ h. absurd (true≢false (sym h)); short = omega arith; interval = omega arith; k = omega arith }
+
+    sixteen : Fits frameBased
+    sixteen = record { numbered = omega arith; default = omega arith; guided = λ h. omega arith; short = omega arith; interval = omega arith; k = omega arith }
 
     none : Fits noLayout
     none = record { numbered = omega arith; default = omega arith; guided = λ h. omega arith; short = omega arith; interval = omega arith; k = omega arith }
@@ -86,9 +105,9 @@ module _ (f : ℕ) (l : Layout) (e : l ≡ layoutOf f) where
   pub k-is : (s : List ℕ) (o k : ℕ) → k ≡ byte s o (l .k) → k ≡ kAt f s o
   k-is s o k h = rw (← e) h
 
-pub no-layout : (f : ℕ) → (f ≡ 4 → ⊥) → (f ≡ 6 → ⊥) → noLayout ≡ layoutOf f
+pub no-layout : (f : ℕ) → (f ≡ 4 → ⊥) → (f ≡ 6 → ⊥) → (f ≡ 0x10 → ⊥) → noLayout ≡ layoutOf f
 unfolding layoutOf pick
-no-layout f a b = rw (ne-eqb f 4 a, ne-eqb f 6 b)
+no-layout f a b c = rw (ne-eqb f 4 a, ne-eqb f 6 b, ne-eqb f 0x10 c)
 
 -- ---- lengths
 module _ (s : List ℕ) (o len : ℕ) (l : len ≡ lenAt s o) where

@@ -13,11 +13,11 @@ use Rattle.streaming_rules.specs.declared.Layout.{Layout}
 use Rattle.streaming_rules.specs.declared.Format.{Format}
 use Rattle.streaming_rules.specs.declared.Frame.{Frame}
 
--- the subtypes that are refused: 0x0A, 0x0C and 0x10 to 0x18
+-- the subtypes that are refused: 0x0A, 0x0C and 0x12 to 0x18
 abbrev pub unread : ℕ → Bool
-unread n = eqb n 0x0A || (eqb n 0x0C || (leb 0x10 n && leb n 0x18))
+unread n = eqb n 0x0A || (eqb n 0x0C || (leb 0x12 n && leb n 0x18))
 
--- What a subtype number says, with one case for everything unknown. Formats and frames go by the format's subtype: 4 uncompressed, 6 MJPEG.
+-- What a subtype number says, with one case for everything unknown. Formats and frames go by the format's subtype: 4 uncompressed, 6 MJPEG, 0x10 frame-based.
 unfoldable pub kindOf : ℕ → Kind
 kindOf n =
     pick (eqb n 1) Header
@@ -25,7 +25,9 @@ kindOf n =
     (pick (eqb n 5) (Frames 4)
     (pick (eqb n 6) (Formats 6)
     (pick (eqb n 7) (Frames 6)
-    (pick (unread n) Unread Other)))))
+    (pick (eqb n 0x10) (Formats 0x10)
+    (pick (eqb n 0x11) (Frames 0x10)
+    (pick (unread n) Unread Other)))))))
 
 abbrev pub kindAt : List ℕ → ℕ → Kind
 kindAt s o = kindOf (byte s o 2)
@@ -66,6 +68,9 @@ uncompressed = record { length = 27; guided = true; default = 22; sized = true; 
 abbrev pub mjpeg : Layout
 mjpeg = record { length = 11; guided = false; default = 6; sized = true; interval = 21; k = 25 }
 
+abbrev pub frameBased : Layout
+frameBased = record { length = 28; guided = true; default = 22; sized = false; interval = 17; k = 21 }
+
 abbrev pub noLayout : Layout
 noLayout = record { length = 256; guided = false; default = 6; sized = true; interval = 21; k = 25 }
 
@@ -74,11 +79,19 @@ unfoldable pub layoutOf : ℕ → Layout
 layoutOf f =
     pick (eqb f 4) uncompressed
     (pick (eqb f 6) mjpeg
-    noLayout)
+    (pick (eqb f 0x10) frameBased
+    noLayout))
 
 -- the intervals of a frame of every kind stand at 26
 abbrev pub intervalsAt : ℕ
 intervalsAt = 26
+
+-- a frame-based format's variable-size flag, and the bytes per line of its frame
+abbrev pub flagAt : List ℕ → ℕ → ℕ
+flagAt s o = byte s o 27
+
+abbrev pub lineAt : List ℕ → ℕ → ℕ
+lineAt s o = le32At s (o + 22)
 
 -- the length of a frame with k intervals
 abbrev pub frameLength : ℕ → ℕ

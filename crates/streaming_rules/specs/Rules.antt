@@ -1,5 +1,7 @@
--- Rules 20 to 35 of document 01 and 39 of document 02, each with its number: of the block as a whole, and of the descriptor at an offset.
-use Prim.Native.Nat.{ℕ, _+_, _/_, _%_, _^_}
+-- Rules 20 to 35 of document 01 and 39, 40 of document 02, each with its number: of the block as a whole, and of the descriptor at an offset.
+use Prim.Native.Nat.{ℕ, _+_, _/_, _%_, _^_, _<_}
+use mathlib.Core.Path.{_≡_}
+use mathlib.Core.Logic.{_⊎_}
 use mathlib.Core.List.{List, [], _∷_}
 use mathlib.Core.Bool.{Bool, true, false, not, _&&_, _||_}
 use lib.Dec.{ltb, leb, eqb}
@@ -10,7 +12,7 @@ use Rattle.blocks.specs.declared.Limits.{Limits}
 use Rattle.entities.specs.Table.{entitiesMost}
 use Rattle.intervals.specs.Intervals.{offered}
 use Rattle.pictures.specs.Pictures.{CanBeTrue, untrue}
-use Rattle.streaming_rules.specs.Descriptors.{kindAt, isHeader, isFormat, isFrame, formatOf, shape, layoutOf, kAt, intervalsAt}
+use Rattle.streaming_rules.specs.Descriptors.{kindAt, isHeader, isFormat, isFrame, formatOf, shape, layoutOf, flagAt, lineAt, kAt, intervalsAt}
 use Rattle.streaming_rules.specs.declared.Sofar.{Sofar}
 use Rattle.streaming_rules.specs.declared.Format.{Format}
 use Rattle.streaming_rules.specs.declared.Frame.{Frame}
@@ -72,7 +74,21 @@ SizesTrue f x = CanBeTrue (f .guid) (f .bits) (x .width) (x .height) (x .size)
 unfoldable pub untrueAt : ℕ → Format → List ℕ → ℕ → Bool
 untrueAt f x s o = eqb f 4 && untrue (x .guid) (x .bits) (le16At s (o + 5)) (le16At s (o + 7)) (le32At s (o + 17))
 
--- 29 to 35 and 39, by the kind
+-- 40 in words, of the descriptor at o: a frame-based format's flag is not 0 or 1; or a frame stands under one with the flag 1, and its bytes per line are not 0.
+-- x is the last format
+abbrev pub FlagOrLine : Format → List ℕ → ℕ → Type 0
+FlagOrLine x s o =
+    ((kindAt s o ≡ Formats 0x10) × (1 < flagAt s o)) ⊎ ((kindAt s o ≡ Frames 0x10) × (flagAt s (x .offset) ≡ 1) × (lineAt s o ≡ 0 → ⊥))
+
+-- 40, of a frame-based format: its flag is not 0 or 1
+unfoldable pub flagWrong : ℕ → List ℕ → ℕ → Bool
+flagWrong f s o = eqb f 0x10 && ltb 1 (flagAt s o)
+
+-- 40, of a frame under a frame-based format: with the format's flag 1, bytes per line is not 0; x is its format
+unfoldable pub lineWrong : ℕ → Format → List ℕ → ℕ → Bool
+lineWrong f x s o = eqb f 0x10 && (eqb (flagAt s (x .offset)) 1 && not (eqb (lineAt s o) 0))
+
+-- 29 to 35, 39 and 40, by the kind
 unfoldable pub kindRows : Kind → List ℕ → ℕ → Sofar → List Row
 kindRows k s o a =
     -- the header's endpoint and link
@@ -85,11 +101,13 @@ kindRows k s o a =
     ∷ row 33 (isFrame k && not (eqb (byte s o 3) (a .numbered + 1)))
     ∷ row 34 (isFrame k && not (defaultOffered (formatOf k) s o))
     ∷ row 39 (isFrame k && untrueAt (formatOf k) (a .last) s o)
+    -- a frame-based format's flag, and the bytes per line of its frames
+    ∷ row 40 ((isFormat k && flagWrong (formatOf k) s o) || (isFrame k && lineWrong (formatOf k) (a .last) s o))
     -- a ninth format or a 65th frame
     ∷ row 35 ((isFormat k && leb formatsMost (a .formats)) || (isFrame k && leb framesMost (a .frames)))
     ∷ []
 
--- 25 to 35 and 39, of the descriptor at o: 25, 26 as 5, 6
+-- 25 to 35, 39 and 40, of the descriptor at o: 25, 26 as 5, 6
 unfoldable pub rows : List ℕ → ℕ → Sofar → List Row
 rows s o a =
     row 25 (lengthBroken s o)

@@ -1,4 +1,4 @@
-// The descriptors of a streaming block: their kinds and lengths, rules 20 to 35 and 39, and what a format and a frame give.
+// The descriptors of a streaming block: their kinds and lengths, rules 20 to 35, 39 and 40, and what a format and a frame give.
 ghost use mathlib.Core.Path.{_≡_};
 ghost use mathlib.Core.Bool.{true};
 ghost use Prim.Native.Nat.{_+_, _≤_, _<_};
@@ -8,7 +8,7 @@ ghost use Rattle.le.specs.Le.{byte, le32At};
 ghost use Rattle.rules.specs.Pick.{pick};
 ghost use Rattle.rules.specs.Numbered.{firstRow};
 ghost use Rattle.streaming_rules.specs.Descriptors.{kindOf, kindAt, lenAt, shape, layoutOf, frameLengthAt, sortOf, guidAt, noFormat, noFrame, formatAt, frameAt, isFormat, isFrame, formatOf};
-ghost use Rattle.streaming_rules.specs.Rules.{formatsMost, limits, headRows, isUnread, misplaced, offersUnder, offersAt, defaultOffered, untrueAt, kindRows, rows};
+ghost use Rattle.streaming_rules.specs.Rules.{formatsMost, limits, headRows, isUnread, misplaced, offersUnder, offersAt, defaultOffered, untrueAt, flagWrong, lineWrong, kindRows, rows};
 use blocks::Limits;
 use entities::ENTITIES_MOST;
 
@@ -26,6 +26,8 @@ const LIMITS: Limits = Limits {
 const OUTPUT_HEADER: u8 = 2;
 
 const UNCOMPRESSED: u8 = 4;
+
+const FRAME_BASED: u8 = 0x10;
 
 const YUY2: [u8; 16] = *b"YUY2\x00\x00\x10\x00\x80\x00\x00\xAA\x00\x38\x9B\x71";
 
@@ -51,7 +53,7 @@ struct Layout {
     k: usize,
 }
 
-// A format: its subtype (4 or 6), its GUID (1 YUY2, 2 NV12, 3 other, 0 for MJPEG), and where its descriptor stands.
+// A format: its subtype (4, 6 or 0x10), its GUID (1 YUY2, 2 NV12, 3 other, 0 for MJPEG), and where its descriptor stands.
 pub struct Format {
     pub kind: u8,
     pub guid: u8,
@@ -92,8 +94,10 @@ pub fn kind_of(sub: u8) -> Kind
         5 => Kind::Frames(4),
         6 => Kind::Formats(6),
         7 => Kind::Frames(6),
+        0x10 => Kind::Formats(0x10),
+        0x11 => Kind::Frames(0x10),
         0x0A | 0x0C => Kind::Unread,
-        0x10..=0x18 => Kind::Unread,
+        0x12..=0x18 => Kind::Unread,
         _ => Kind::Other,
     }
 }
@@ -118,6 +122,14 @@ fn layout_of(format: u8) -> Layout
             sized: true,
             interval: 21,
             k: 25,
+        },
+        0x10 => Layout {
+            length: 28,
+            guided: true,
+            default: 22,
+            sized: false,
+            interval: 17,
+            k: 21,
         },
         _ => Layout {
             length: 256,
@@ -261,13 +273,27 @@ fn header_rule(s: &[u8], at: usize, a: Sofar) -> u8
     30
 }
 
-// 31 and 35, of a format.
+// 40: the flag of a frame-based format is not 0 or 1.
+fn is_flag_wrong(s: &[u8], at: usize, format: u8) -> bool
+    requires { ⌜ at + layoutOf format .length ≤ length (now s) ⌝ }
+    ensures { λ r. ⌜ r ≡ flagWrong format (now (s .entry)) at ⌝ }
+{
+    if format != FRAME_BASED {
+        return false;
+    }
+    1 < s[at + 27]
+}
+
+// 31, 35 and 40, of a format.
 fn format_rule(s: &[u8], at: usize, format: u8, a: Sofar) -> u8
     requires { ⌜ (at + layoutOf format .length ≤ length (now s)) × (a .formats ≤ formatsMost) ⌝ }
     ensures { λ r. ⌜ r ≡ firstRow (kindRows (Kind.Formats format) (now (s .entry)) at a) ⌝ }
 {
     if le::wide(s[at + 3]) != a.formats + 1 {
         return 31;
+    }
+    if is_flag_wrong(s, at, format) {
+        return 40;
     }
     if FORMATS_MOST <= a.formats {
         return 35;
@@ -330,7 +356,22 @@ fn is_untrue(s: &[u8], at: usize, format: u8, last: Format) -> bool
     pictures::untrue(last.guid, last.bits, width, height, size)
 }
 
-// 32 to 35 and 39, of a frame.
+// 40: the format's flag is 1, and the frame's bytes per line are not 0.
+fn is_line_wrong(s: &[u8], at: usize, format: u8, last: Format) -> bool
+    requires { ⌜ at + 26 ≤ length (now s) ⌝ }
+    ensures { λ r. ⌜ r ≡ lineWrong format last (now (s .entry)) at ⌝ }
+{
+    if format != FRAME_BASED {
+        return false;
+    }
+    let place = last.offset as usize;
+    if le::byte_at(s, place + 27) != 1 {
+        return false;
+    }
+    le::le32(s, at + 22) != 0
+}
+
+// 32 to 35, 39 and 40, of a frame.
 fn frame_rule(s: &[u8], at: usize, format: u8, a: Sofar) -> u8
     requires { ⌜ at + frameLengthAt format (now s) at ≤ length (now s) ⌝ }
     ensures { λ r. ⌜ r ≡ firstRow (kindRows (Kind.Frames format) (now (s .entry)) at a) ⌝ }
@@ -348,13 +389,16 @@ fn frame_rule(s: &[u8], at: usize, format: u8, a: Sofar) -> u8
     if is_untrue(s, at, format, a.last) {
         return 39;
     }
+    if is_line_wrong(s, at, format, a.last) {
+        return 40;
+    }
     if FRAMES_MOST <= a.frames {
         return 35;
     }
     0
 }
 
-// 29 to 35 and 39, by the kind; 0 where none is broken.
+// 29 to 35, 39 and 40, by the kind; 0 where none is broken.
 fn kind_rule(s: &[u8], at: usize, kind: Kind, a: Sofar) -> u8
     requires { ⌜ (shape kind (now s) at ≡ true) × (at + lenAt (now s) at ≤ length (now s)) ⌝ }
     requires { ⌜ a .formats ≤ formatsMost ⌝ }
@@ -369,7 +413,7 @@ fn kind_rule(s: &[u8], at: usize, kind: Kind, a: Sofar) -> u8
     }
 }
 
-// Inner: the first of 25 to 35 and 39 that the descriptor at `at` breaks; 0 where none is broken.
+// Inner: the first of 25 to 35, 39 and 40 that the descriptor at `at` breaks; 0 where none is broken.
 pub fn rule_at(s: &[u8], at: usize, a: Sofar) -> u8
     requires { ⌜ (at < length (now s)) × (a .formats ≤ formatsMost) ⌝ }
     ensures { λ r. ⌜ r ≡ firstRow (rows (now (s .entry)) at a) ⌝ }

@@ -24,15 +24,22 @@ returns : tie.Need-returns
 unfolding kindRows
 returns c = search (rungs, differs) depth 8
 
+is-flag-wrong-requires : tie.Need-is-flag-wrong-requires
+is-flag-wrong-requires c κs = search needs
+
 returns-2 : tie.Need-returns-2
 unfolding kindRows
-returns-2 c = search (rungs, agrees, or-no) depth 9
+returns-2 c = search (rungs, agrees, or-no) depth 11
 
 returns-3 : tie.Need-returns-3
 unfolding kindRows
-returns-3 c = search (rungs, agrees, or-no) depth 10
+returns-3 c = search (rungs, agrees, or-no) depth 12
+
+returns-4 : tie.Need-returns-4
+unfolding kindRows
+returns-4 c = search (rungs, agrees, or-no) depth 12
 
 pub format-rule-spec : {M : Type 1} → statement M
 format-rule-spec =
     tie.close
-    (tie.spec add-wide shared-slice-read-wide wide-requires add-if1 returns returns-2 returns-3)
+    (tie.spec add-wide shared-slice-read-wide wide-requires add-if1 returns is-flag-wrong-requires returns-2 returns-3 returns-4)

@@ -48,13 +48,20 @@ returns-4 : tie.Need-returns-4
 unfolding kindRows
 returns-4 c = search (rungs, agrees) depth 12
 
+is-line-wrong-requires : tie.Need-is-line-wrong-requires
+is-line-wrong-requires c κs = search frame-long
+
 returns-5 : tie.Need-returns-5
 unfolding kindRows
 returns-5 c = search (rungs, agrees) depth 13
 
 returns-6 : tie.Need-returns-6
 unfolding kindRows
-returns-6 c = search (rungs, agrees) depth 13
+returns-6 c = search (rungs, agrees) depth 14
+
+returns-7 : tie.Need-returns-7
+unfolding kindRows
+returns-7 c = search (rungs, agrees) depth 14
 
 pub frame-rule-spec : {M : Type 1} → statement M
 frame-rule-spec =
@@ -72,5 +79,7 @@ frame-rule-spec =
     returns-3
     is-untrue-requires
     returns-4
+    is-line-wrong-requires
     returns-5
-    returns-6)
+    returns-6
+    returns-7)

@@ -2,7 +2,6 @@ use Rattle.streaming_rules.proofs.Subtypes.{within, below, above}
 use Rattle.streaming_rules.specs.Descriptors.{kindOf}
 use Rattle.rules.specs.Pick.{pick}
 use mathlib.Core.Logic.{⊎-elim, inl, inr}
-use native.Mathlib.Omega.{arith}
 use Rattle.streaming_rules.proofs.kind_of.Statement.{statement}
 use Rattle.streaming_rules.proofs.kind_of.Tie as tie
 
@@ -28,16 +27,24 @@ returns-5 c = rw (c .match .keys5)
 
 returns-6 : tie.Need-returns-6
 unfolding kindOf pick
-returns-6 c = ⊎-elim (λ e. rw e) (λ e. rw e) (c .match .keys6)
+returns-6 c = rw (c .match .keys6)
 
 returns-7 : tie.Need-returns-7
-returns-7 c = let r = c .before .before .match .rest in within _ (r .0 .0 .0 .0 .0 .1) (r .0 .0 .0 .0 .1) (r .0 .0 .0 .1) (r .0 .0 .1) (r .0 .1) (λ e. r .1 (inl e)) (λ e. r .1 (inr e)) (omega arith) (omega arith)
+unfolding kindOf pick
+returns-7 c = rw (c .match .keys7)
 
 returns-8 : tie.Need-returns-8
-returns-8 c = let r = c .before .match .rest in below _ (r .0 .0 .0 .0 .0 .1) (r .0 .0 .0 .0 .1) (r .0 .0 .0 .1) (r .0 .0 .1) (r .0 .1) (λ e. r .1 (inl e)) (λ e. r .1 (inr e)) (omega arith)
+unfolding kindOf pick
+returns-8 c = ⊎-elim (λ e. rw e) (λ e. rw e) (c .match .keys8)
 
 returns-9 : tie.Need-returns-9
-returns-9 c = let r = c .before .before .match .rest in above _ (r .0 .0 .0 .0 .0 .1) (r .0 .0 .0 .0 .1) (r .0 .0 .0 .1) (r .0 .0 .1) (r .0 .1) (λ e. r .1 (inl e)) (λ e. r .1 (inr e)) (omega arith)
+returns-9 c = let r = c .before .before .match .rest in within _ (r .0 .0 .0 .0 .0 .0 .0 .1) (r .0 .0 .0 .0 .0 .0 .1) (r .0 .0 .0 .0 .0 .1) (r .0 .0 .0 .0 .1) (r .0 .0 .0 .1) (r .0 .0 .1) (r .0 .1) (λ e. r .1 (inl e)) (λ e. r .1 (inr e)) (c .before .if1 .left) (c .if2 .taken)
+
+returns-10 : tie.Need-returns-10
+returns-10 c = let r = c .before .match .rest in below _ (r .0 .0 .0 .0 .0 .0 .0 .1) (r .0 .0 .0 .0 .0 .0 .1) (r .0 .0 .0 .0 .0 .1) (r .0 .0 .0 .0 .1) (r .0 .0 .0 .1) (r .0 .0 .1) (r .0 .1) (λ e. r .1 (inl e)) (λ e. r .1 (inr e)) (c .if1 .taken)
+
+returns-11 : tie.Need-returns-11
+returns-11 c = let r = c .before .before .match .rest in above _ (r .0 .0 .0 .0 .0 .0 .0 .1) (r .0 .0 .0 .0 .0 .0 .1) (r .0 .0 .0 .0 .0 .1) (r .0 .0 .0 .0 .1) (r .0 .0 .0 .1) (r .0 .0 .1) (r .0 .1) (λ e. r .1 (inl e)) (λ e. r .1 (inr e)) (c .if2 .left)
 
 pub kind-of-spec : {M : Type 1} → statement M
 kind-of-spec =
@@ -51,4 +58,6 @@ kind-of-spec =
     returns-6
     returns-7
     returns-8
-    returns-9)
+    returns-9
+    returns-10
+    returns-11)

@@ -13,7 +13,11 @@ unfolding layoutOf pick
 returns-2 c = rw (c .match .keys2)
 
 returns-3 : tie.Need-returns-3
-returns-3 c = no-layout _ (c .match .rest .0 .1) (c .match .rest .1)
+unfolding layoutOf pick
+returns-3 c = rw (c .match .keys3)
+
+returns-4 : tie.Need-returns-4
+returns-4 c = no-layout _ (c .match .rest .0 .0 .1) (c .match .rest .0 .1) (c .match .rest .1)
 
 pub layout-of-spec : {M : Type 1} → statement M
-layout-of-spec = tie.close (tie.spec returns returns-2 returns-3)
+layout-of-spec = tie.close (tie.spec returns returns-2 returns-3 returns-4)
