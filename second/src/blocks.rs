@@ -102,6 +102,28 @@ pub fn mjpeg(index: u8, frames: u8, default: u8) -> Vec<u8> {
     descriptor(6, &[index, frames, 1, default, 0, 0, 0, 0])
 }
 
+pub const H264: [u8; 16] = *b"H264\x00\x00\x10\x00\x80\x00\x00\xaa\x00\x38\x9b\x71";
+
+pub fn frame_based(index: u8, frames: u8, guid: &[u8; 16], bits: u8, default: u8, flag: u8) -> Vec<u8> {
+    let mut rest = vec![index, frames];
+    rest.extend(guid);
+    rest.extend([bits, default, 0, 0, 0, 0, flag]);
+    descriptor(0x10, &rest)
+}
+
+/// A frame of subtype 0x11 with bytes per line, k and its intervals.
+pub fn line_frame(index: u8, width: u16, height: u16, line: u32, default: u32, k: u8, intervals: &[u32]) -> Vec<u8> {
+    let mut rest = vec![index, 0];
+    rest.extend(width.to_le_bytes());
+    rest.extend(height.to_le_bytes());
+    rest.extend([0; 8]);
+    rest.extend(default.to_le_bytes());
+    rest.push(k);
+    rest.extend(line.to_le_bytes());
+    rest.extend(intervals.iter().flat_map(|i| i.to_le_bytes()));
+    descriptor(0x11, &rest)
+}
+
 /// A frame of subtype 5 or 7 with k and its intervals (or shortest, longest and step where k is 0).
 pub fn frame(subtype: u8, index: u8, width: u16, height: u16, size: u32, default: u32, k: u8, intervals: &[u32]) -> Vec<u8> {
     let mut rest = vec![index, 0];

@@ -244,8 +244,16 @@ fn sizes(r: &mut Random, bits: u8) -> (u16, u16, u32) {
     (width as u16, height as u16, size.min(u32::MAX as usize) as u32)
 }
 
-fn frame(r: &mut Random, subtype: u8, index: u8, bits: u8, offered: &mut Vec<u32>) -> Vec<u8> {
-    let (width, height, size) = sizes(r, bits);
+/// A frame of any kind: one of subtype 0x11 has bytes per line, any other a buffer size.
+fn of_kind(subtype: u8, index: u8, (width, height, size): (u16, u16, u32), line: u32, default: u32, k: u8, intervals: &[u32]) -> Vec<u8> {
+    if subtype == 0x11 {
+        return blocks::line_frame(index, width, height, line, default, k, intervals);
+    }
+    blocks::frame(subtype, index, width, height, size, default, k, intervals)
+}
+
+fn frame(r: &mut Random, subtype: u8, index: u8, bits: u8, line: u32, offered: &mut Vec<u32>) -> Vec<u8> {
+    let picture = sizes(r, bits);
     if r.once_in(3) {
         let shortest = if r.once_in(30) { 0 } else { interval(r) };
         let step = match r.below(20) {
@@ -259,7 +267,7 @@ fn frame(r: &mut Random, subtype: u8, index: u8, bits: u8, offered: &mut Vec<u32
         let default =
             if r.once_in(15) { interval(r) } else { shortest.wrapping_add(step.wrapping_mul(r.below(times as usize + 1) as u32)) };
         offered.extend([default, shortest, longest]);
-        return blocks::frame(subtype, index, width, height, size, default, 0, &[shortest, longest, step]);
+        return of_kind(subtype, index, picture, line, default, 0, &[shortest, longest, step]);
     }
     let k = if r.once_in(40) { 57 } else { 1 + r.below(5) };
     let mut list: Vec<u32> = (0..k).map(|_| interval(r)).collect();
@@ -277,7 +285,7 @@ fn frame(r: &mut Random, subtype: u8, index: u8, bits: u8, offered: &mut Vec<u32
     let default = if r.once_in(15) { interval(r) } else { r.pick(&list) };
     offered.push(default);
     offered.extend(&list);
-    blocks::frame(subtype, index, width, height, size, default, list.len() as u8, &list)
+    of_kind(subtype, index, picture, line, default, list.len() as u8, &list)
 }
 
 /// A streaming block, and intervals that its frames may offer.
@@ -294,17 +302,18 @@ pub fn streaming(r: &mut Random) -> (Vec<u8>, Vec<u32>) {
         let count = if r.once_in(25) { r.below(5) } else { frames };
         let default = if r.once_in(25) { r.below(6) } else { 1 + r.below(frames) };
         let index = if r.once_in(25) { r.byte() } else { number as u8 };
-        let subtype = r.pick(&[4, 6]);
+        let subtype = r.pick(&[4, 6, 0x10]);
+        let flag = if r.once_in(25) { r.pick(&[2, 3, 255]) } else { r.below(2) as u8 };
         let (mut guid, right) = r.pick(&[(blocks::YUY2, 16), (blocks::NV12, 12), ([7; 16], 24)]);
         let bits = if r.once_in(20) { r.pick(&[0, 12, 16, 24, 255]) } else { right };
-        if subtype == 4 {
-            if r.once_in(10) {
-                guid[r.below(16)] ^= 1;
-            }
-            all.push(blocks::uncompressed(index, count as u8, &guid, bits, default as u8));
-        } else {
-            all.push(blocks::mjpeg(index, count as u8, default as u8));
+        if r.once_in(10) {
+            guid[r.below(16)] ^= 1;
         }
+        all.push(match subtype {
+            4 => blocks::uncompressed(index, count as u8, &guid, bits, default as u8),
+            6 => blocks::mjpeg(index, count as u8, default as u8),
+            _ => blocks::frame_based(index, count as u8, &guid, bits, default as u8, flag),
+        });
         for f in 1..=frames {
             if r.once_in(10) {
                 let between = r.pick(&[3, 0x0D, 0x0E, 0x20, 8, 9, 0x0B, 0x0F, 0x19]);
@@ -313,16 +322,17 @@ pub fn streaming(r: &mut Random) -> (Vec<u8>, Vec<u32>) {
                 all.push(blocks::descriptor(between, &rest));
             }
             if frames > 30 {
-                all.push(blocks::frame(subtype + 1, f as u8, 640, 480, 614_400, 333_333, 1, &[333_333]));
+                all.push(of_kind(subtype + 1, f as u8, (640, 480, 614_400), 0, 333_333, 1, &[333_333]));
                 continue;
             }
-            let subtype = if r.once_in(60) { r.pick(&[5, 7]) } else { subtype + 1 };
+            let subtype = if r.once_in(60) { r.pick(&[5, 7, 0x11]) } else { subtype + 1 };
             let index = if r.once_in(60) { r.byte() } else { f as u8 };
-            all.push(frame(r, subtype, index, bits, &mut offered));
+            let line = if r.once_in(if flag == 1 { 12 } else { 2 }) { r.pick(&[1, 256, 0x0100_0000, u32::MAX]) } else { 0 };
+            all.push(frame(r, subtype, index, bits, line, &mut offered));
         }
     }
     if r.once_in(30) {
-        all.push(blocks::descriptor(r.pick(&[2, 0x0A, 0x0C, 0x10, 0x14, 0x18]), &[1, 2, 3]));
+        all.push(blocks::descriptor(r.pick(&[2, 0x0A, 0x0C, 0x12, 0x14, 0x18]), &[1, 2, 3]));
     }
     let p = if r.once_in(20) { r.below(10) } else { formats };
     let endpoint = if r.once_in(20) { 0x02 } else { 0x80 | r.byte() };

@@ -23,6 +23,8 @@ pub struct Format {
     pub bits: u8,
     pub frames: u8,
     pub default: u8,
+    /// A frame-based format's variable-size flag is 1.
+    pub variable: bool,
     pub offset: usize,
 }
 
@@ -82,13 +84,23 @@ fn u16_at(d: &[u8], at: usize) -> u16 {
     u16::from_le_bytes(d[at..at + 2].try_into().unwrap())
 }
 
+/// Where a frame of this subtype has k, the number of its intervals.
+fn k_at(subtype: u8) -> usize {
+    if subtype == 0x11 {
+        21
+    } else {
+        25
+    }
+}
+
 fn length_right(d: &[u8]) -> bool {
     let n = d.len();
     match d[2] {
         1 => n >= 13 && n == 13 + d[3] as usize * d[12] as usize,
         4 => n == 27,
         6 => n == 11,
-        5 | 7 => n >= 26 && if d[25] == 0 { n == 38 } else { n == 26 + 4 * d[25] as usize },
+        0x10 => n == 28,
+        5 | 7 | 0x11 => n >= 26 && if d[k_at(d[2])] == 0 { n == 38 } else { n == 26 + 4 * d[k_at(d[2])] as usize },
         _ => true,
     }
 }
@@ -134,7 +146,7 @@ pub fn read(table: &Table, block: &[u8]) -> Result<Streaming, Refusal> {
         if d[1] != 0x24 || d[2] == 2 || (d[2] == 1 && at > 0) {
             return no(26);
         }
-        if d[2] == 0x0A || d[2] == 0x0C || (0x10..=0x18).contains(&d[2]) {
+        if d[2] == 0x0A || d[2] == 0x0C || (0x12..=0x18).contains(&d[2]) {
             return no(27);
         }
         if !length_right(d) {
@@ -153,15 +165,18 @@ pub fn read(table: &Table, block: &[u8]) -> Result<Streaming, Refusal> {
                 s.endpoint = d[6];
                 s.link = d[8];
             }
-            4 | 6 => {
+            4 | 6 | 0x10 => {
                 if d[3] as usize != s.formats.len() + 1 {
                     return no(31);
+                }
+                if d[2] == 0x10 && d[27] > 1 {
+                    return no(40);
                 }
                 if s.formats.len() == 8 {
                     return no(35);
                 }
-                let uncompressed = d[2] == 4;
-                let guid = if !uncompressed {
+                let guided = d[2] != 6;
+                let guid = if !guided {
                     0
                 } else if d[5..21] == YUY2 {
                     1
@@ -173,13 +188,14 @@ pub fn read(table: &Table, block: &[u8]) -> Result<Streaming, Refusal> {
                 s.formats.push(Format {
                     kind: d[2],
                     guid,
-                    bits: if uncompressed { d[21] } else { 0 },
+                    bits: if guided { d[21] } else { 0 },
                     frames: d[4],
-                    default: if uncompressed { d[22] } else { d[6] },
+                    default: if guided { d[22] } else { d[6] },
+                    variable: d[2] == 0x10 && d[27] == 1,
                     offset: at,
                 });
             }
-            5 | 7 => {
+            5 | 7 | 0x11 => {
                 let number = s.formats.len();
                 if s.formats.last().map(|f| f.kind) != Some(d[2] - 1) {
                     return no(32);
@@ -188,23 +204,26 @@ pub fn read(table: &Table, block: &[u8]) -> Result<Streaming, Refusal> {
                 if d[3] as usize != before + 1 {
                     return no(33);
                 }
-                let offers = if d[25] == 0 {
+                let (k, interval) = (d[k_at(d[2])], u32_at(d, if d[2] == 0x11 { 17 } else { 21 }));
+                let offers = if k == 0 {
                     Offers::Range { shortest: u32_at(d, 26), longest: u32_at(d, 30), step: u32_at(d, 34) }
                 } else {
-                    Offers::List((0..d[25] as usize).map(|i| u32_at(d, 26 + 4 * i)).collect())
+                    Offers::List((0..k as usize).map(|i| u32_at(d, 26 + 4 * i)).collect())
                 };
-                let interval = u32_at(d, 21);
                 if !offers.sound() || !offers.has(interval) {
                     return no(34);
                 }
-                let (width, height, size) = (u16_at(d, 5), u16_at(d, 7), u32_at(d, 17));
+                let (width, height, size) = (u16_at(d, 5), u16_at(d, 7), if d[2] == 0x11 { 0 } else { u32_at(d, 17) });
                 if d[2] == 5 && !possible(&s.formats[number - 1], width, height, size) {
                     return no(39);
+                }
+                if d[2] == 0x11 && s.formats[number - 1].variable && u32_at(d, 22) != 0 {
+                    return no(40);
                 }
                 if s.frames.len() == 64 {
                     return no(35);
                 }
-                s.frames.push(Frame { format: number, index: d[3], width, height, size, interval, k: d[25], offset: at, offers });
+                s.frames.push(Frame { format: number, index: d[3], width, height, size, interval, k, offset: at, offers });
             }
             _ => {}
         }

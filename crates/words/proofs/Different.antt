@@ -16,7 +16,7 @@ between least most n = leb n most && leb least n
 
 -- the numbers of documents 01 and 02 for a control block, a streaming block and a probe block
 abbrev pub forBlocks : ℕ → Bool
-forBlocks n = between 1 16 n || (between 20 39 n || between 41 46 n)
+forBlocks n = between 1 16 n || between 20 46 n
 
 abbrev pub some : List ℕ → Bool
 some [] = false
@@ -38,7 +38,7 @@ unfolding wordsOf
 low n h = alike→eq (some (wordsOf n)) (forBlocks n) (below (λ i. alike (some (wordsOf i)) (forBlocks i)) 47 tt n h)
 
 high : (n : ℕ) → 47 ≤ n → some (wordsOf n) ≡ forBlocks n
-high n h = rw (past n h, lt-leb n 16 (omega arith), lt-leb n 39 (omega arith), lt-leb n 46 (omega arith))
+high n h = rw (past n h, lt-leb n 16 (omega arith), lt-leb n 46 (omega arith))
 
 pub words-exactly : (n : ℕ) → some (wordsOf n) ≡ forBlocks n
 words-exactly n = by-test (ltb n 47) refl

@@ -53,6 +53,7 @@ table =
     says 37 "a format's default frame is none of its frames" ∷
     says 38 "the input header gives another number of formats" ∷
     says 39 "a frame's width, height, bits or buffer size cannot be true" ∷
+    says 40 "a frame-based format's flag or its frame's bytes per line are wrong" ∷
     says 41 "the probe block has not 48 bytes" ∷
     says 42 "the probe block asks for a format that the camera has not" ∷
     says 43 "the probe block asks for a frame that its format has not" ∷

@@ -50,7 +50,7 @@ const WIDTHS: [u8; PAST] = [
     47,
     49,
     60,
-    0,
+    68,
     33,
     58,
     57,
@@ -118,7 +118,7 @@ a format has not as many frames as it says\n.............................\
 a format's default frame is none of its frames\n.........................\
 the input header gives another number of formats\n.......................\
 a frame's width, height, bits or buffer size cannot be true\n............\
-........................................................................\
+a frame-based format's flag or its frame's bytes per line are wrong\n....\
 the probe block has not 48 bytes\n.......................................\
 the probe block asks for a format that the camera has not\n..............\
 the probe block asks for a frame that its format has not\n...............\

@@ -154,6 +154,7 @@ fn streaming_cases() -> Vec<Case> {
         blocks.push(streaming(2, 0x81, 9, 0, &two));
     }
     blocks.extend(sizes());
+    blocks.extend(frame_based_formats());
     // 36 to 38.
     for (count, default, p) in [(2, 1, 1), (0, 1, 1), (1, 0, 1), (1, 2, 1), (1, 1, 0), (1, 1, 2), (2, 0, 2), (1, 0, 2)] {
         blocks.push(streaming(p, 0x81, 9, 0, &[mjpeg(1, count, default), picture(7, 1)]));
@@ -243,6 +244,84 @@ fn sizes() -> Vec<Vec<u8>> {
     blocks
 }
 
+/// Subtypes 0x10 and 0x11, and 40.
+fn frame_based_formats() -> Vec<Vec<u8>> {
+    let format = |flag| frame_based(1, 1, &H264, 0, 1, flag);
+    let moving = |index, line| line_frame(index, 640, 480, line, 333_333, 1, &[333_333]);
+    let one = |format: Vec<u8>, frame: Vec<u8>| streaming(1, 0x81, 9, 0, &[format, frame]);
+    let mut blocks = Vec::new();
+    // The flag and the bytes per line.
+    for flag in [0, 1, 2, 255] {
+        for line in [0, 1, 256, 0x0100_0000, u32::MAX] {
+            blocks.push(one(format(flag), moving(1, line)));
+        }
+    }
+    // GUIDs are compared as an uncompressed format's, and 39 is not asked.
+    for guid in [YUY2, NV12, H264] {
+        blocks.push(one(frame_based(1, 1, &guid, 7, 1, 0), line_frame(1, 0, 0, 5, 10, 1, &[10])));
+        blocks.push(one(frame_based(1, 1, &guid, 16, 1, 1), line_frame(1, 65_535, 65_535, 0, 10, 1, &[10])));
+    }
+    // 28: lengths around the right ones.
+    for n in [3, 4, 27, 29] {
+        let mut other = format(0);
+        other.resize(n, 0);
+        other[0] = n as u8;
+        blocks.push(one(other, moving(1, 0)));
+    }
+    for n in [3, 21, 22, 25, 26, 29, 31, 38] {
+        let mut other = moving(1, 0);
+        other.resize(n, 0);
+        other[0] = n as u8;
+        blocks.push(one(format(0), other));
+    }
+    // k stands at 21: what stands at 25 says nothing of the length.
+    for line in [0x0200_0000, 0] {
+        blocks.push(one(format(0), line_frame(1, 4, 4, line, 10, 2, &[10, 20])));
+        blocks.push(one(format(0), line_frame(1, 4, 4, line, 20, 0, &[10, 30, 5])));
+    }
+    // 31, 32, 33 over the three kinds.
+    let kinds = [(uncompressed(1, 1, &YUY2, 16, 1), picture(5, 1)), (mjpeg(1, 1, 1), picture(7, 1)), (format(0), moving(1, 0))];
+    for (format, _) in &kinds {
+        for (other, frame) in &kinds {
+            blocks.push(one(format.clone(), frame.clone()));
+            let mut second = other.clone();
+            second[3] = 2;
+            blocks.push(streaming(2, 0x81, 9, 0, &[mjpeg(1, 1, 1), picture(7, 1), second.clone(), frame.clone()]));
+            blocks.push(streaming(2, 0x81, 9, 0, &[format.clone(), frame.clone(), second, frame.clone()]));
+        }
+    }
+    blocks.push(one(with(&format(0), 3, 2), moving(1, 0)));
+    blocks.push(one(format(0), moving(2, 0)));
+    blocks.push(streaming(1, 0x81, 9, 0, &[frame_based(1, 2, &H264, 0, 2, 1), moving(1, 0), moving(2, 1)]));
+    // 34, at this kind's places.
+    for (default, list) in [(1, vec![1]), (2, vec![1]), (0, vec![0]), (3, vec![1, 3, 2]), (u32::MAX, vec![1, u32::MAX])] {
+        blocks.push(one(format(0), line_frame(1, 1, 2, 3, default, list.len() as u8, &list)));
+    }
+    for (default, shortest, longest, step) in
+        [(10, 10, 10, 1), (10, 10, 10, 0), (15, 10, 19, 5), (16, 10, 20, 5), (5, 0, 10, 5), (21, 10, 20, 1)]
+    {
+        blocks.push(one(format(0), line_frame(1, 1, 2, 3, default, 0, &[shortest, longest, step])));
+    }
+    // 31 before 40 before 35, at a format; 34 before 40 before 35, at a frame.
+    blocks.push(one(with(&format(2), 3, 2), moving(1, 0)));
+    blocks.push(one(format(1), line_frame(1, 1, 2, 3, 11, 1, &[10])));
+    for flag in [1, 2] {
+        let mut nine: Vec<Vec<u8>> = (1..=8).flat_map(|i| [mjpeg(i, 1, 1), picture(7, 1)]).collect();
+        nine.push(frame_based(9, 1, &H264, 0, 1, flag));
+        blocks.push(streaming(9, 0x81, 9, 0, &nine));
+    }
+    for line in [0, 1] {
+        let mut many = vec![frame_based(1, 65, &H264, 0, 1, 1)];
+        many.extend((1..=64).map(|i| moving(i, 0)));
+        many.push(moving(65, line));
+        blocks.push(streaming(1, 0x81, 9, 0, &many));
+    }
+    // The flag of the last format decides.
+    blocks.push(streaming(2, 0x81, 9, 0, &[format(1), moving(1, 0), frame_based(2, 1, &H264, 0, 1, 0), moving(1, 9)]));
+    blocks.push(streaming(2, 0x81, 9, 0, &[format(0), moving(1, 9), frame_based(2, 1, &H264, 0, 1, 1), moving(1, 9)]));
+    blocks
+}
+
 /// 20 and 30 on tables that no block gave.
 fn hostile_tables() -> Vec<Case> {
     let output = |id| Place { id, kind: 3, terminal: 0x0101, offset: 0 };
@@ -266,7 +345,7 @@ fn hostile_tables() -> Vec<Case> {
 /// 41 to 46.
 fn probes() -> Vec<Case> {
     let block = streaming(
-        2,
+        3,
         0x81,
         9,
         0,
@@ -276,11 +355,14 @@ fn probes() -> Vec<Case> {
             picture(5, 2),
             mjpeg(2, 1, 1),
             frame(7, 1, 1, 1, 1, 100, 3, &[100, 200, 300]),
+            frame_based(3, 2, &H264, 0, 1, 1),
+            line_frame(1, 1, 1, 0, 250, 2, &[200, 250]),
+            line_frame(2, 1, 1, 0, 35, 0, &[30, 50, 5]),
         ],
     );
     let mut all = Vec::new();
     let mut check = |p: Vec<u8>| all.push(Case::Check(table_block(), block.clone(), p));
-    for (format, number) in [(0, 1), (1, 0), (1, 1), (1, 2), (1, 3), (2, 1), (2, 2), (3, 1), (255, 255)] {
+    for (format, number) in [(0, 1), (1, 0), (1, 1), (1, 2), (1, 3), (2, 1), (2, 2), (3, 1), (3, 2), (3, 3), (4, 1), (255, 255)] {
         for interval in [0, 9, 10, 12, 15, 30, 31, 35, 100, 200, 250, 300, 333_333, u32::MAX] {
             check(probe(format, number, interval, 1_000, 1_000));
         }
