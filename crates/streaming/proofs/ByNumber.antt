@@ -1,6 +1,6 @@
 -- A block is refused by a rule of a descriptor exactly when that rule comes to be asked there and is broken; and for 39 and 40 in words.
 use Prim.Native.Nat.{ℕ}
-use mathlib.Core.Path.{_≡_, refl, sym, _∙_}
+use mathlib.Core.Path.{_≡_, refl}
 use mathlib.Core.List.{List}
 use mathlib.Core.Bool.{true}
 use mathlib.Core.Logic.{_↔_}

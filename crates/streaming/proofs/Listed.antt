@@ -25,7 +25,7 @@ use Rattle.streaming_rules.specs.declared.Kind.the-variants.{Header, Formats, F
 use Rattle.streaming_rules.specs.declared.Sofar.{Sofar}
 use Rattle.streaming_rules.specs.declared.Format.{Format}
 use Rattle.streaming_rules.specs.declared.Frame.{Frame}
-use Rattle.streaming_rules.proofs.Fine.{Fine, fine}
+use Rattle.streaming_rules.proofs.Fine.{Fine, fine, format-of, frame-of}
 use Rattle.streaming_rules.proofs.Sizes.{sizes-true}
 use Rattle.streaming_rules.proofs.Flags.{flag-right, line-right}
 use Rattle.streaming.specs.Answer.{Seen, linkedTo, linkOf, lastOf, sofar, after, acceptedWith, streamingOf}
@@ -34,21 +34,6 @@ use Rattle.streaming.specs.Listed.{frameIn, Starts, FormatStands, number
 use Rattle.streaming.specs.declared.Streaming.{Streaming}
 use Rattle.streaming.proofs.Going.{after-format, after-frame, after-other}
 use Rattle.streaming.proofs.ExactlyWhen.{accepted, tables}
-
--- a kind that is a format's, and one that is a frame's
-format-kind : (k : Kind) → isFormat k ≡ true → k ≡ Formats (formatOf k)
-format-kind Header h = absurd (true≢false (sym h))
-format-kind (Formats f) h = refl
-format-kind (Frames f) h = absurd (true≢false (sym h))
-format-kind Unread h = absurd (true≢false (sym h))
-format-kind Other h = absurd (true≢false (sym h))
-
-frame-kind : (k : Kind) → isFrame k ≡ true → k ≡ Frames (formatOf k)
-frame-kind Header h = absurd (true≢false (sym h))
-frame-kind (Formats f) h = absurd (true≢false (sym h))
-frame-kind (Frames f) h = refl
-frame-kind Unread h = absurd (true≢false (sym h))
-frame-kind Other h = absurd (true≢false (sym h))
 
 -- a frame that is not misplaced: there is a format, and the last one is of its kind
 some-format : (f : ℕ) (a : Sofar) → misplaced f a ≡ false → a .formats ≡ 0 → ⊥
@@ -95,7 +80,7 @@ module _ (t : Table) (s : List ℕ) where
     new-format : isFormat (kindAt s o) ≡ true → FormatStands t s (length (a .formats)) (a .formats) (formatAt (formatOf (kindAt s o)) s o)
     unfolding formatAt
     new-format q =
-        record { starts = here; kind = format-kind (kindAt s o) q; same = refl; number = f .index q; order = h .formats-before; flag = flag-right (formatOf (kindAt s o)) s o (f .flag q) }
+        record { starts = here; kind = format-of (kindAt s o) _ q refl; same = refl; number = f .index q; order = h .formats-before; flag = flag-right (formatOf (kindAt s o)) s o (f .flag q) }
 
     held-format : isFormat (kindAt s o) ≡ true → Held (record { formats = a .formats ++ (formatAt (formatOf (kindAt s o)) s o ∷ []); frames = a .frames }) p
     unfolding formatAt
@@ -116,7 +101,7 @@ module _ (t : Table) (s : List ℕ) where
           same = rw same-kind;
           low = omega (arith, some);
           high = omega arith;
-          kind = rw same-kind (frame-kind (kindAt s o) q);
+          kind = rw same-kind (frame-of (kindAt s o) _ q refl);
           under = h .formats-before (length (a .formats) - 1) (omega (arith, some));
           between = λ j l m. absurd (omega arith);
           number = f .numbered q;

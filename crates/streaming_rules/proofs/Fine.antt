@@ -1,6 +1,6 @@
 -- What holds of a descriptor that breaks no rule.
 use Prim.Native.Nat.{ℕ, _+_, _≤_, _<_}
-use mathlib.Core.Path.{_≡_, refl, sym}
+use mathlib.Core.Path.{_≡_, refl, sym, ap}
 use mathlib.Core.List.{List}
 use mathlib.Core.Bool.{true, false, _&&_, _||_, true≢false}
 use lib.ListN.{length}
@@ -74,6 +74,21 @@ numbered s o a = omega arith
 pub head-sizes : (t : ℕ) (s : List ℕ) → NoneOf (headRows t s) → (13 ≤ length s) × (length s ≤ 16384)
 unfolding headRows
 head-sizes t s n = sizes limits s (n .1)
+
+-- a kind that is a format's, and one that is a frame's
+pub format-of : (k : Kind) (f : ℕ) → isFormat k ≡ true → formatOf k ≡ f → k ≡ Formats f
+format-of Header f h e = absurd (true≢false (sym h))
+format-of (Formats g) f h e = ap Formats e
+format-of (Frames g) f h e = absurd (true≢false (sym h))
+format-of Unread f h e = absurd (true≢false (sym h))
+format-of Other f h e = absurd (true≢false (sym h))
+
+pub frame-of : (k : Kind) (f : ℕ) → isFrame k ≡ true → formatOf k ≡ f → k ≡ Frames f
+frame-of Header f h e = absurd (true≢false (sym h))
+frame-of (Formats g) f h e = absurd (true≢false (sym h))
+frame-of (Frames g) f h e = ap Frames e
+frame-of Unread f h e = absurd (true≢false (sym h))
+frame-of Other f h e = absurd (true≢false (sym h))
 
 -- a frame is no format
 pub no-frame-format : (k : Kind) → isFormat k ≡ true → isFrame k ≡ false

@@ -1,10 +1,10 @@
 -- 40 is broken exactly by a frame-based format whose flag is not 0 or 1, and by a frame under one with the flag 1 whose bytes per line are not 0.
 use Prim.Native.Nat.{ℕ, _≤_, _<_}
-use mathlib.Core.Path.{_≡_, refl, sym, ap, _∙_}
+use mathlib.Core.Path.{_≡_, refl, sym, _∙_}
 use mathlib.Core.List.{List}
 use mathlib.Core.Bool.{Bool, true, false, not, _&&_, _||_, true≢false}
 use mathlib.Core.Logic.{_⊎_, inl, inr, ⊎-elim, _↔_}
-use lib.Dec.{eqb, ltb}
+use lib.Dec.{eqb}
 use borrow.Author.Tests.{eq-eqb, ne-eqb, lt-ltb, eqb-true, eqb-false, ltb-true, ltb-false, not-false}
 use native.Mathlib.Omega.{arith}
 use Rattle.rules.specs.Pick.{pick}
@@ -12,18 +12,10 @@ use Rattle.rules.specs.Numbered.{rowsAfter, isBroken}
 use Rattle.rules.proofs.Rows.{Elsewhere, and-first, and-second, or-either}
 use Rattle.streaming_rules.specs.Descriptors.{kindAt, isFormat, isFrame, formatOf, flagAt, lineAt}
 use Rattle.streaming_rules.specs.Rules.{flagWrong, lineWrong, FlagOrLine, kindRows, rows}
-use Rattle.streaming_rules.specs.declared.Kind.{Kind}
-use Rattle.streaming_rules.specs.declared.Kind.the-variants.{Header, Formats, Frames, Unread, Other}
+use Rattle.streaming_rules.specs.declared.Kind.the-variants.{Formats, Frames}
 use Rattle.streaming_rules.specs.declared.Format.{Format}
 use Rattle.streaming_rules.specs.declared.Sofar.{Sofar}
-use Rattle.streaming_rules.proofs.Sizes.{frame-of}
-
-format-of : (k : Kind) (f : ℕ) → isFormat k ≡ true → formatOf k ≡ f → k ≡ Formats f
-format-of Header f h e = absurd (true≢false (sym h))
-format-of (Formats g) f h e = ap Formats e
-format-of (Frames g) f h e = absurd (true≢false (sym h))
-format-of Unread f h e = absurd (true≢false (sym h))
-format-of Other f h e = absurd (true≢false (sym h))
+use Rattle.streaming_rules.proofs.Fine.{format-of, frame-of}
 
 not-true : (b : Bool) → not b ≡ true → b ≡ false
 not-true true h = absurd (true≢false (sym h))
@@ -94,9 +86,10 @@ module _ (s : List ℕ) (o : ℕ) (a : Sofar) where
 
   -- EXACTLY WHEN
   pub row-40 : (isBroken 40 (rows s o a) ≡ true) ↔ FlagOrLine (a .last) s o
-  row-40 =
-      (λ e. ⊎-elim at-format at-frame (or-either byFormat byFrame .0 (sym here ∙ e))
-      , ⊎-elim (λ r. either (inl (format-broken (r .0) (r .1)))) (λ r. either (inr (frame-broken (r .0) (r .1) (r .2)))))
+  row-40 = (
+    λ e. ⊎-elim at-format at-frame (or-either byFormat byFrame .0 (sym here ∙ e)),
+    ⊎-elim (λ r. either (inl (format-broken (r .0) (r .1)))) (λ r. either (inr (frame-broken (r .0) (r .1) (r .2)))),
+  )
 
   -- its number stands once
   pub once-40 : Elsewhere 40 (rowsAfter 40 (rows s o a))

@@ -1,13 +1,11 @@
 -- 39 is broken exactly by a frame under an uncompressed format of YUY2 or NV12 whose sizes cannot be true, and by nothing else.
-use Prim.Native.Nat.{ℕ, _+_}
-use mathlib.Core.Path.{_≡_, refl, sym, ap, _∙_}
+use Prim.Native.Nat.{ℕ}
+use mathlib.Core.Path.{_≡_, refl, sym, _∙_}
 use mathlib.Core.List.{List}
-use mathlib.Core.Bool.{Bool, true, false, _&&_, true≢false}
+use mathlib.Core.Bool.{Bool, true, false, _&&_}
 use mathlib.Core.Logic.{_↔_}
-use lib.Dec.{eqb}
-use borrow.Author.Tests.{eq-eqb, eqb-true}
+use borrow.Author.Tests.{eqb-true}
 use native.Mathlib.Omega.{arith}
-use Rattle.le.specs.Le.{le16At, le32At}
 use Rattle.rules.specs.Pick.{pick}
 use Rattle.rules.specs.Numbered.{rowsAfter, isBroken}
 use Rattle.rules.proofs.Rows.{Elsewhere, and-first, and-second}
@@ -15,18 +13,10 @@ use Rattle.pictures.specs.Pictures.{Asked, untrue}
 use Rattle.pictures.proofs.Deciding.{untrue-decides, can-be-true}
 use Rattle.streaming_rules.specs.Descriptors.{kindAt, isFrame, formatOf, layoutOf, frameAt}
 use Rattle.streaming_rules.specs.Rules.{untrueAt, SizesTrue, kindRows, rows}
-use Rattle.streaming_rules.specs.declared.Kind.{Kind}
-use Rattle.streaming_rules.specs.declared.Kind.the-variants.{Header, Formats, Frames, Unread, Other}
+use Rattle.streaming_rules.specs.declared.Kind.the-variants.{Frames}
 use Rattle.streaming_rules.specs.declared.Format.{Format}
 use Rattle.streaming_rules.specs.declared.Sofar.{Sofar}
-
--- a kind that is a frame's
-pub frame-of : (k : Kind) (f : ℕ) → isFrame k ≡ true → formatOf k ≡ f → k ≡ Frames f
-frame-of Header f h e = absurd (true≢false (sym h))
-frame-of (Formats g) f h e = absurd (true≢false (sym h))
-frame-of (Frames g) f h e = ap Frames e
-frame-of Unread f h e = absurd (true≢false (sym h))
-frame-of Other f h e = absurd (true≢false (sym h))
+use Rattle.streaming_rules.proofs.Fine.{frame-of}
 
 uncompressed : (f : ℕ) (x : Format) (s : List ℕ) (o : ℕ) → untrueAt f x s o ≡ true → f ≡ 4
 unfolding untrueAt
