@@ -10,7 +10,7 @@ use Rattle.sizes.specs.declared.Opening.{Opening}
 use Rattle.payload.specs.declared.Header.{Header}
 use Rattle.frames.specs.declared.Reason.{Reason}
 use Rattle.payload.specs.declared.Stamp.{Stamp}
-use Rattle.frames.specs.declared.Reason.the-variants.{Gap, Error, Clock, Long, Cut}
+use Rattle.frames.specs.declared.Reason.the-variants.{Gap, Error, Clock, Mixed, Long, Cut}
 use Rattle.frames.specs.declared.Fault.{Fault}
 use Rattle.frames.specs.declared.Fault.the-variants.{Sound, Bad}
 use Rattle.frames.specs.declared.Run.{Run}
@@ -20,10 +20,10 @@ use Rattle.frames.specs.declared.Track.{Track}
 use Rattle.frames.specs.declared.Ended.{Ended}
 use Rattle.frames.specs.declared.Ended.the-variants.{Nothing, Frame}
 use Rattle.frames.specs.declared.Fate.{Fate}
-use Rattle.frames.specs.declared.Fate.the-variants.{Idle, Kept, Stray, Delivered, Dropped, Unreadable}
+use Rattle.frames.specs.declared.Fate.the-variants.{Idle, Kept, Stray, Delivered, Still, Dropped, Unreadable}
 use Rattle.frames.specs.declared.Turn.{Turn}
 use Rattle.frames.specs.Track.{underBytes, FilledBy, Filled}
-use Rattle.frames.specs.Inner.{firstOf, clashOf, whyOf, sameOf, filledOf, writtenOf, begunOf, faultOf, joinedOf, completeOf, fateOf, phaseOf, joinTurn, strayTurn, turnBy, turnOf, spoiltBy, spoiltOf, closedBy, closedOf}
+use Rattle.frames.specs.Inner.{firstOf, clashOf, whyOf, sameOf, mixedOf, filledOf, writtenOf, begunOf, faultOf, joinedOf, completeOf, fateOf, phaseOf, joinTurn, strayTurn, turnBy, turnOf, spoiltBy, spoiltOf, closedBy, closedOf}
 
 -- ---- no fault now: none before, and none by this
 first-sound : (f : Fault) (bad : Bool) (why : Reason) → firstOf f bad why ≡ Sound → (f ≡ Sound) × (bad ≡ false)
@@ -35,9 +35,10 @@ module _ (o : Opening) (r : Run) (h : Header) (n : ℕ) where
   -- a frame without fault had none before, and is no longer than the frame size
   pub sound-before : faultOf o r h n ≡ Sound → (r .fault ≡ Sound) × (r .bytes + n ≤ o .frame)
   sound-before e =
-      let l = first-sound (firstOf (firstOf (r .fault) (h .error) Error) (clashOf (r .stamp) (h .stamp)) Clock)
-      (ltb (o .frame) (r .bytes + n)) Long e in
-      let k = first-sound (firstOf (r .fault) (h .error) Error) (clashOf (r .stamp) (h .stamp)) Clock (l .0) in
+      let c : Fault = firstOf (firstOf (r .fault) (h .error) Error) (clashOf (r .stamp) (h .stamp)) Clock in
+      let l = first-sound (firstOf c (mixedOf r h) Mixed) (ltb (o .frame) (r .bytes + n)) Long e in
+      let m = first-sound c (mixedOf r h) Mixed (l .0) in
+      let k = first-sound (firstOf (r .fault) (h .error) Error) (clashOf (r .stamp) (h .stamp)) Clock (m .0) in
       (first-sound (r .fault) (h .error) Error (k .0) .0, ltb-false (o .frame) (r .bytes + n) (l .1))
 
   module _ (q : Filled o r) where
@@ -60,20 +61,21 @@ module _ (o : Opening) (r : Run) (h : Header) (n : ℕ) where
     pub join-filled : Filled o (joinedOf o r h n)
     join-filled = record { within = fills (faultOf o r h n) refl; whole = whole (faultOf o r h n) refl }
 
-pub begun-filled : (o : Opening) (gap fid : Bool) → Filled o (begunOf gap fid)
-begun-filled o gap fid = record { within = omega arith; whole = λ e. refl }
+pub begun-filled : (o : Opening) (gap fid still : Bool) → Filled o (begunOf gap fid still)
+begun-filled o gap fid still = record { within = omega arith; whole = λ e. refl }
 
 -- ---- a readable transfer
 phase-filled : (o : Opening) (eof : Bool) (r : Run) → Filled o r → FilledBy o (phaseOf eof r)
 phase-filled o true r q = tt
 phase-filled o false r q = q
 
--- a delivered frame's length is its bytes
+-- the length of a delivered frame or still is its bytes
 abbrev pub LengthOf : Fate → ℕ → Type 0
 LengthOf Idle n = Unit {0}
 LengthOf Kept n = Unit {0}
 LengthOf Stray n = Unit {0}
 LengthOf (Delivered d) n = d .len ≡ n
+LengthOf (Still d) n = d .len ≡ n
 LengthOf (Dropped why) n = Unit {0}
 LengthOf (Unreadable k) n = Unit {0}
 
@@ -89,12 +91,12 @@ pub record Sits (o : Opening) (p : Phase) (n : ℕ) (x : Turn) : Type 0 where
   -- and the next frame under way is filled as this one
   pub filled : FilledBy o (x .track .phase)
 
-complete-long : (f : Fault) (n : ℕ) (s : Stamp) → LengthOf (completeOf f n s) n
-complete-long (Bad why) n s = tt
-complete-long Sound n s = pick-all (λ x. LengthOf x n) (eqb n 0) _ _ tt refl
+complete-long : (f : Fault) (n : ℕ) (s : Stamp) (b : Bool) → LengthOf (completeOf f n s b) n
+complete-long (Bad why) n s b = tt
+complete-long Sound n s b = pick-all (λ x. LengthOf x n) (eqb n 0) _ _ tt (pick-all (λ x. LengthOf x n) b _ _ refl refl)
 
 fate-long : (eof : Bool) (r : Run) → LengthOf (fateOf eof r) (r .bytes)
-fate-long true r = complete-long (r .fault) (r .bytes) (r .stamp)
+fate-long true r = complete-long (r .fault) (r .bytes) (r .stamp) (r .still)
 fate-long false r = tt
 
 no-more : (f : Fault) (n : ℕ) → writtenOf f n ≤ n
@@ -114,8 +116,8 @@ module _ (o : Opening) (h : Header) (n : ℕ) where
         filled = phase-filled o (h .eof) (joinedOf o r h n) (join-filled o r h n q);
       }
 
-  begins : (p : Phase) (gap : Bool) (e : Ended) (gone : ℕ) → gone ≤ underBytes p → Sits o p n (joinTurn o (begunOf gap (h .fid)) h n e gone)
-  begins p gap e gone g = joins p (begunOf gap (h .fid)) e gone (begun-filled o gap (h .fid)) (omega arith) g
+  begins : (p : Phase) (gap : Bool) (e : Ended) (gone : ℕ) → gone ≤ underBytes p → Sits o p n (joinTurn o (begunOf gap (h .fid) (h .still)) h n e gone)
+  begins p gap e gone g = joins p (begunOf gap (h .fid) (h .still)) e gone (begun-filled o gap (h .fid) (h .still)) (omega arith) g
 
   strays : (p : Phase) (fid : Bool) → Sits o p n (strayTurn fid n)
   strays p fid = record { short = omega arith; inside = omega arith; gone = omega arith; bytes = omega arith; long = tt; filled = tt }

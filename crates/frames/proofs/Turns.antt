@@ -13,7 +13,7 @@ use Rattle.frames.specs.declared.Reason.{Reason}
 use Rattle.frames.specs.declared.Reason.the-variants.{Cut, Empty}
 use Rattle.frames.specs.declared.Fault.{Fault}
 use Rattle.frames.specs.declared.Fault.the-variants.{Sound, Bad}
-use Rattle.frames.specs.declared.Fate.the-variants.{Delivered, Dropped}
+use Rattle.frames.specs.declared.Fate.the-variants.{Delivered, Still, Dropped}
 use Rattle.frames.specs.declared.Run.{Run}
 use Rattle.frames.specs.declared.Phase.{Phase}
 use Rattle.frames.specs.declared.Phase.the-variants.{Fresh, Under, Past}
@@ -24,7 +24,7 @@ use Rattle.frames.specs.Inner.{whyOf, sameOf, begunOf, joinTurn, strayTu
 
 -- ---- a readable transfer
 module _ (o : Opening) (t : Track) (h : Header) (n : ℕ) (x : Turn) where
-  pub turn-fresh : (b : Run) → t .phase ≡ Fresh → b ≡ begunOf (t .gap) (h .fid) → x ≡ joinTurn o b h n Nothing 0 → x ≡ turnOf o t h n
+  pub turn-fresh : (b : Run) → t .phase ≡ Fresh → b ≡ begunOf (t .gap) (h .fid) (h .still) → x ≡ joinTurn o b h n Nothing 0 → x ≡ turnOf o t h n
   unfolding turnOf
   turn-fresh b p e q = rw p (rw e at q)
 
@@ -37,7 +37,7 @@ module _ (o : Opening) (t : Track) (h : Header) (n : ℕ) (x : Turn) where
   -- another FID ends the frame and begins the next
   pub turn-ends :
       (r : Run) (s : Bool) (w : Reason) (b : Run) → t .phase ≡ Under r → s ≡ sameOf (r .fid) (h .fid) → s ≡ false → w ≡ whyOf (r .fault) Cut →
-      b ≡ begunOf (t .gap) (h .fid) → x ≡ joinTurn o b h n (Frame w) (r .bytes) → x ≡ turnOf o t h n
+      b ≡ begunOf (t .gap) (h .fid) (h .still) → x ≡ joinTurn o b h n (Frame w) (r .bytes) → x ≡ turnOf o t h n
   unfolding turnOf
   turn-ends r s w b p e y v g q = rw p (said-no s (sameOf (r .fid) (h .fid)) x _ _ e y (rw (v, g) at q))
 
@@ -45,21 +45,24 @@ module _ (o : Opening) (t : Track) (h : Header) (n : ℕ) (x : Turn) where
   unfolding turnOf
   turn-stray fid s p e y q = rw p (said-yes s (sameOf fid (h .fid)) x _ _ e y q)
 
-  pub turn-past : (fid s : Bool) (b : Run) → t .phase ≡ Past fid → s ≡ sameOf fid (h .fid) → s ≡ false → b ≡ begunOf (t .gap) (h .fid) →
+  pub turn-past : (fid s : Bool) (b : Run) → t .phase ≡ Past fid → s ≡ sameOf fid (h .fid) → s ≡ false → b ≡ begunOf (t .gap) (h .fid) (h .still) →
       x ≡ joinTurn o b h n Nothing 0 → x ≡ turnOf o t h n
   unfolding turnOf
   turn-past fid s b p e y g q = rw p (said-no s (sameOf fid (h .fid)) x _ _ e y (rw g at q))
 
 -- ---- a complete frame
-module _ (f : Fault) (n : ℕ) (s : Stamp) where
-  pub complete-bad : (w : Reason) → f ≡ Bad w → Dropped w ≡ completeOf f n s
+module _ (f : Fault) (n : ℕ) (s : Stamp) (b : Bool) where
+  pub complete-bad : (w : Reason) → f ≡ Bad w → Dropped w ≡ completeOf f n s b
   complete-bad w e = rw e
 
-  pub complete-empty : f ≡ Sound → n ≡ 0 → Dropped Empty ≡ completeOf f n s
+  pub complete-empty : f ≡ Sound → n ≡ 0 → Dropped Empty ≡ completeOf f n s b
   complete-empty e z = rw e (yes (eqb n 0) _ _ _ (eq-eqb n 0 z) refl)
 
-  pub complete-whole : f ≡ Sound → (n ≡ 0 → ⊥) → Delivered (record { len = n; stamp = s }) ≡ completeOf f n s
-  complete-whole e z = rw e (no (eqb n 0) _ _ _ (ne-eqb n 0 z) refl)
+  pub complete-still : f ≡ Sound → (n ≡ 0 → ⊥) → b ≡ true → Still (record { len = n; stamp = s }) ≡ completeOf f n s b
+  complete-still e z y = rw e (no (eqb n 0) _ _ _ (ne-eqb n 0 z) (yes b _ _ _ y refl))
+
+  pub complete-whole : f ≡ Sound → (n ≡ 0 → ⊥) → b ≡ false → Delivered (record { len = n; stamp = s }) ≡ completeOf f n s b
+  complete-whole e z y = rw e (no (eqb n 0) _ _ _ (ne-eqb n 0 z) (no b _ _ _ y refl))
 
 -- ---- close
 closed-by-fresh : (p : Phase) (gap : Bool) → p ≡ Fresh →
@@ -79,8 +82,8 @@ unfolding closedOf
 closed-past t fid e = closed-by-past (t .phase) (t .gap) fid e
 
 -- ---- no sum wraps
-pub begun-room : (b : Run) (gap fid : Bool) (n : ℕ) → b ≡ begunOf gap fid → n < 2 ^ 62 → (b .bytes + n < 2 ^ 63) × (b .fill + n < 2 ^ 63)
-begun-room b gap fid n e l = rw e (omega arith, omega arith)
+pub begun-room : (b : Run) (gap fid still : Bool) (n : ℕ) → b ≡ begunOf gap fid still → n < 2 ^ 62 → (b .bytes + n < 2 ^ 63) × (b .fill + n < 2 ^ 63)
+begun-room b gap fid still n e l = rw e (omega arith, omega arith)
 
 pub under-room : (p : Phase) (r : Run) (n : ℕ) → p ≡ Under r → Roomy p → n < 2 ^ 62 → (r .bytes + n < 2 ^ 63) × (r .fill + n < 2 ^ 63)
 under-room p r n e m l = let w : Roomy (Under r) = rw e at m in (omega arith, omega arith)

@@ -9,7 +9,7 @@ use Rattle.payload.specs.declared.Header.{Header}
 use Rattle.payload.specs.declared.Stamp.{Stamp}
 use Rattle.payload.specs.declared.Stamp.the-variants.{Absent, At}
 use Rattle.frames.specs.declared.Reason.{Reason}
-use Rattle.frames.specs.declared.Reason.the-variants.{Gap, Error, Clock, Long, Cut, Empty}
+use Rattle.frames.specs.declared.Reason.the-variants.{Gap, Error, Clock, Mixed, Long, Cut, Empty}
 use Rattle.frames.specs.declared.Fault.{Fault}
 use Rattle.frames.specs.declared.Fault.the-variants.{Sound, Bad}
 use Rattle.frames.specs.declared.Run.{Run}
@@ -19,7 +19,7 @@ use Rattle.frames.specs.declared.Track.{Track}
 use Rattle.frames.specs.declared.Ended.{Ended}
 use Rattle.frames.specs.declared.Ended.the-variants.{Nothing, Frame}
 use Rattle.frames.specs.declared.Fate.{Fate}
-use Rattle.frames.specs.declared.Fate.the-variants.{Idle, Kept, Stray, Delivered, Dropped, Unreadable}
+use Rattle.frames.specs.declared.Fate.the-variants.{Idle, Kept, Stray, Delivered, Still, Dropped, Unreadable}
 use Rattle.frames.specs.declared.Turn.{Turn}
 use Rattle.frames.specs.declared.Shut.{Shut}
 
@@ -59,31 +59,38 @@ writtenOf Sound n = n
 writtenOf (Bad w) n = 0
 
 -- a frame begins: with a gap, if an unreadable or lost transfer came before it with no readable one between
-abbrev pub begunOf : Bool → Bool → Run
-begunOf gap fid = record { fid = fid; fault = firstOf Sound gap Gap; bytes = 0; fill = 0; stamp = Absent }
+abbrev pub begunOf : Bool → Bool → Bool → Run
+begunOf gap fid still = record { fid = fid; still = still; fault = firstOf Sound gap Gap; bytes = 0; fill = 0; stamp = Absent }
 
--- the earliest fault once a transfer with n bytes of data has joined: error, clock, long, in this order
+-- the still bit is not that of the frame's first transfer
+abbrev pub mixedOf : Run → Header → Bool
+mixedOf r h = not (sameOf (r .still) (h .still))
+
+-- the earliest fault once a transfer with n bytes of data has joined: error, clock, mixed, long, in this order
 abbrev pub faultOf : Opening → Run → Header → ℕ → Fault
 faultOf o r h n =
-    firstOf (firstOf (firstOf (r .fault) (h .error) Error) (clashOf (r .stamp) (h .stamp)) Clock) (ltb (o .frame) (r .bytes + n)) Long
+    firstOf (firstOf (firstOf (firstOf (r .fault) (h .error) Error) (clashOf (r .stamp) (h .stamp)) Clock) (mixedOf r h) Mixed)
+    (ltb (o .frame) (r .bytes + n)) Long
 
 abbrev pub joinedOf : Opening → Run → Header → ℕ → Run
 joinedOf o r h n =
     record {
       fid = r .fid;
+      still = r .still;
       fault = faultOf o r h n;
       bytes = r .bytes + n;
       fill = filledOf (faultOf o r h n) (r .fill) n;
       stamp = earlierOf (r .stamp) (h .stamp);
     }
 
--- complete without fault: empty if it has no data, else delivered
-abbrev pub completeOf : Fault → ℕ → Stamp → Fate
-completeOf (Bad why) n s = Dropped why
-completeOf Sound n s = pick (eqb n 0) (Dropped Empty) (Delivered (record { len = n; stamp = s }))
+-- complete without fault: empty if it has no data, else a still if its bit is set, else delivered
+abbrev pub completeOf : Fault → ℕ → Stamp → Bool → Fate
+completeOf (Bad why) n s b = Dropped why
+completeOf Sound n s b =
+    pick (eqb n 0) (Dropped Empty) (pick b (Still (record { len = n; stamp = s })) (Delivered (record { len = n; stamp = s })))
 
 abbrev pub fateOf : Bool → Run → Fate
-fateOf true r = completeOf (r .fault) (r .bytes) (r .stamp)
+fateOf true r = completeOf (r .fault) (r .bytes) (r .stamp) (r .still)
 fateOf false r = Kept
 
 -- after an EOF what follows in the run is stray
@@ -111,11 +118,11 @@ abbrev pub strayTurn : Bool → ℕ → Turn
 strayTurn fid n = plainTurn (record { phase = Past fid; gap = false }) Stray n
 
 abbrev pub turnBy : Phase → Opening → Bool → Header → ℕ → Turn
-turnBy Fresh o gap h n = joinTurn o (begunOf gap (h .fid)) h n Nothing 0
+turnBy Fresh o gap h n = joinTurn o (begunOf gap (h .fid) (h .still)) h n Nothing 0
 turnBy (Under r) o gap h n =
     pick (sameOf (r .fid) (h .fid)) (joinTurn o r h n Nothing 0)
-    (joinTurn o (begunOf gap (h .fid)) h n (Frame (whyOf (r .fault) Cut)) (r .bytes))
-turnBy (Past fid) o gap h n = pick (sameOf fid (h .fid)) (strayTurn fid n) (joinTurn o (begunOf gap (h .fid)) h n Nothing 0)
+    (joinTurn o (begunOf gap (h .fid) (h .still)) h n (Frame (whyOf (r .fault) Cut)) (r .bytes))
+turnBy (Past fid) o gap h n = pick (sameOf fid (h .fid)) (strayTurn fid n) (joinTurn o (begunOf gap (h .fid) (h .still)) h n Nothing 0)
 
 -- a readable transfer with n bytes of data
 unfoldable pub turnOf : Opening → Track → Header → ℕ → Turn
@@ -126,7 +133,7 @@ abbrev pub spoiltBy : Phase → Phase
 spoiltBy Fresh = Fresh
 spoiltBy (Past fid) = Past fid
 spoiltBy (Under r) =
-    Under (record { fid = r .fid; fault = firstOf (r .fault) true Gap; bytes = r .bytes; fill = r .fill; stamp = r .stamp })
+    Under (record { fid = r .fid; still = r .still; fault = firstOf (r .fault) true Gap; bytes = r .bytes; fill = r .fill; stamp = r .stamp })
 
 unfoldable pub spoiltOf : Track → Track
 spoiltOf t = record { phase = spoiltBy (t .phase); gap = true }

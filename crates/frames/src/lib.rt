@@ -6,11 +6,12 @@ use payload::Header;
 use payload::Stamp;
 use sizes::Opening;
 
-// Why a frame was not delivered. The first four are faults.
+// Why a frame was not delivered. The first five are faults.
 pub enum Reason {
     Gap,
     Error,
     Clock,
+    Mixed,
     Long,
     Cut,
     Empty,
@@ -21,9 +22,11 @@ pub enum Fault {
     Bad(Reason),
 }
 
-// A frame under way: its run's FID, its earliest fault, its data so far, how much of it is written, and its first stamp.
+// A frame under way: its run's FID, its first transfer's still bit, its earliest fault, its data so far, how much of it is
+// written, and its first stamp.
 pub struct Run {
     pub fid: bool,
+    pub still: bool,
     pub fault: Fault,
     pub bytes: u64,
     pub fill: usize,
@@ -51,7 +54,7 @@ pub enum Ended {
     Frame(Reason),
 }
 
-// A delivered frame's length and stamp.
+// The length and stamp of a delivered frame or still.
 pub struct Delivery {
     pub len: u64,
     pub stamp: Stamp,
@@ -63,6 +66,7 @@ pub enum Fate {
     Kept,
     Stray,
     Delivered(Delivery),
+    Still(Delivery),
     Dropped(Reason),
     // The number, 61 to 66.
     Unreadable(u8),
@@ -161,13 +165,14 @@ fn written(f: Fault, n: usize) -> usize
     }
 }
 
-// A frame begins.
-fn begun(gap: bool, fid: bool) -> Run
-    ensures { λ r. ⌜ r ≡ begunOf gap fid ⌝ }
+// A frame begins, with its first transfer's FID and still bit.
+fn begun(gap: bool, fid: bool, still: bool) -> Run
+    ensures { λ r. ⌜ r ≡ begunOf gap fid still ⌝ }
 {
     let fault = first_of(Fault::Sound, gap, Reason::Gap);
     Run {
         fid,
+        still,
         fault,
         bytes: 0,
         fill: 0,
@@ -175,7 +180,7 @@ fn begun(gap: bool, fid: bool) -> Run
     }
 }
 
-// A transfer with n bytes of data joins a frame: error, clock, long, in this order.
+// A transfer with n bytes of data joins a frame: error, clock, mixed, long, in this order.
 fn joined(o: Opening, r: Run, h: Header, n: usize) -> Run
     requires { ⌜ (r .bytes + n < 2 ^ 63) × (r .fill + n < 2 ^ 63) ⌝ }
     ensures { λ x. ⌜ x ≡ joinedOf o r h n ⌝ }
@@ -187,11 +192,13 @@ fn joined(o: Opening, r: Run, h: Header, n: usize) -> Run
     let f = r.fault;
     let e = first_of(f, h.error, Reason::Error);
     let c = first_of(e, clash(a, b), Reason::Clock);
-    let fault = first_of(c, long, Reason::Long);
+    let m = first_of(c, !same(r.still, h.still), Reason::Mixed);
+    let fault = first_of(m, long, Reason::Long);
     let fill = filled(fault, r.fill, n);
     let stamp = earlier(a, b);
     Run {
         fid: r.fid,
+        still: r.still,
         fault,
         bytes,
         fill,
@@ -199,15 +206,18 @@ fn joined(o: Opening, r: Run, h: Header, n: usize) -> Run
     }
 }
 
-// A complete frame with its earliest fault, its bytes and its stamp.
-fn complete(f: Fault, len: u64, stamp: Stamp) -> Fate
-    ensures { λ x. ⌜ x ≡ completeOf f len stamp ⌝ }
+// A complete frame with its earliest fault, its bytes, its stamp and its still bit.
+fn complete(f: Fault, len: u64, stamp: Stamp, still: bool) -> Fate
+    ensures { λ x. ⌜ x ≡ completeOf f len stamp still ⌝ }
 {
     match f {
         Fault::Bad(why) => Fate::Dropped(why),
         Fault::Sound => {
             if len == 0 {
                 return Fate::Dropped(Reason::Empty);
+            }
+            if still {
+                return Fate::Still(Delivery { len, stamp });
             }
             Fate::Delivered(Delivery { len, stamp })
         }
@@ -221,7 +231,7 @@ fn fate_of(eof: bool, r: Run) -> Fate
     if eof {
         let f = r.fault;
         let stamp = r.stamp;
-        complete(f, r.bytes, stamp)
+        complete(f, r.bytes, stamp, r.still)
     } else {
         Fate::Kept
     }
@@ -287,20 +297,20 @@ impl Track {
     {
         let phase = self.phase;
         match phase {
-            Phase::Fresh => join(o, begun(self.gap, h.fid), h, n, Ended::Nothing, 0),
+            Phase::Fresh => join(o, begun(self.gap, h.fid, h.still), h, n, Ended::Nothing, 0),
             Phase::Under(r) => {
                 if same(r.fid, h.fid) {
                     return join(o, r, h, n, Ended::Nothing, 0);
                 }
                 let f = r.fault;
                 let why = why_of(f, Reason::Cut);
-                join(o, begun(self.gap, h.fid), h, n, Ended::Frame(why), r.bytes)
+                join(o, begun(self.gap, h.fid, h.still), h, n, Ended::Frame(why), r.bytes)
             }
             Phase::Past(fid) => {
                 if same(fid, h.fid) {
                     return stray(fid, n);
                 }
-                join(o, begun(self.gap, h.fid), h, n, Ended::Nothing, 0)
+                join(o, begun(self.gap, h.fid, h.still), h, n, Ended::Nothing, 0)
             }
         }
     }
@@ -320,6 +330,7 @@ impl Track {
                 Track {
                     phase: Phase::Under(Run {
                         fid: r.fid,
+                        still: r.still,
                         fault,
                         bytes: r.bytes,
                         fill: r.fill,

@@ -3,7 +3,7 @@ use Prim.Native.Nat.{ℕ, _+_, _*_}
 use mathlib.Core.List.{List, [], _∷_}
 use lib.ListN.{length}
 use Rattle.frames.specs.declared.Reason.{Reason}
-use Rattle.frames.specs.declared.Reason.the-variants.{Gap, Error, Clock, Long, Cut, Empty}
+use Rattle.frames.specs.declared.Reason.the-variants.{Gap, Error, Clock, Mixed, Long, Cut, Empty}
 use Rattle.ledger.specs.declared.Account.{Account}
 
 abbrev pub accounts : List Account
@@ -15,6 +15,8 @@ accounts =
     ∷ Account.Long
     ∷ Account.Cut
     ∷ Account.Empty
+    ∷ Account.Still
+    ∷ Account.Mixed
     ∷ Account.UnderWay
     ∷ Account.Stray
     ∷ Account.Unreadable
@@ -33,16 +35,19 @@ placeOf Account.Clock = 3
 placeOf Account.Long = 4
 placeOf Account.Cut = 5
 placeOf Account.Empty = 6
-placeOf Account.UnderWay = 7
-placeOf Account.Stray = 8
-placeOf Account.Unreadable = 9
-placeOf Account.Headers = 10
+placeOf Account.Still = 7
+placeOf Account.Mixed = 8
+placeOf Account.UnderWay = 9
+placeOf Account.Stray = 10
+placeOf Account.Unreadable = 11
+placeOf Account.Headers = 12
 
 -- the account of a frame that was not delivered
 abbrev pub accountFor : Reason → Account
 accountFor Gap = Account.Gap
 accountFor Error = Account.Error
 accountFor Clock = Account.Clock
+accountFor Mixed = Account.Mixed
 accountFor Long = Account.Long
 accountFor Cut = Account.Cut
 accountFor Empty = Account.Empty

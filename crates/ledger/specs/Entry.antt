@@ -5,6 +5,7 @@ use Rattle.frames.specs.declared.Delivery.{Delivery}
 
 pub data Entry : Type 0 where
   Delivered : Delivery → Entry
+  Still : Delivery → Entry
   Dropped : Reason → ℕ → Entry
   UnderWay : ℕ → Entry
   Stray : ℕ → Entry

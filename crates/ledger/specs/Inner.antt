@@ -41,6 +41,7 @@ fateBytes Fate.Idle n = 0
 fateBytes Fate.Kept n = 0
 fateBytes Fate.Stray n = n
 fateBytes (Fate.Delivered d) n = d .len
+fateBytes (Fate.Still d) n = d .len
 fateBytes (Fate.Dropped why) n = n
 fateBytes (Fate.Unreadable k) n = n
 

@@ -52,9 +52,10 @@ timedBy (At a) l (At b) = lastIs (steppedOf l (stepOf a b)) (At b)
 unfoldable pub timedOf : Ledger → Stamp → Ledger
 timedOf l s = timedBy (l .last) l s
 
--- an entry
+-- an entry; a still has its account and nothing to do with the time
 unfoldable pub postOf : Ledger → Entry → Ledger
 postOf l (Entry.Delivered d) = timedOf (enteredOf l Account.Delivered (d .len)) (d .stamp)
+postOf l (Entry.Still d) = enteredOf l Account.Still (d .len)
 postOf l (Entry.Dropped why n) = enteredOf l (accountFor why) n
 postOf l (Entry.UnderWay n) = enteredOf l Account.UnderWay n
 postOf l (Entry.Stray n) = enteredOf l Account.Stray n
@@ -73,6 +74,7 @@ fatedOf l Fate.Idle n = postOf l Entry.Idle
 fatedOf l Fate.Kept n = l
 fatedOf l Fate.Stray n = postOf l (Entry.Stray n)
 fatedOf l (Fate.Delivered d) n = postOf l (Entry.Delivered d)
+fatedOf l (Fate.Still d) n = postOf l (Entry.Still d)
 fatedOf l (Fate.Dropped why) n = postOf l (Entry.Dropped why n)
 fatedOf l (Fate.Unreadable k) n = postOf l (Entry.Unreadable n)
 

@@ -23,6 +23,8 @@ pub enum Account {
     Long,
     Cut,
     Empty,
+    Still,
+    Mixed,
     UnderWay,
     Stray,
     Unreadable,
@@ -57,9 +59,9 @@ impl Ledger {
     pub const STAMPS: u64 = 4294967296;
 
     // How many accounts there are, and the place of the one of the frame under way.
-    pub const ACCOUNTS: usize = 11;
+    pub const ACCOUNTS: usize = 13;
 
-    pub const UNDER_WAY: usize = 7;
+    pub const UNDER_WAY: usize = 9;
 
     // Where the counts stand that are no accounts, and how many numbers and lines of print there are.
     pub const LOST: usize = 2 * Ledger::ACCOUNTS;
@@ -184,6 +186,10 @@ impl Ledger {
                 let s = d.stamp;
                 Ledger::timed(m, last, s)
             }
+            Fate::Still(d) => {
+                Ledger::entered(m, Account::Still, d.len);
+                last
+            }
             Fate::Dropped(why) => {
                 Ledger::entered(m, account_for(why), n);
                 last
@@ -249,10 +255,12 @@ fn place(a: Account) -> usize
         Account::Long => 4,
         Account::Cut => 5,
         Account::Empty => 6,
+        Account::Still => 7,
+        Account::Mixed => 8,
         Account::UnderWay => Ledger::UNDER_WAY,
-        Account::Stray => 8,
-        Account::Unreadable => 9,
-        Account::Headers => 10,
+        Account::Stray => 10,
+        Account::Unreadable => 11,
+        Account::Headers => 12,
     }
 }
 
@@ -264,6 +272,7 @@ fn account_for(why: Reason) -> Account
         Reason::Gap => Account::Gap,
         Reason::Error => Account::Error,
         Reason::Clock => Account::Clock,
+        Reason::Mixed => Account::Mixed,
         Reason::Long => Account::Long,
         Reason::Cut => Account::Cut,
         Reason::Empty => Account::Empty,

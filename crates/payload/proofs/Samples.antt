@@ -14,7 +14,7 @@ abbrev pub opening : Opening
 opening = record { frame = 256; payload = 62 }
 
 -- 02 80: readable
-pub bare-header : readingOf opening (0x02 ∷ 0x80 ∷ []) ≡ Readable (record { len = 2; fid = false; eof = false; error = false; stamp = Absent })
+pub bare-header : readingOf opening (0x02 ∷ 0x80 ∷ []) ≡ Readable (record { len = 2; fid = false; eof = false; still = false; error = false; stamp = Absent })
 unfolding readingOf headerOf stampOf transferFlags needOf flagOf pick firstFrom
 bare-header = refl
 
@@ -35,6 +35,6 @@ header-short-of-clock a b c d e f g h i = refl
 
 -- 0C 8C and ten bytes: readable, with the stamp of its bytes 2 to 5
 pub header-with-clock : (a b c d e f g h i j : ℕ) → readingOf opening (0x0C ∷ 0x8C ∷ a ∷ b ∷ c ∷ d ∷ e ∷ f ∷ g ∷ h ∷ i ∷ j ∷ []) ≡ Readable
-    (record { len = 12; fid = false; eof = false; error = false; stamp = At (a + b * 256 + (c + d * 256) * 65536) })
+    (record { len = 12; fid = false; eof = false; still = false; error = false; stamp = At (a + b * 256 + (c + d * 256) * 65536) })
 unfolding readingOf headerOf stampOf transferFlags needOf flagOf pick firstFrom
 header-with-clock a b c d e f g h i j = refl

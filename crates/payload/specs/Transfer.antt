@@ -44,13 +44,14 @@ transferFlags o t =
 unfoldable pub stampOf : List ℕ → ℕ → Stamp
 stampOf t flags = pick (flagOf flags 2) (At (le32At t 2)) Absent
 
--- D0 FID, D1 EOF, D6 error. Further bytes of a longer header are header too.
+-- D0 FID, D1 EOF, D5 still, D6 error. Further bytes of a longer header are header too.
 unfoldable pub headerOf : List ℕ → Header
 headerOf t =
     record {
       len = lengthAt t;
       fid = flagOf (flagsAt t) 0;
       eof = flagOf (flagsAt t) 1;
+      still = flagOf (flagsAt t) 5;
       error = flagOf (flagsAt t) 6;
       stamp = stampOf t (flagsAt t);
     }

@@ -9,7 +9,7 @@ ghost use Rattle.rules.specs.Numbered.{firstFrom};
 ghost use Rattle.payload.specs.Transfer.{flagOf, needOf, stampOf, headerOf, transferFlags, readingOf};
 use sizes::Opening;
 
-// The bits of byte 1 that are read; D5, still, is ignored.
+// The bits of byte 1 that are read.
 const FID: u8 = 0;
 
 const EOF: u8 = 1;
@@ -17,6 +17,8 @@ const EOF: u8 = 1;
 const PTS: u8 = 2;
 
 const SCR: u8 = 3;
+
+const STILL: u8 = 5;
 
 const ERROR: u8 = 6;
 
@@ -35,11 +37,12 @@ pub enum Stamp {
     At(u32),
 }
 
-// A readable header: its length, D0, D1, D6 and its stamp.
+// A readable header: its length, D0, D1, D5, D6 and its stamp.
 pub struct Header {
     pub len: usize,
     pub fid: bool,
     pub eof: bool,
+    pub still: bool,
     pub error: bool,
     pub stamp: Stamp,
 }
@@ -131,12 +134,14 @@ fn header_of(t: &[u8]) -> Header
     let flags = t[1];
     let fid = flag(flags, FID);
     let eof = flag(flags, EOF);
+    let still = flag(flags, STILL);
     let error = flag(flags, ERROR);
     let stamp = stamp_of(t, flags);
     Header {
         len,
         fid,
         eof,
+        still,
         error,
         stamp,
     }

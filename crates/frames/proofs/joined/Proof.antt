@@ -17,6 +17,12 @@ first-of-requires-2 c κs = search needs
 first-of-requires-3 : tie.Need-first-of-requires-3
 first-of-requires-3 c κs = search needs
 
+same-requires : tie.Need-same-requires
+same-requires c κs = search needs
+
+first-of-requires-4 : tie.Need-first-of-requires-4
+first-of-requires-4 c κs = search needs
+
 filled-requires : tie.Need-filled-requires
 filled-requires c κs = search needs
 
@@ -27,10 +33,12 @@ returns : tie.Need-returns
 returns c = simp (
   c .earlier .ensures,
   c .before .filled .ensures,
-  c .before .before .first-of3 .ensures,
-  c .before .before .before .first-of2 .ensures,
-  c .before .before .before .before .clash .ensures,
-  c .before .before .before .before .before .first-of .ensures,
+  c .before .before .first-of4 .ensures,
+  c .before .before .before .first-of3 .ensures,
+  c .before .before .before .before .same .ensures,
+  c .before .before .before .before .before .first-of2 .ensures,
+  c .before .before .before .before .before .before .clash .ensures,
+  c .before .before .before .before .before .before .before .first-of .ensures,
 )
 
 pub joined-spec : {M : Type 1} → statement M
@@ -41,7 +49,9 @@ joined-spec =
     first-of-requires
     clash-requires
     first-of-requires-2
+    same-requires
     first-of-requires-3
+    first-of-requires-4
     filled-requires
     earlier-requires
     returns)

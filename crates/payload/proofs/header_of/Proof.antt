@@ -21,6 +21,9 @@ flag-requires-2 c κs = search needs
 flag-requires-3 : tie.Need-flag-requires-3
 flag-requires-3 c κs = search needs
 
+flag-requires-4 : tie.Need-flag-requires-4
+flag-requires-4 c κs = search needs
+
 stamp-of-requires : tie.Need-stamp-of-requires
 stamp-of-requires c κs = search needs
 
@@ -28,10 +31,11 @@ returns : tie.Need-returns
 unfolding headerOf
 returns c = simp (
   c .stamp-of .ensures,
-  c .before .flag3 .ensures,
-  c .before .before .flag2 .ensures,
-  c .before .before .before .flag .ensures,
-  c .before .before .before .before .before .wide .ensures .0,
+  c .before .flag4 .ensures,
+  c .before .before .flag3 .ensures,
+  c .before .before .before .flag2 .ensures,
+  c .before .before .before .before .flag .ensures,
+  c .before .before .before .before .before .before .wide .ensures .0,
 )
 
 pub header-of-spec : {M : Type 1} → statement M
@@ -44,5 +48,6 @@ header-of-spec =
     flag-requires
     flag-requires-2
     flag-requires-3
+    flag-requires-4
     stamp-of-requires
     returns)

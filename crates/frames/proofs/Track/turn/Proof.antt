@@ -10,7 +10,7 @@ begun-requires : tie.Need-begun-requires
 begun-requires c κs = search needs
 
 join-requires : tie.Need-join-requires
-join-requires c κs = begun-room _ (c .before .before .before .args .self .gap) _ _ (c .begun .ensures) (c .before .before .before .pre .1)
+join-requires c κs = begun-room _ (c .before .before .before .args .self .gap) _ _ _ (c .begun .ensures) (c .before .before .before .pre .1)
 
 enum-known-phase : tie.Need-enum-known-phase
 enum-known-phase c = search needs
@@ -32,7 +32,7 @@ begun-requires-2 : tie.Need-begun-requires-2
 begun-requires-2 c κs = search needs
 
 join-requires-3 : tie.Need-join-requires-3
-join-requires-3 c κs = begun-room _ (c .before .before .before .before .before .before .before .args .self .gap) _ _ (c .begun2 .ensures)
+join-requires-3 c κs = begun-room _ (c .before .before .before .before .before .before .before .args .self .gap) _ _ _ (c .begun2 .ensures)
     (c .before .before .before .before .before .before .before .pre .1)
 
 enum-known-phase-2 : tie.Need-enum-known-phase-2
@@ -51,7 +51,7 @@ begun-requires-3 : tie.Need-begun-requires-3
 begun-requires-3 c κs = search needs
 
 join-requires-4 : tie.Need-join-requires-4
-join-requires-4 c κs = begun-room _ (c .before .before .before .before .before .before .args .self .gap) _ _ (c .begun3 .ensures)
+join-requires-4 c κs = begun-room _ (c .before .before .before .before .before .before .args .self .gap) _ _ _ (c .begun3 .ensures)
     (c .before .before .before .before .before .before .pre .1)
 
 returns-3 : tie.Need-returns-3
