@@ -71,6 +71,10 @@ module _ (l : List ℕ) (last : Stamp) (f : Fate) (n : ℕ) where
   unfolding postOf plusOf
   fated-delivered d k m r e p q = q ∙ rw (e, p)
 
+  pub fated-still : (d : Delivery) (m : List ℕ) → f ≡ Fate.Still d → m ≡ enteredIn l Account.Still (d .len) → ledgerWith m last ≡ fatedOf (ledgerWith l last) f n
+  unfolding postOf plusOf
+  fated-still d m e p = rw (e, p)
+
   pub fated-dropped : (why : Reason) (a : Account) (m : List ℕ) → f ≡ Fate.Dropped why → a ≡ accountFor why → m ≡ enteredIn l a n →
       ledgerWith m last ≡ fatedOf (ledgerWith l last) f n
   unfolding postOf plusOf

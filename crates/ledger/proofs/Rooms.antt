@@ -7,7 +7,7 @@ use native.Mathlib.Decide.{ℕ-discrete, decLt}
 use lib.ListN.{length, getD}
 use lib.Seq.{set-out, getD-set-same, getD-set-other}
 use Rattle.frames.specs.declared.Reason.{Reason}
-use Rattle.frames.specs.declared.Reason.the-variants.{Gap, Error, Clock, Long, Cut, Empty}
+use Rattle.frames.specs.declared.Reason.the-variants.{Gap, Error, Clock, Mixed, Long, Cut, Empty}
 use Rattle.frames.specs.declared.Ended.{Ended}
 use Rattle.frames.specs.declared.Ended.the-variants.{Nothing, Frame}
 use Rattle.ledger.specs.declared.Account.{Account}
@@ -58,6 +58,7 @@ pub not-under-way : (why : Reason) → placeOf (accountFor why) ≡ underAt → 
 not-under-way Gap e = omega arith
 not-under-way Error e = omega arith
 not-under-way Clock e = omega arith
+not-under-way Mixed e = omega arith
 not-under-way Long e = omega arith
 not-under-way Cut e = omega arith
 not-under-way Empty e = omega arith

@@ -1,6 +1,6 @@
 use Rattle.ledger.specs.declared.Account.{Account}
 use Rattle.ledger.specs.Accounts.{accountFor, idleAt}
-use Rattle.ledger.proofs.Lent.{fated-idle, fated-kept, fated-stray, fated-delivered, fated-dropped, fated-unreadable}
+use Rattle.ledger.proofs.Lent.{fated-idle, fated-kept, fated-stray, fated-delivered, fated-still, fated-dropped, fated-unreadable}
 use Rattle.ledger.proofs.Rooms.{adding, entering, not-under-way, room-entered}
 use native.Mathlib.Omega.{arith}
 use borrow.Author.Needs.{needs}
@@ -39,19 +39,26 @@ timed-requires c κs =
 enum-known-f-2 : tie.Need-enum-known-f-2
 enum-known-f-2 c = search needs
 
+entered-requires-3 : tie.Need-entered-requires-3
+entered-requires-3 c κs = entering _ _ _ Account.Still _ (c .before .before .before .before .pre .0) (λ e. omega arith)
+    (rw (c .before .before .f2 .given .1) at (c .before .before .before .before .pre .1))
+
+enum-known-f-3 : tie.Need-enum-known-f-3
+enum-known-f-3 c = search needs
+
 account-for-requires : tie.Need-account-for-requires
 account-for-requires c κs = search needs
 
-entered-requires-3 : tie.Need-entered-requires-3
-entered-requires-3 c κs = rw (c .account-for .ensures)
-    (entering _ _ _ (accountFor (c .before .before .before .f2 .given .0 .0)) _ (c .before .before .before .before .before .pre .0)
-    (not-under-way (c .before .before .before .f2 .given .0 .0)) (rw (c .before .before .before .f2 .given .1) at (c .before .before .before .before .before .pre .1)))
+entered-requires-4 : tie.Need-entered-requires-4
+entered-requires-4 c κs = rw (c .account-for .ensures)
+    (entering _ _ _ (accountFor (c .before .before .before .f3 .given .0 .0)) _ (c .before .before .before .before .before .pre .0)
+    (not-under-way (c .before .before .before .f3 .given .0 .0)) (rw (c .before .before .before .f3 .given .1) at (c .before .before .before .before .before .pre .1)))
 
 enum-told-4 : tie.Need-enum-told-4
 enum-told-4 c = search needs
 
-entered-requires-4 : tie.Need-entered-requires-4
-entered-requires-4 c κs = entering _ _ _ Account.Unreadable _ (c .before .before .before .pre .0) (λ e. omega arith)
+entered-requires-5 : tie.Need-entered-requires-5
+entered-requires-5 c κs = entering _ _ _ Account.Unreadable _ (c .before .before .before .pre .0) (λ e. omega arith)
     (rw (c .before .enum-told4 .given .1) at (c .before .before .before .pre .1))
 
 returns : tie.Need-returns
@@ -67,10 +74,13 @@ returns-4 : tie.Need-returns-4
 returns-4 c = search fated-delivered
 
 returns-5 : tie.Need-returns-5
-returns-5 c = search fated-dropped
+returns-5 c = search fated-still
 
 returns-6 : tie.Need-returns-6
-returns-6 c = search fated-unreadable
+returns-6 c = search fated-dropped
+
+returns-7 : tie.Need-returns-7
+returns-7 c = search fated-unreadable
 
 pub fated-spec : {M : Type 1} → statement M
 fated-spec =
@@ -85,13 +95,16 @@ fated-spec =
     entered-requires-2
     timed-requires
     enum-known-f-2
-    account-for-requires
     entered-requires-3
-    enum-told-4
+    enum-known-f-3
+    account-for-requires
     entered-requires-4
+    enum-told-4
+    entered-requires-5
     returns
     returns-2
     returns-3
     returns-4
     returns-5
-    returns-6)
+    returns-6
+    returns-7)
