@@ -42,6 +42,7 @@ use Rattle.session.specs.Calls.{nextCall, run}
 -- ---- a measure that is nothing but of a frame under way
 abbrev Settled : Entry → Type 0
 Settled (Entry.Delivered d) = Unit {0}
+Settled (Entry.Still d) = Unit {0}
 Settled (Entry.Dropped w n) = Unit {0}
 Settled (Entry.UnderWay n) = ⊥
 Settled (Entry.Stray n) = Unit {0}
@@ -60,6 +61,7 @@ module _ (m : Entry → ℕ) (none : (e : Entry) → Settled e → m e ≡ 0) wh
   fate-none Fate.Kept n D = refl
   fate-none Fate.Stray n D = rw (none (Entry.Stray n) tt)
   fate-none (Fate.Delivered d) n D = rw (none (Entry.Delivered d) tt)
+  fate-none (Fate.Still d) n D = rw (none (Entry.Still d) tt)
   fate-none (Fate.Dropped w) n D = rw (none (Entry.Dropped w n) tt)
   fate-none (Fate.Unreadable k) n D = refl
 
@@ -151,6 +153,7 @@ module _ (o : Opening) (cs : List Call) (p : Proper cs) where
 
 one-settled : (e : Entry) → Settled e → oneIn underAt e ≡ 0
 one-settled (Entry.Delivered d) h = refl
+one-settled (Entry.Still d) h = refl
 one-settled (Entry.Dropped w n) h = rw (ne-eqb (placeOf (accountFor w)) underAt (not-under-way w))
 one-settled (Entry.UnderWay n) h = absurd h
 one-settled (Entry.Stray n) h = refl
@@ -161,6 +164,7 @@ one-settled Entry.Idle h = refl
 
 part-settled : (e : Entry) → Settled e → partIn underAt e ≡ 0
 part-settled (Entry.Delivered d) h = refl
+part-settled (Entry.Still d) h = refl
 part-settled (Entry.Dropped w n) h = rw (ne-eqb (placeOf (accountFor w)) underAt (not-under-way w))
 part-settled (Entry.UnderWay n) h = absurd h
 part-settled (Entry.Stray n) h = refl
@@ -196,19 +200,19 @@ past-line : (k : ℕ) → accountCount ≤ k → (w : Reason) (n : ℕ) → 0 �
 past-line k h w n = sym (rw (ne-eqb (placeOf (accountFor w)) k (λ z. omega (arith, place-lt (accountFor w)))))
 
 lost-gain : (a : Stamp) (e : Entry) → gain lostAt a e ≡ oneIn lostLine e
-lost-gain = single-gain lostAt (omega arith) (λ a e. oneIn lostLine e) (λ a s n. refl) (λ a w n. past-line lostLine (omega arith) w n) (λ a n. refl) (λ a n. refl) (λ a n. refl) (λ a n. refl) (λ a. refl) (λ a. refl)
+lost-gain = single-gain lostAt (omega arith) (λ a e. oneIn lostLine e) (λ a s n. refl) (λ a d. refl) (λ a w n. past-line lostLine (omega arith) w n) (λ a n. refl) (λ a n. refl) (λ a n. refl) (λ a n. refl) (λ a. refl) (λ a. refl)
 
 idle-gain : (a : Stamp) (e : Entry) → gain idleAt a e ≡ oneIn idleLine e
-idle-gain = single-gain idleAt (omega arith) (λ a e. oneIn idleLine e) (λ a s n. refl) (λ a w n. past-line idleLine (omega arith) w n) (λ a n. refl) (λ a n. refl) (λ a n. refl) (λ a n. refl) (λ a. refl) (λ a. refl)
+idle-gain = single-gain idleAt (omega arith) (λ a e. oneIn idleLine e) (λ a s n. refl) (λ a d. refl) (λ a w n. past-line idleLine (omega arith) w n) (λ a n. refl) (λ a n. refl) (λ a n. refl) (λ a n. refl) (λ a. refl) (λ a. refl)
 
 untimed-gain : (a : Stamp) (e : Entry) → gain untimedAt a e ≡ untimed e
-untimed-gain = single-gain untimedAt (omega arith) (λ a e. untimed e) (λ a s n. zero-add _ ∙ zero-add _) (λ a w n. refl) (λ a n. refl) (λ a n. refl) (λ a n. refl) (λ a n. refl) (λ a. refl) (λ a. refl)
+untimed-gain = single-gain untimedAt (omega arith) (λ a e. untimed e) (λ a s n. zero-add _ ∙ zero-add _) (λ a d. refl) (λ a w n. refl) (λ a n. refl) (λ a n. refl) (λ a n. refl) (λ a n. refl) (λ a. refl) (λ a. refl)
 
 ticks-gain : (a : Stamp) (e : Entry) → gain ticksAt a e ≡ since forward a (stampIn e)
-ticks-gain = single-gain ticksAt (omega arith) (λ a e. since forward a (stampIn e)) (λ a s n. add-zero _) (λ a w n. refl) (λ a n. refl) (λ a n. refl) (λ a n. refl) (λ a n. refl) (λ a. refl) (λ a. refl)
+ticks-gain = single-gain ticksAt (omega arith) (λ a e. since forward a (stampIn e)) (λ a s n. add-zero _) (λ a d. refl) (λ a w n. refl) (λ a n. refl) (λ a n. refl) (λ a n. refl) (λ a n. refl) (λ a. refl) (λ a. refl)
 
 backward-gain : (a : Stamp) (e : Entry) → gain backwardAt a e ≡ since back a (stampIn e)
-backward-gain = single-gain backwardAt (omega arith) (λ a e. since back a (stampIn e)) (λ a s n. zero-add _ ∙ add-zero _) (λ a w n. refl) (λ a n. refl) (λ a n. refl) (λ a n. refl) (λ a n. refl) (λ a. refl) (λ a. refl)
+backward-gain = single-gain backwardAt (omega arith) (λ a e. since back a (stampIn e)) (λ a s n. zero-add _ ∙ add-zero _) (λ a d. refl) (λ a w n. refl) (λ a n. refl) (λ a n. refl) (λ a n. refl) (λ a n. refl) (λ a. refl) (λ a. refl)
 
 pub loose-stamped : (es : List Event) → stamps (loose es) ≡ []
 loose-stamped [] = refl

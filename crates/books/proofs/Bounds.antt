@@ -14,13 +14,13 @@ use Rattle.sizes.specs.declared.Opening.{Opening}
 use Rattle.payload.specs.declared.Stamp.{Stamp}
 use Rattle.payload.specs.declared.Stamp.the-variants.{Absent, At}
 use Rattle.frames.specs.declared.Reason.{Reason}
-use Rattle.frames.specs.declared.Reason.the-variants.{Gap, Error, Clock, Long, Cut, Empty}
+use Rattle.frames.specs.declared.Reason.the-variants.{Gap, Error, Clock, Mixed, Long, Cut, Empty}
 use Rattle.frames.specs.declared.Fault.{Fault}
 use Rattle.frames.specs.declared.Fault.the-variants.{Sound, Bad}
 use Rattle.ledger.specs.declared.Account.{Account}
 use Rattle.ledger.specs.Accounts.{placeOf, accountFor}
 use Rattle.ledger.specs.Entry.{Entry}
-use Rattle.books.specs.Rule.{Event, idle, unreadable, missing, readable, events, isOpen, Seen, readables, runs, frameOf, strayOf, complete, dataOf, firstStamp, fault, Item, verdict, strays, judge, nothing, judged, framesOf, framesBy, loose, entryOf, entries, lineOf, bytesIn, oneIn, partIn, total, stampList, stampsOf, stamps, noStamp, untimed, step, forward, back, between, received}
+use Rattle.books.specs.Rule.{Event, idle, unreadable, missing, readable, events, isOpen, Seen, readables, runs, frameOf, strayOf, complete, dataOf, firstStamp, stillOf, fault, Item, handedOut, verdict, strays, judge, nothing, judged, framesOf, framesBy, loose, entryOf, entries, lineOf, bytesIn, oneIn, partIn, total, stampList, stampsOf, stamps, noStamp, untimed, step, forward, back, between, received}
 use Rattle.books.proofs.Runs.{runs-concat, runs-longest}
 use Rattle.books.proofs.Posts.{total-append}
 use Rattle.books.proofs.History.{map-append, stamps-append}
@@ -57,6 +57,7 @@ none-le (At x) = omega arith
 
 untimed-le : (x : Entry) → untimed x ≤ 1
 untimed-le (Entry.Delivered d) = none-le (d .stamp)
+untimed-le (Entry.Still d) = omega arith
 untimed-le (Entry.Dropped w n) = omega arith
 untimed-le (Entry.UnderWay n) = omega arith
 untimed-le (Entry.Stray n) = omega arith
@@ -116,20 +117,22 @@ line-low : (w : Reason) → placeOf (accountFor w) < looseLine
 line-low Gap = omega arith
 line-low Error = omega arith
 line-low Clock = omega arith
+line-low Mixed = omega arith
 line-low Long = omega arith
 line-low Cut = omega arith
 line-low Empty = omega arith
 
-verdict-low : (w c : Bool) (q : Fault) (s : Stamp) (n : ℕ) → lineOf (verdict w c q s n) < looseLine
-verdict-low w true (Bad k) s n = line-low k
-verdict-low w true Sound s n = go (eqb n 0)
+verdict-low : (w c : Bool) (q : Fault) (s : Stamp) (b : Bool) (n : ℕ) → lineOf (verdict w c q s b n) < looseLine
+verdict-low w true (Bad k) s b n = line-low k
+verdict-low w true Sound s b n = go (eqb n 0) b
   where
-    go : (b : Bool) → lineOf (cond b (Entry.Dropped Empty n) (Entry.Delivered (record { len = n; stamp = s }))) < looseLine
-    go true = omega arith
-    go false = omega arith
-verdict-low true false q s n = omega arith
-verdict-low false false (Bad k) s n = line-low k
-verdict-low false false Sound s n = omega arith
+    go : (c b : Bool) → lineOf (cond c (Entry.Dropped Empty n) (handedOut b (record { len = n; stamp = s }))) < looseLine
+    go true b = omega arith
+    go false true = omega arith
+    go false false = omega arith
+verdict-low true false q s b n = omega arith
+verdict-low false false (Bad k) s b n = line-low k
+verdict-low false false Sound s b n = omega arith
 
 one-none : (k : ℕ) (e : Entry) → (lineOf e ≡ k → ⊥) → oneIn k e ≡ 0
 one-none k e h = rw (ne-eqb (lineOf e) k h)
@@ -146,8 +149,8 @@ module _ (k : ℕ) where
   judged-none h o p [] = refl
   judged-none h o p (r ∷ rs) =
       let f : List Seen = frameOf r in
-      let v : Entry = verdict (p && nothing rs) (complete f) (fault o f) (firstStamp f) (length (dataOf f)) in
-      let l = verdict-low (p && nothing rs) (complete f) (fault o f) (firstStamp f) (length (dataOf f)) in
+      let v : Entry = verdict (p && nothing rs) (complete f) (fault o f) (firstStamp f) (stillOf f) (length (dataOf f)) in
+      let l = verdict-low (p && nothing rs) (complete f) (fault o f) (firstStamp f) (stillOf f) (length (dataOf f)) in
       ap (total (oneIn k)) (map-append (judge o (p && nothing rs) r) (judged o p rs))
       ∙ total-append (oneIn k) (map entryOf (judge o (p && nothing rs) r)) (map entryOf (judged o p rs))
       ∙ omega (arith, one-none k v (λ z. omega arith), strays-none h (strayOf r), judged-none h o p rs)
@@ -219,6 +222,7 @@ list-le (At x) = omega arith
 
 stamps-le : (x : Entry) → length (stampsOf x) ≤ 1
 stamps-le (Entry.Delivered d) = list-le (d .stamp)
+stamps-le (Entry.Still d) = omega arith
 stamps-le (Entry.Dropped w n) = omega arith
 stamps-le (Entry.UnderWay n) = omega arith
 stamps-le (Entry.Stray n) = omega arith

@@ -1,7 +1,7 @@
 -- The first run, and what is left of the list after it; and the rule on a list whose first run is part read.
 use Prim.Native.Nat.{ℕ, _+_}
 use mathlib.Core.Path.{_≡_, refl, sym, _∙_, ap}
-use mathlib.Core.Bool.{Bool, true, false, cond, _&&_, Bool·beq}
+use mathlib.Core.Bool.{Bool, true, false, cond, not, _&&_, Bool·beq}
 use mathlib.Core.List.{List, [], _∷_, _++_, append-assoc, append-nil}
 use lib.ListN.{length, length-append}
 use lib.Dec.{ltb, eqb}
@@ -12,17 +12,18 @@ use Rattle.payload.specs.declared.Header.{Header}
 use Rattle.payload.specs.declared.Stamp.{Stamp}
 use Rattle.payload.specs.declared.Stamp.the-variants.{Absent, At}
 use Rattle.frames.specs.declared.Reason.{Reason}
-use Rattle.frames.specs.declared.Reason.the-variants.{Gap, Error, Clock, Long, Empty}
+use Rattle.frames.specs.declared.Reason.the-variants.{Gap, Error, Clock, Mixed, Long, Empty}
 use Rattle.frames.specs.declared.Fault.{Fault}
 use Rattle.frames.specs.declared.Fault.the-variants.{Sound, Bad}
 use Rattle.frames.specs.declared.Run.{Run}
 use Rattle.frames.specs.declared.Phase.{Phase}
 use Rattle.frames.specs.declared.Phase.the-variants.{Fresh, Under, Past}
 use Rattle.frames.specs.declared.Fate.{Fate}
+use Rattle.frames.specs.declared.Delivery.{Delivery}
 use Rattle.ledger.specs.Entry.{Entry}
-use Rattle.books.specs.Rule.{Seen, ahead, runs, frameOf, strayOf, complete, dataOf, _orStamp_, firstStamp, _or_, when, differs, faultAt, faultFrom, Item, settled, strays, nothing, judged}
+use Rattle.books.specs.Rule.{Seen, ahead, runs, frameOf, strayOf, complete, dataOf, _orStamp_, firstStamp, _or_, when, differs, mixes, faultAt, faultFrom, Item, handedOut, settled, strays, nothing, judged}
 use Rattle.books.specs.Demands.{fateItems}
-use Rattle.frames.specs.Inner.{firstOf, clashOf, earlierOf, faultOf, joinedOf, completeOf, fateOf, phaseOf}
+use Rattle.frames.specs.Inner.{firstOf, clashOf, earlierOf, sameOf, mixedOf, faultOf, joinedOf, completeOf, fateOf, phaseOf}
 
 abbrev pub first : Bool → List Seen → List Seen
 first f [] = []
@@ -44,10 +45,10 @@ runs-cut t (u ∷ us) = ap (ahead t) (runs-cut u us) ∙ go (t .header .fid) (u 
     go true false e = ap ((t ∷ []) ∷_) (sym e)
     go false true e = ap ((t ∷ []) ∷_) (sym e)
 
--- what is owed of a frame part read: its fault so far q, its data so far D, its first stamp s; r is the rest of its run, rs the runs after it
-abbrev pub cont : Opening → Bool → Fault → List ℕ → Stamp → List Seen → List (List Seen) → List Item
-cont o p q D s r rs =
-    settled (p && nothing rs) (complete (frameOf r)) (q or faultFrom o (s orStamp firstStamp (frameOf r)) (length D) (frameOf r)) (s orStamp firstStamp (frameOf r)) (D ++ dataOf (frameOf r))
+-- what is owed of a frame part read: its fault so far q, its data so far D, its first stamp s, its still bit b; r is the rest of its run, rs the runs after it
+abbrev pub cont : Opening → Bool → Fault → List ℕ → Stamp → Bool → List Seen → List (List Seen) → List Item
+cont o p q D s b r rs =
+    settled (p && nothing rs) (complete (frameOf r)) (q or faultFrom o (s orStamp firstStamp (frameOf r)) b (length D) (frameOf r)) (s orStamp firstStamp (frameOf r)) b (D ++ dataOf (frameOf r))
     ∷ (strays (strayOf r) ++ judged o p rs)
 
 abbrev pub pass : Opening → Bool → List Seen → List (List Seen) → List Item
@@ -57,7 +58,7 @@ pass o p r rs = strays r ++ judged o p rs
 abbrev pub onward : Opening → Bool → Phase → Bool → List ℕ → List Seen → List (List Seen) → List Item
 onward o p Fresh a D r rs = judged o p rs
 onward o p (Past f) a D r rs = pass o p r rs
-onward o p (Under x) a D r rs = cont o p (x .fault or when a Gap) D (x .stamp) r rs
+onward o p (Under x) a D r rs = cont o p (x .fault or when a Gap) D (x .stamp) (x .still) r rs
 
 pub or-assoc : (x y z : Fault) → x or (y or z) ≡ (x or y) or z
 or-assoc Sound y z = refl
@@ -92,49 +93,68 @@ clash-or Absent (At x) z = rw (eq-eqb x x refl)
 clash-or (At y) Absent z = refl
 clash-or (At y) (At x) z = refl
 
-pub fault-or : (o : Opening) (x : Run) (h : Header) (d : ℕ) (z : Stamp) → faultOf o x h d ≡ x .fault or faultAt o (x .stamp orStamp (h .stamp orStamp z)) (x .bytes) h d
+pub same-beq : (a b : Bool) → sameOf a b ≡ Bool·beq a b
+same-beq true true = refl
+same-beq true false = refl
+same-beq false true = refl
+same-beq false false = refl
+
+pub fault-or : (o : Opening) (x : Run) (h : Header) (d : ℕ) (z : Stamp) → faultOf o x h d ≡ x .fault or faultAt o (x .stamp orStamp (h .stamp orStamp z)) (x .still) (x .bytes) h d
 fault-or o x h d z =
-    first-or (firstOf (firstOf (x .fault) (h .error) Error) (clashOf (x .stamp) (h .stamp)) Clock) (ltb (o .frame) (x .bytes + d)) Long
-    ∙ ap (λ y. y or l) (first-or (firstOf (x .fault) (h .error) Error) (clashOf (x .stamp) (h .stamp)) Clock
+    first-or (firstOf q (mixedOf x h) Mixed) (ltb (o .frame) (x .bytes + d)) Long
+    ∙ ap (_or l) (first-or q (mixedOf x h) Mixed
+    ∙ ap (λ (b : Bool). q or when (not b) Mixed) (same-beq (x .still) (h .still))
+    ∙ ap (_or m) (first-or (firstOf (x .fault) (h .error) Error) (clashOf (x .stamp) (h .stamp)) Clock
     ∙ ap (λ y. y or when (clashOf (x .stamp) (h .stamp)) Clock) (first-or (x .fault) (h .error) Error)
-    ∙ ap (λ b. (x .fault or when (h .error) Error) or when b Clock) (clash-or (x .stamp) (h .stamp) z))
-    ∙ sym (or-assoc (x .fault or when (h .error) Error) c l)
-    ∙ sym (or-assoc (x .fault) (when (h .error) Error) (c or l))
+    ∙ ap (λ b. (x .fault or when (h .error) Error) or when b Clock) (clash-or (x .stamp) (h .stamp) z)))
+    ∙ sym (or-assoc ((x .fault or when (h .error) Error) or c) m l)
+    ∙ sym (or-assoc (x .fault or when (h .error) Error) c (m or l))
+    ∙ sym (or-assoc (x .fault) (when (h .error) Error) (c or (m or l)))
   where
+    q : Fault
+    q = firstOf (firstOf (x .fault) (h .error) Error) (clashOf (x .stamp) (h .stamp)) Clock
+
     l : Fault
     l = when (ltb (o .frame) (x .bytes + d)) Long
+
+    m : Fault
+    m = when (mixes (x .still) (h .still)) Mixed
 
     c : Fault
     c = when (differs (x .stamp orStamp (h .stamp orStamp z)) (h .stamp)) Clock
 
 module _ (o : Opening) (p : Bool) (r : List Seen) (rs : List (List Seen)) where
   -- a complete frame
-  end-law : (q : Fault) (s : Stamp) (n : ℕ) (D : List ℕ) (way : Bool) (rest : List Item) → n ≡ length D
-      → settled way true q s D ∷ rest ≡ fateItems (completeOf q n s) n D ++ rest
+  end-law : (q : Fault) (s : Stamp) (b : Bool) (n : ℕ) (D : List ℕ) (way : Bool) (rest : List Item) → n ≡ length D
+      → settled way true q s b D ∷ rest ≡ fateItems (completeOf q n s b) n D ++ rest
   unfolding pick
-  end-law (Bad w) s n D way rest e = rw e
-  end-law Sound s n D way rest e = rw e (go (eqb (length D) 0))
+  end-law (Bad w) s b n D way rest e = rw e
+  end-law Sound s b n D way rest e = rw e (go (eqb (length D) 0) b)
     where
-      go : (b : Bool) → record { entry = cond b (Entry.Dropped Empty (length D)) (Entry.Delivered (record { len = length D; stamp = s })); load = D } ∷ rest
-          ≡ fateItems (pick b (Fate.Dropped Empty) (Fate.Delivered (record { len = length D; stamp = s }))) (length D) D ++ rest
-      go true = refl
-      go false = refl
+      d : Delivery
+      d = record { len = length D; stamp = s }
+
+      go : (c b : Bool) → record { entry = cond c (Entry.Dropped Empty (length D)) (handedOut b d); load = D } ∷ rest
+          ≡ fateItems (pick c (Fate.Dropped Empty) (pick b (Fate.Still d) (Fate.Delivered d))) (length D) D ++ rest
+      go true b = refl
+      go false true = refl
+      go false false = refl
 
   -- one readable transfer of the frame's own run
-  pub take-law : (f : Bool) (q : Fault) (n m : ℕ) (s : Stamp) (D : List ℕ) (k : ℕ) (g e i : Bool) (st : Stamp) (d : List ℕ) (b a : Bool) → n ≡ length D
-      → let x : Run = record { fid = f; fault = q; bytes = n; fill = m; stamp = s } in
-      let h : Header = record { len = k; fid = g; eof = e; error = i; stamp = st } in
-      cont o p q D s (record { header = h; load = d; before = b; after = a } ∷ r) rs
+  pub take-law : (f v : Bool) (q : Fault) (n m : ℕ) (s : Stamp) (D : List ℕ) (k : ℕ) (g e j i : Bool) (st : Stamp) (d : List ℕ) (b a : Bool) → n ≡ length D
+      → let x : Run = record { fid = f; still = v; fault = q; bytes = n; fill = m; stamp = s } in
+      let h : Header = record { len = k; fid = g; eof = e; still = j; error = i; stamp = st } in
+      cont o p q D s v (record { header = h; load = d; before = b; after = a } ∷ r) rs
       ≡ fateItems (fateOf e (joinedOf o x h (length d))) (n + length d) (D ++ d) ++ onward o p (phaseOf e (joinedOf o x h (length d))) a (D ++ d) r rs
-  take-law f q n m s D k g false i st d b a u =
-      let x : Run = record { fid = f; fault = q; bytes = n; fill = m; stamp = s } in
-      let h : Header = record { len = k; fid = g; eof = false; error = i; stamp = st } in
+  take-law f v q n m s D k g false j i st d b a u =
+      let x : Run = record { fid = f; still = v; fault = q; bytes = n; fill = m; stamp = s } in
+      let h : Header = record { len = k; fid = g; eof = false; still = j; error = i; stamp = st } in
       let z : Stamp = firstStamp (frameOf r) in
       let S : Stamp = s orStamp (st orStamp z) in
-      rw (fault-or o x h (length d) z, earlier-or s st, ← stamp-assoc s st z, ← or-assoc (q or faultAt o S n h (length d)) (when a Gap) _, ← or-assoc q (faultAt o S n h (length d)) _, length-append D d, append-assoc D d _, u)
-  take-law f q n m s D k g true i st d b a u =
-      let x : Run = record { fid = f; fault = q; bytes = n; fill = m; stamp = s } in
-      let h : Header = record { len = k; fid = g; eof = true; error = i; stamp = st } in
+      rw (fault-or o x h (length d) z, earlier-or s st, ← stamp-assoc s st z, ← or-assoc (q or faultAt o S v n h (length d)) (when a Gap) _, ← or-assoc q (faultAt o S v n h (length d)) _, length-append D d, append-assoc D d _, u)
+  take-law f v q n m s D k g true j i st d b a u =
+      let x : Run = record { fid = f; still = v; fault = q; bytes = n; fill = m; stamp = s } in
+      let h : Header = record { len = k; fid = g; eof = true; still = j; error = i; stamp = st } in
       let S : Stamp = s orStamp (st orStamp Absent) in
-      rw (fault-or o x h (length d) Absent, earlier-or s st, append-nil d, or-sound (faultAt o S (length D) h (length d)), u, stamp-absent st)
-      (end-law (q or faultAt o (s orStamp st) (length D) h (length d)) (s orStamp st) (length D + length d) (D ++ d) (p && nothing rs) (strays r ++ judged o p rs) (sym (length-append D d)))
+      rw (fault-or o x h (length d) Absent, earlier-or s st, append-nil d, or-sound (faultAt o S v (length D) h (length d)), u, stamp-absent st)
+      (end-law (q or faultAt o (s orStamp st) v (length D) h (length d)) (s orStamp st) v (length D + length d) (D ++ d) (p && nothing rs) (strays r ++ judged o p rs) (sym (length-append D d)))

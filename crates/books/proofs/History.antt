@@ -85,7 +85,7 @@ close-end o Fresh b D e = refl
 close-end o (Past f) b D e = refl
 close-end o (Under x) b D e = go (x .fault)
   where
-    go : (q : Fault) → cont o false (q or Sound) D (x .stamp) [] [] ≡ endedItems (Frame (whyOf q Cut)) (x .bytes) D
+    go : (q : Fault) → cont o false (q or Sound) D (x .stamp) (x .still) [] [] ≡ endedItems (Frame (whyOf q Cut)) (x .bytes) D
     go Sound = rw (append-nil D, e)
     go (Bad w) = rw (append-nil D, e)
 
@@ -99,12 +99,12 @@ unfolding pick
 turn-gap o h n Fresh b = refl
 turn-gap o h n (Past f) b = go (sameOf f (h .fid))
   where
-    go : (c : Bool) → pick c (strayTurn f n) (joinTurn o (begunOf b (h .fid)) h n Nothing 0) .track .gap ≡ false
+    go : (c : Bool) → pick c (strayTurn f n) (joinTurn o (begunOf b (h .fid) (h .still)) h n Nothing 0) .track .gap ≡ false
     go true = refl
     go false = refl
 turn-gap o h n (Under x) b = go (sameOf (x .fid) (h .fid))
   where
-    go : (c : Bool) → pick c (joinTurn o x h n Nothing 0) (joinTurn o (begunOf b (h .fid)) h n (Frame (whyOf (x .fault) Cut)) (x .bytes)) .track .gap ≡ false
+    go : (c : Bool) → pick c (joinTurn o x h n Nothing 0) (joinTurn o (begunOf b (h .fid) (h .still)) h n (Frame (whyOf (x .fault) Cut)) (x .bytes)) .track .gap ≡ false
     go true = refl
     go false = refl
 
@@ -182,6 +182,7 @@ fated-posts l Fate.Idle n D h = absurd h
 fated-posts l Fate.Kept n D h = refl
 fated-posts l Fate.Stray n D h = refl
 fated-posts l (Fate.Delivered d) n D h = refl
+fated-posts l (Fate.Still d) n D h = refl
 fated-posts l (Fate.Dropped w) n D h = refl
 fated-posts l (Fate.Unreadable k) n D h = absurd h
 

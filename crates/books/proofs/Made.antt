@@ -35,32 +35,34 @@ Framed Fate.Idle = ⊥
 Framed Fate.Kept = Unit {0}
 Framed Fate.Stray = Unit {0}
 Framed (Fate.Delivered d) = Unit {0}
+Framed (Fate.Still d) = Unit {0}
 Framed (Fate.Dropped w) = Unit {0}
 Framed (Fate.Unreadable k) = ⊥
 
-complete-framed : (q : Fault) (n : ℕ) (s : Stamp) → Framed (completeOf q n s)
+complete-framed : (q : Fault) (n : ℕ) (s : Stamp) (b : Bool) → Framed (completeOf q n s b)
 unfolding pick
-complete-framed (Bad w) n s = tt
-complete-framed Sound n s = go (eqb n 0)
+complete-framed (Bad w) n s b = tt
+complete-framed Sound n s b = go (eqb n 0) b
   where
-    go : (b : Bool) → Framed (pick b (Fate.Dropped Empty) (Fate.Delivered (record { len = n; stamp = s })))
-    go true = tt
-    go false = tt
+    go : (c b : Bool) → Framed (pick c (Fate.Dropped Empty) (pick b (Fate.Still (record { len = n; stamp = s })) (Fate.Delivered (record { len = n; stamp = s }))))
+    go true b = tt
+    go false true = tt
+    go false false = tt
 
 fate-framed : (e : Bool) (x : Run) → Framed (fateOf e x)
-fate-framed true x = complete-framed (x .fault) (x .bytes) (x .stamp)
+fate-framed true x = complete-framed (x .fault) (x .bytes) (x .stamp) (x .still)
 fate-framed false x = tt
 
 pub turn-framed : (o : Opening) (h : Header) (n : ℕ) (ph : Phase) (b : Bool) → Framed (turnBy ph o b h n .answer .fate)
 unfolding pick
-turn-framed o h n Fresh b = fate-framed (h .eof) (joinedOf o (begunOf b (h .fid)) h n)
+turn-framed o h n Fresh b = fate-framed (h .eof) (joinedOf o (begunOf b (h .fid) (h .still)) h n)
 turn-framed o h n (Past f) b = go (sameOf f (h .fid))
   where
-    go : (c : Bool) → Framed (pick c (strayTurn f n) (joinTurn o (begunOf b (h .fid)) h n Nothing 0) .answer .fate)
+    go : (c : Bool) → Framed (pick c (strayTurn f n) (joinTurn o (begunOf b (h .fid) (h .still)) h n Nothing 0) .answer .fate)
     go true = tt
-    go false = fate-framed (h .eof) (joinedOf o (begunOf b (h .fid)) h n)
+    go false = fate-framed (h .eof) (joinedOf o (begunOf b (h .fid) (h .still)) h n)
 turn-framed o h n (Under x) b = go (sameOf (x .fid) (h .fid))
   where
-    go : (c : Bool) → Framed (pick c (joinTurn o x h n Nothing 0) (joinTurn o (begunOf b (h .fid)) h n (Frame (whyOf (x .fault) Cut)) (x .bytes)) .answer .fate)
+    go : (c : Bool) → Framed (pick c (joinTurn o x h n Nothing 0) (joinTurn o (begunOf b (h .fid) (h .still)) h n (Frame (whyOf (x .fault) Cut)) (x .bytes)) .answer .fate)
     go true = fate-framed (h .eof) (joinedOf o x h n)
-    go false = fate-framed (h .eof) (joinedOf o (begunOf b (h .fid)) h n)
+    go false = fate-framed (h .eof) (joinedOf o (begunOf b (h .fid) (h .still)) h n)

@@ -20,26 +20,20 @@ use Rattle.ledger.specs.Entry.{Entry}
 use Rattle.books.specs.Rule.{Event, idle, unreadable, missing, readable, Seen, spoiled, readables, runs, _or_, when, Item, judged, nothing}
 use Rattle.books.specs.Demands.{endedItems, fateItems}
 use Rattle.books.proofs.Made.{base, turnItems}
-use Rattle.books.proofs.Cut.{first, later, runs-cut, cont, pass, onward, or-sound, take-law}
+use Rattle.books.proofs.Cut.{first, later, runs-cut, cont, pass, onward, or-sound, same-beq, take-law}
 use Rattle.frames.specs.Inner.{firstOf, whyOf, sameOf, begunOf, joinedOf, fateOf, phaseOf, joinTurn, strayTurn, turnBy, spoiltBy}
 
 -- what the rule owes, from a phase, whether a gap is pending, the data so far, and the events to come; p is whether the session stays open
 abbrev pub owed : Opening → Bool → Phase → Bool → List ℕ → List Event → List Item
 owed o p Fresh b D es = judged o p (runs (readables b es))
 owed o p (Past f) b D es = pass o p (first f (readables b es)) (runs (later f (readables b es)))
-owed o p (Under x) b D es = cont o p (x .fault or when (spoiled es) Gap) D (x .stamp) (first (x .fid) (readables b es)) (runs (later (x .fid) (readables b es)))
+owed o p (Under x) b D es = cont o p (x .fault or when (spoiled es) Gap) D (x .stamp) (x .still) (first (x .fid) (readables b es)) (runs (later (x .fid) (readables b es)))
 
 -- the bytes of the run under way are those of its data
 abbrev pub Holds : Phase → List ℕ → Type 0
 Holds Fresh D = Unit {0}
 Holds (Past f) D = Unit {0}
 Holds (Under x) D = x .bytes ≡ length D
-
-pub same-beq : (a b : Bool) → sameOf a b ≡ Bool·beq a b
-same-beq true true = refl
-same-beq true false = refl
-same-beq false true = refl
-same-beq false false = refl
 
 onward-owed : (o : Opening) (p e : Bool) (x : Run) (D : List ℕ) (es : List Event)
     → onward o p (phaseOf e x) (spoiled es) D (first (x .fid) (readables false es)) (runs (later (x .fid) (readables false es))) ≡ owed o p (phaseOf e x) false D es
@@ -64,22 +58,22 @@ module _ (o : Opening) (p : Bool) (h : Header) (d : List ℕ) (es : List Event) 
       fateItems (fateOf (h .eof) (joinedOf o x h (length d))) (x .bytes + length d) (D ++ d) ++ owed o p (phaseOf (h .eof) (joinedOf o x h (length d))) false (D ++ d) es
 
   go-on : (b : Bool) (x : Run) (D : List ℕ) → x .bytes ≡ length D
-      → cont o p (x .fault) D (x .stamp) (seen b ∷ first (x .fid) (readables false es)) (runs (later (x .fid) (readables false es))) ≡ thereby x D
+      → cont o p (x .fault) D (x .stamp) (x .still) (seen b ∷ first (x .fid) (readables false es)) (runs (later (x .fid) (readables false es))) ≡ thereby x D
   go-on b x D e =
-      take-law o p (first (x .fid) (readables false es)) (runs (later (x .fid) (readables false es))) (x .fid) (x .fault) (x .bytes) (x .fill) (x .stamp) D (h .len) (h .fid) (h .eof) (h .error) (h .stamp) d b (spoiled es) e
+      take-law o p (first (x .fid) (readables false es)) (runs (later (x .fid) (readables false es))) (x .fid) (x .still) (x .fault) (x .bytes) (x .fill) (x .stamp) D (h .len) (h .fid) (h .eof) (h .still) (h .error) (h .stamp) d b (spoiled es) e
       ∙ ap (fateItems (fateOf (h .eof) (joinedOf o x h (length d))) (x .bytes + length d) (D ++ d) ++_) (onward-owed o p (h .eof) (joinedOf o x h (length d)) (D ++ d) es)
 
-  start-new : (b : Bool) → judged o p (runs (readables b (readable h d ∷ es))) ≡ thereby (begunOf b (h .fid)) []
+  start-new : (b : Bool) → judged o p (runs (readables b (readable h d ∷ es))) ≡ thereby (begunOf b (h .fid) (h .still)) []
   start-new b =
       ap (judged o p) (runs-cut (seen b) (readables false es))
-      ∙ ap (λ (q : Fault). cont o p q [] Absent (seen b ∷ first (h .fid) (readables false es)) (runs (later (h .fid) (readables false es)))) (sym (begun-fault b))
-      ∙ go-on b (begunOf b (h .fid)) [] refl
+      ∙ ap (λ (q : Fault). cont o p q [] Absent (h .still) (seen b ∷ first (h .fid) (readables false es)) (runs (later (h .fid) (readables false es)))) (sym (begun-fault b))
+      ∙ go-on b (begunOf b (h .fid) (h .still)) [] refl
 
   turn-new : (b : Bool) (x : Run) (D : List ℕ) → x .bytes ≡ length D
-      → cont o p (x .fault or Sound) D (x .stamp) [] (runs (readables b (readable h d ∷ es))) ≡ endedItems (Frame (whyOf (x .fault) Cut)) (x .bytes) D ++ thereby (begunOf b (h .fid)) []
+      → cont o p (x .fault or Sound) D (x .stamp) (x .still) [] (runs (readables b (readable h d ∷ es))) ≡ endedItems (Frame (whyOf (x .fault) Cut)) (x .bytes) D ++ thereby (begunOf b (h .fid) (h .still)) []
   turn-new b x D e = go (x .fault)
     where
-      go : (q : Fault) → cont o p (q or Sound) D (x .stamp) [] (runs (readables b (readable h d ∷ es))) ≡ endedItems (Frame (whyOf q Cut)) (x .bytes) D ++ thereby (begunOf b (h .fid)) []
+      go : (q : Fault) → cont o p (q or Sound) D (x .stamp) (x .still) [] (runs (readables b (readable h d ∷ es))) ≡ endedItems (Frame (whyOf q Cut)) (x .bytes) D ++ thereby (begunOf b (h .fid) (h .still)) []
       go Sound = rw (ap nothing (runs-cut (seen b) (readables false es)), and-false p, append-nil D, e) (ap (record { entry = Entry.Dropped Cut (length D); load = D } ∷_) (start-new b))
       go (Bad w) = rw (ap nothing (runs-cut (seen b) (readables false es)), and-false p, append-nil D, e) (ap (record { entry = Entry.Dropped w (length D); load = D } ∷_) (start-new b))
 
@@ -95,13 +89,13 @@ module _ (o : Opening) (p : Bool) (h : Header) (d : List ℕ) (es : List Event) 
   read-law (Past f) b D e = rw (same-beq f (h .fid)) (go (Bool·beq f (h .fid)))
     where
       go : (c : Bool) → pass o p (cond c (seen b ∷ first f (readables false es)) []) (runs (cond c (later f (readables false es)) (seen b ∷ readables false es)))
-          ≡ then (pick c (strayTurn f (length d)) (joinTurn o (begunOf b (h .fid)) h (length d) Nothing 0)) D ([] ++ d)
+          ≡ then (pick c (strayTurn f (length d)) (joinTurn o (begunOf b (h .fid) (h .still)) h (length d) Nothing 0)) D ([] ++ d)
       go true = refl
       go false = start-new b
   read-law (Under x) b D e = rw (same-beq (x .fid) (h .fid)) (go (Bool·beq (x .fid) (h .fid)))
     where
-      go : (c : Bool) → cont o p (x .fault or Sound) D (x .stamp) (cond c (seen b ∷ first (x .fid) (readables false es)) []) (runs (cond c (later (x .fid) (readables false es)) (seen b ∷ readables false es)))
-          ≡ then (pick c (joinTurn o x h (length d) Nothing 0) (joinTurn o (begunOf b (h .fid)) h (length d) (Frame (whyOf (x .fault) Cut)) (x .bytes))) D (cond c D [] ++ d)
+      go : (c : Bool) → cont o p (x .fault or Sound) D (x .stamp) (x .still) (cond c (seen b ∷ first (x .fid) (readables false es)) []) (runs (cond c (later (x .fid) (readables false es)) (seen b ∷ readables false es)))
+          ≡ then (pick c (joinTurn o x h (length d) Nothing 0) (joinTurn o (begunOf b (h .fid) (h .still)) h (length d) (Frame (whyOf (x .fault) Cut)) (x .bytes))) D (cond c D [] ++ d)
       go true = rw or-sound (go-on b x D e)
       go false = turn-new b x D e
 
@@ -116,8 +110,8 @@ spoil-law o p Fresh b D es = refl
 spoil-law o p (Past f) b D es = refl
 spoil-law o p (Under x) b D es = go (x .fault)
   where
-    go : (q : Fault) → cont o p (q or Bad Gap) D (x .stamp) (first (x .fid) (readables true es)) (runs (later (x .fid) (readables true es)))
-        ≡ cont o p (firstOf q true Gap or when (spoiled es) Gap) D (x .stamp) (first (x .fid) (readables true es)) (runs (later (x .fid) (readables true es)))
+    go : (q : Fault) → cont o p (q or Bad Gap) D (x .stamp) (x .still) (first (x .fid) (readables true es)) (runs (later (x .fid) (readables true es)))
+        ≡ cont o p (firstOf q true Gap or when (spoiled es) Gap) D (x .stamp) (x .still) (first (x .fid) (readables true es)) (runs (later (x .fid) (readables true es)))
     go Sound = refl
     go (Bad w) = refl
 
@@ -138,14 +132,14 @@ phase-holds o h d x D false q = rw q (sym (length-append D d))
 
 pub read-holds : (o : Opening) (h : Header) (d : List ℕ) (ph : Phase) (b : Bool) (D : List ℕ) → Holds ph D → Holds (turnBy ph o b h (length d) .track .phase) (base ph (h .fid) D ++ d)
 unfolding pick
-read-holds o h d Fresh b D e = phase-holds o h d (begunOf b (h .fid)) [] (h .eof) refl
+read-holds o h d Fresh b D e = phase-holds o h d (begunOf b (h .fid) (h .still)) [] (h .eof) refl
 read-holds o h d (Past f) b D e = go (sameOf f (h .fid))
   where
-    go : (c : Bool) → Holds (pick c (strayTurn f (length d)) (joinTurn o (begunOf b (h .fid)) h (length d) Nothing 0) .track .phase) ([] ++ d)
+    go : (c : Bool) → Holds (pick c (strayTurn f (length d)) (joinTurn o (begunOf b (h .fid) (h .still)) h (length d) Nothing 0) .track .phase) ([] ++ d)
     go true = tt
-    go false = phase-holds o h d (begunOf b (h .fid)) [] (h .eof) refl
+    go false = phase-holds o h d (begunOf b (h .fid) (h .still)) [] (h .eof) refl
 read-holds o h d (Under x) b D e = rw (same-beq (x .fid) (h .fid)) (go (Bool·beq (x .fid) (h .fid)))
   where
-    go : (c : Bool) → Holds (pick c (joinTurn o x h (length d) Nothing 0) (joinTurn o (begunOf b (h .fid)) h (length d) (Frame (whyOf (x .fault) Cut)) (x .bytes)) .track .phase) (cond c D [] ++ d)
+    go : (c : Bool) → Holds (pick c (joinTurn o x h (length d) Nothing 0) (joinTurn o (begunOf b (h .fid) (h .still)) h (length d) (Frame (whyOf (x .fault) Cut)) (x .bytes)) .track .phase) (cond c D [] ++ d)
     go true = phase-holds o h d x D (h .eof) e
-    go false = phase-holds o h d (begunOf b (h .fid)) [] (h .eof) refl
+    go false = phase-holds o h d (begunOf b (h .fid) (h .still)) [] (h .eof) refl

@@ -11,6 +11,7 @@ use Rattle.rules.specs.Pick.{pick}
 use Rattle.payload.specs.declared.Stamp.{Stamp}
 use Rattle.payload.specs.declared.Stamp.the-variants.{Absent, At}
 use Rattle.frames.specs.declared.Reason.{Reason}
+use Rattle.frames.specs.declared.Delivery.{Delivery}
 use Rattle.ledger.specs.declared.Account.{Account}
 use Rattle.ledger.specs.Entry.{Entry}
 use Rattle.ledger.specs.declared.Step.the-variants.{Forward, Backward}
@@ -73,6 +74,7 @@ timed-last l (At a) (At b) e = refl
 -- ---- an entry
 abbrev pub stampIn : Entry → Stamp
 stampIn (Entry.Delivered d) = d .stamp
+stampIn (Entry.Still d) = Absent
 stampIn (Entry.Dropped w n) = Absent
 stampIn (Entry.UnderWay n) = Absent
 stampIn (Entry.Stray n) = Absent
@@ -83,6 +85,7 @@ stampIn Entry.Idle = Absent
 
 abbrev pub gain : ℕ → Stamp → Entry → ℕ
 gain p a (Entry.Delivered d) = entryGain (placeOf Account.Delivered) (d .len) p + timeGain a (d .stamp) p
+gain p a (Entry.Still d) = entryGain (placeOf Account.Still) (d .len) p
 gain p a (Entry.Dropped w n) = entryGain (placeOf (accountFor w)) n p
 gain p a (Entry.UnderWay n) = entryGain (placeOf Account.UnderWay) n p
 gain p a (Entry.Stray n) = entryGain (placeOf Account.Stray) n p
@@ -102,6 +105,7 @@ delivered-at l n s p e =
 pub post-at : (l : Ledger) (e : Entry) (p : ℕ) → Sized l → at p (postOf l e) ≡ at p l + gain p (l .last) e
 unfolding postOf
 post-at l (Entry.Delivered d) p z = delivered-at l (d .len) (d .stamp) p z
+post-at l (Entry.Still d) p z = entered-at l Account.Still (d .len) p z
 post-at l (Entry.Dropped w n) p z = entered-at l (accountFor w) n p z
 post-at l (Entry.UnderWay n) p z = entered-at l Account.UnderWay n p z
 post-at l (Entry.Stray n) p z = entered-at l Account.Stray n p z
@@ -113,6 +117,7 @@ post-at l Entry.Idle p z = plus-at l idleAt 1 p z (omega arith)
 pub post-sized : (l : Ledger) (e : Entry) → Sized l → Sized (postOf l e)
 unfolding postOf timedOf
 post-sized l (Entry.Delivered d) z = timed-sized (enteredOf l Account.Delivered (d .len)) (enteredOf l Account.Delivered (d .len) .last) (d .stamp) (entered-sized l Account.Delivered (d .len) z)
+post-sized l (Entry.Still d) z = entered-sized l Account.Still (d .len) z
 post-sized l (Entry.Dropped w n) z = entered-sized l (accountFor w) n z
 post-sized l (Entry.UnderWay n) z = entered-sized l Account.UnderWay n z
 post-sized l (Entry.Stray n) z = entered-sized l Account.Stray n z
@@ -123,6 +128,7 @@ post-sized l Entry.Idle z = plus-sized l idleAt 1 z
 
 abbrev pub lastAfter : Stamp → Entry → Stamp
 lastAfter a (Entry.Delivered d) = latest a (d .stamp)
+lastAfter a (Entry.Still d) = a
 lastAfter a (Entry.Dropped w n) = a
 lastAfter a (Entry.UnderWay n) = a
 lastAfter a (Entry.Stray n) = a
@@ -136,6 +142,7 @@ unfolding postOf timedOf
 post-last l (Entry.Delivered d) =
     ap (λ (a : Stamp). timedBy a (enteredOf l Account.Delivered (d .len)) (d .stamp) .last) (entered-last l Account.Delivered (d .len))
     ∙ timed-last (enteredOf l Account.Delivered (d .len)) (l .last) (d .stamp) (entered-last l Account.Delivered (d .len))
+post-last l (Entry.Still d) = entered-last l Account.Still (d .len)
 post-last l (Entry.Dropped w n) = entered-last l (accountFor w) n
 post-last l (Entry.UnderWay n) = entered-last l Account.UnderWay n
 post-last l (Entry.Stray n) = entered-last l Account.Stray n
@@ -184,6 +191,7 @@ sinceEntry f a e = since f a (stampIn e)
 
 entry-law : (f : ℕ → ℕ → ℕ) (a : Stamp) (e : Entry) (l : List ℕ) → since f a (stampIn e) + between f (from (lastAfter a e) l) ≡ between f (from a (stampsOf e ++ l))
 entry-law f a (Entry.Delivered d) l = since-law f a (d .stamp) l
+entry-law f a (Entry.Still d) l = zero-add _
 entry-law f a (Entry.Dropped w n) l = zero-add _
 entry-law f a (Entry.UnderWay n) l = zero-add _
 entry-law f a (Entry.Stray n) l = zero-add _
@@ -213,6 +221,7 @@ low-time a s p h = rw (ne-eqb ticksAt p (λ z. omega arith), ne-eqb backwardAt p
 
 pub count-gain : (k : ℕ) → k < accountCount → (a : Stamp) (e : Entry) → gain (countAt k) a e ≡ oneIn k e
 count-gain k h a (Entry.Delivered d) = rw (count-gains (placeOf Account.Delivered) (d .len) k, low-time a (d .stamp) (2 * k) (omega arith)) (add-zero _)
+count-gain k h a (Entry.Still d) = count-gains (placeOf Account.Still) (d .len) k
 count-gain k h a (Entry.Dropped w n) = count-gains (placeOf (accountFor w)) n k
 count-gain k h a (Entry.UnderWay n) = count-gains (placeOf Account.UnderWay) n k
 count-gain k h a (Entry.Stray n) = count-gains (placeOf Account.Stray) n k
@@ -227,6 +236,7 @@ zero-part false = refl
 
 pub bytes-gain : (k : ℕ) → k < accountCount → (a : Stamp) (e : Entry) → gain (bytesAt k) a e ≡ partIn k e
 bytes-gain k h a (Entry.Delivered d) = rw (bytes-gains (placeOf Account.Delivered) (d .len) k, low-time a (d .stamp) (2 * k + 1) (omega arith)) (add-zero _)
+bytes-gain k h a (Entry.Still d) = bytes-gains (placeOf Account.Still) (d .len) k
 bytes-gain k h a (Entry.Dropped w n) = bytes-gains (placeOf (accountFor w)) n k
 bytes-gain k h a (Entry.UnderWay n) = bytes-gains (placeOf Account.UnderWay) n k
 bytes-gain k h a (Entry.Stray n) = bytes-gains (placeOf Account.Stray) n k
@@ -240,14 +250,15 @@ module _ (p : ℕ) (high : lostAt ≤ p) where
   account-gain : (w : Reason) (n : ℕ) → entryGain (placeOf (accountFor w)) n p ≡ 0
   account-gain w n = others-keep (placeOf (accountFor w)) n p (place-lt (accountFor w)) high
 
-  pub single-gain : (m : Stamp → Entry → ℕ) → ((a s : Stamp) (n : ℕ) → timeGain a s p ≡ m a (Entry.Delivered (record { len = n; stamp = s }))) → ((a : Stamp) (w : Reason) (n : ℕ) → 0 ≡ m a (Entry.Dropped w n))
+  pub single-gain : (m : Stamp → Entry → ℕ) → ((a s : Stamp) (n : ℕ) → timeGain a s p ≡ m a (Entry.Delivered (record { len = n; stamp = s }))) → ((a : Stamp) (d : Delivery) → 0 ≡ m a (Entry.Still d)) → ((a : Stamp) (w : Reason) (n : ℕ) → 0 ≡ m a (Entry.Dropped w n))
       → ((a : Stamp) (n : ℕ) → 0 ≡ m a (Entry.UnderWay n)) → ((a : Stamp) (n : ℕ) → 0 ≡ m a (Entry.Stray n)) → ((a : Stamp) (n : ℕ) → 0 ≡ m a (Entry.Unreadable n)) → ((a : Stamp) (n : ℕ) → 0 ≡ m a (Entry.Headers n))
       → ((a : Stamp) → cond (eqb lostAt p) 1 0 ≡ m a Entry.Lost) → ((a : Stamp) → cond (eqb idleAt p) 1 0 ≡ m a Entry.Idle) → (a : Stamp) (e : Entry) → gain p a e ≡ m a e
-  single-gain m f g u v w x y z a (Entry.Delivered d) = rw (others-keep (placeOf Account.Delivered) (d .len) p (place-lt Account.Delivered) high) (zero-add _ ∙ f a (d .stamp) (d .len))
-  single-gain m f g u v w x y z a (Entry.Dropped r n) = account-gain r n ∙ g a r n
-  single-gain m f g u v w x y z a (Entry.UnderWay n) = others-keep (placeOf Account.UnderWay) n p (place-lt Account.UnderWay) high ∙ u a n
-  single-gain m f g u v w x y z a (Entry.Stray n) = others-keep (placeOf Account.Stray) n p (place-lt Account.Stray) high ∙ v a n
-  single-gain m f g u v w x y z a (Entry.Unreadable n) = others-keep (placeOf Account.Unreadable) n p (place-lt Account.Unreadable) high ∙ w a n
-  single-gain m f g u v w x y z a (Entry.Headers n) = others-keep (placeOf Account.Headers) n p (place-lt Account.Headers) high ∙ x a n
-  single-gain m f g u v w x y z a Entry.Lost = y a
-  single-gain m f g u v w x y z a Entry.Idle = z a
+  single-gain m f i g u v w x y z a (Entry.Delivered d) = rw (others-keep (placeOf Account.Delivered) (d .len) p (place-lt Account.Delivered) high) (zero-add _ ∙ f a (d .stamp) (d .len))
+  single-gain m f i g u v w x y z a (Entry.Still d) = others-keep (placeOf Account.Still) (d .len) p (place-lt Account.Still) high ∙ i a d
+  single-gain m f i g u v w x y z a (Entry.Dropped r n) = account-gain r n ∙ g a r n
+  single-gain m f i g u v w x y z a (Entry.UnderWay n) = others-keep (placeOf Account.UnderWay) n p (place-lt Account.UnderWay) high ∙ u a n
+  single-gain m f i g u v w x y z a (Entry.Stray n) = others-keep (placeOf Account.Stray) n p (place-lt Account.Stray) high ∙ v a n
+  single-gain m f i g u v w x y z a (Entry.Unreadable n) = others-keep (placeOf Account.Unreadable) n p (place-lt Account.Unreadable) high ∙ w a n
+  single-gain m f i g u v w x y z a (Entry.Headers n) = others-keep (placeOf Account.Headers) n p (place-lt Account.Headers) high ∙ x a n
+  single-gain m f i g u v w x y z a Entry.Lost = y a
+  single-gain m f i g u v w x y z a Entry.Idle = z a

@@ -31,6 +31,7 @@ module _ (s : Session) (z : Sized (postedOf s)) where
   fated-sized Fate.Kept n l h = h
   fated-sized Fate.Stray n l h = post-sized l (Entry.Stray n) h
   fated-sized (Fate.Delivered d) n l h = post-sized l (Entry.Delivered d) h
+  fated-sized (Fate.Still d) n l h = post-sized l (Entry.Still d) h
   fated-sized (Fate.Dropped why) n l h = post-sized l (Entry.Dropped why n) h
   fated-sized (Fate.Unreadable k) n l h = post-sized l (Entry.Unreadable n) h
 

@@ -17,7 +17,7 @@ use Rattle.frames.specs.declared.Fate.{Fate}
 use Rattle.frames.specs.declared.Answer.{Answer}
 use Rattle.ledger.specs.Entry.{Entry}
 use Rattle.session.specs.Call.{Call}
-use Rattle.books.specs.Rule.{events, Seen, readables, runs, frameOf, strayOf, complete, dataOf, firstStamp, fault, verdict}
+use Rattle.books.specs.Rule.{events, Seen, readables, runs, frameOf, strayOf, complete, dataOf, firstStamp, stillOf, fault, verdict}
 
 -- THE LAST RUN of a list; none, where no transfer is readable
 abbrev pub lastOf : List (List Seen) → List Seen
@@ -31,12 +31,13 @@ lastRun o cs = lastOf (runs (readables false (events o cs)))
 -- what the rule makes of a run's frame; without EOF it is under way or ended
 abbrev pub frameEntry : Opening → Bool → List Seen → Entry
 frameEntry o way r =
-    verdict way (complete (frameOf r)) (fault o (frameOf r)) (firstStamp (frameOf r)) (length (dataOf (frameOf r)))
+    verdict way (complete (frameOf r)) (fault o (frameOf r)) (firstStamp (frameOf r)) (stillOf (frameOf r)) (length (dataOf (frameOf r)))
 
 -- "WHAT BECAME OF A FRAME ENDED": its reason, or none
 abbrev pub reasonIn : Entry → Ended
 reasonIn (Entry.Dropped w n) = Frame w
 reasonIn (Entry.Delivered d) = Nothing
+reasonIn (Entry.Still d) = Nothing
 reasonIn (Entry.UnderWay n) = Nothing
 reasonIn (Entry.Stray n) = Nothing
 reasonIn (Entry.Unreadable n) = Nothing
@@ -62,6 +63,7 @@ goesOn h (t ∷ ts) = Bool·beq (t .header .fid) (h .fid)
 -- (The last four entries are no frame's.)
 abbrev pub fateIn : Entry → Fate
 fateIn (Entry.Delivered d) = Fate.Delivered d
+fateIn (Entry.Still d) = Fate.Still d
 fateIn (Entry.Dropped w n) = Fate.Dropped w
 fateIn (Entry.UnderWay n) = Fate.Kept
 fateIn (Entry.Stray n) = Fate.Stray

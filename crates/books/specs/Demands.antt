@@ -1,7 +1,7 @@
 -- What is demanded of a session after any calls: the statements that proofs/Theorems.antt proves.
 use Prim.Native.Nat.{ℕ, _+_}
 use mathlib.Core.Path.{_≡_}
-use mathlib.Core.Bool.{true}
+use mathlib.Core.Bool.{Bool, true, false}
 use mathlib.Core.List.{List, [], _∷_, _++_}
 use lib.ListN.{length, getD, take}
 use Rattle.sizes.specs.declared.Opening.{Opening}
@@ -15,7 +15,7 @@ use Rattle.ledger.specs.declared.Account.{Account}
 use Rattle.ledger.specs.Entry.{Entry}
 use Rattle.ledger.specs.declared.Ledger.{Ledger}
 use Rattle.ledger.specs.Ledger.{countOf, bytesOf}
-use Rattle.books.specs.Rule.{frameOf, strayOf, complete, dataOf, firstStamp, fault, Item, framesBy, entries, lostLine, idleLine, oneIn, partIn, total, stamps, untimed, forward, back, between}
+use Rattle.books.specs.Rule.{frameOf, strayOf, complete, dataOf, firstStamp, stillOf, fault, Item, framesBy, entries, lostLine, idleLine, oneIn, partIn, total, stamps, untimed, forward, back, between}
 use Rattle.ledger.specs.Accounts.{accounts, placeOf, lostAt, idleAt, ticksAt, backwardAt, untimedAt}
 use Rattle.session.specs.Call.{Call}
 use Rattle.books.specs.Answer.{lastRun}
@@ -48,6 +48,7 @@ fateItems Fate.Idle n d = []
 fateItems Fate.Kept n d = []
 fateItems Fate.Stray n d = record { entry = Entry.Stray n; load = d } ∷ []
 fateItems (Fate.Delivered x) n d = record { entry = Entry.Delivered x; load = d } ∷ []
+fateItems (Fate.Still x) n d = record { entry = Entry.Still x; load = d } ∷ []
 fateItems (Fate.Dropped why) n d = record { entry = Entry.Dropped why n; load = d } ∷ []
 fateItems (Fate.Unreadable k) n d = []
 
@@ -74,12 +75,18 @@ pub record Says (o : Opening) (cs : List Call) (c : Call) (a : Answer) : Type 0 
   pub e : List ℕ
   pub gains : Gains o cs c (endedItems (a .ended) n d ++ fateItems (a .fate) m e)
 
--- DELIVERED IS WHOLE: after these calls the last run's frame is complete, without fault and has no stray after it; the buffer's first bytes are its payload bytes, in
--- order, as many as the delivery says, and the delivery's stamp is the frame's first.
-pub record Whole (o : Opening) (cs : List Call) (d : Delivery) (buffer : List ℕ) : Type 0 where
+-- a fate that hands a frame out: as a still, or delivered
+abbrev pub handing : Bool → Delivery → Fate
+handing true d = Fate.Still d
+handing false d = Fate.Delivered d
+
+-- HANDED OUT IS WHOLE: after these calls the last run's frame is complete, without fault and has no stray after it; its still bit is b; the buffer's first bytes are
+-- its payload bytes, in order, as many as the delivery says, and the delivery's stamp is the frame's first.
+pub record Whole (o : Opening) (cs : List Call) (b : Bool) (d : Delivery) (buffer : List ℕ) : Type 0 where
   pub ended : complete (frameOf (lastRun o cs)) ≡ true
   pub sound : fault o (frameOf (lastRun o cs)) ≡ Sound
   pub alone : strayOf (lastRun o cs) ≡ []
+  pub bit : stillOf (frameOf (lastRun o cs)) ≡ b
   pub payload : take (d .len) buffer ≡ dataOf (frameOf (lastRun o cs))
   pub size : d .len ≡ length (dataOf (frameOf (lastRun o cs)))
   pub stamp : d .stamp ≡ firstStamp (frameOf (lastRun o cs))

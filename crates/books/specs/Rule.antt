@@ -1,4 +1,4 @@
--- Document 01, "The frame rule, from the list alone", "Steps" and the accounts. List functions only: no state, and nothing of the session but the reading of
+-- Document 01, "The frame rule, from the list alone", "Steps" and the accounts, with document 02, "Ten" (stills). List functions only: no state, and nothing of the session but the reading of
 -- one transfer.
 use Prim.Native.Nat.{ℕ, _+_, _-_, _%_, _^_}
 use mathlib.Core.Bool.{Bool, true, false, cond, not, _&&_, _||_, Bool·beq}
@@ -13,9 +13,10 @@ use Rattle.payload.specs.declared.Reading.{Reading}
 use Rattle.payload.specs.declared.Reading.the-variants.{Idle, Unreadable, Readable}
 use Rattle.payload.specs.Transfer.{readingOf}
 use Rattle.frames.specs.declared.Reason.{Reason}
-use Rattle.frames.specs.declared.Reason.the-variants.{Gap, Error, Clock, Long, Cut, Empty}
+use Rattle.frames.specs.declared.Reason.the-variants.{Gap, Error, Clock, Mixed, Long, Cut, Empty}
 use Rattle.frames.specs.declared.Fault.{Fault}
 use Rattle.frames.specs.declared.Fault.the-variants.{Sound, Bad}
+use Rattle.frames.specs.declared.Delivery.{Delivery}
 use Rattle.ledger.specs.declared.Account.{Account}
 use Rattle.ledger.specs.Accounts.{accounts, accountCount, placeOf, accountFor}
 use Rattle.ledger.specs.Entry.{Entry}
@@ -109,7 +110,12 @@ abbrev pub firstStamp : List Seen → Stamp
 firstStamp [] = Absent
 firstStamp (t ∷ ts) = t .header .stamp orStamp firstStamp ts
 
--- FAULTS. The earliest names the frame; within one transfer the order is error, clock, long. A gap has its own moment: before the frame's first transfer, or
+-- its still bit: that of its first transfer
+abbrev pub stillOf : List Seen → Bool
+stillOf [] = false
+stillOf (t ∷ ts) = t .header .still
+
+-- FAULTS. The earliest names the frame; within one transfer the order is error, clock, mixed, long. A gap has its own moment: before the frame's first transfer, or
 -- after one of it that has no EOF.
 infixr 30 _or_
 abbrev pub _or_ : Fault → Fault → Fault
@@ -126,40 +132,50 @@ differs s Absent = false
 differs Absent (At y) = false
 differs (At x) (At y) = not (eqb x y)
 
--- of one transfer, where s is the frame's first stamp and n the data before it
-abbrev pub faultAt : Opening → Stamp → ℕ → Header → ℕ → Fault
-faultAt o s n h d = when (h .error) Error or when (differs s (h .stamp)) Clock or when (ltb (o .frame) (n + d)) Long
+-- mixed: the frame's still bit, and one that differs from it
+abbrev pub mixes : Bool → Bool → Bool
+mixes b c = not (Bool·beq b c)
+
+-- of one transfer, where s is the frame's first stamp, b its still bit and n the data before it
+abbrev pub faultAt : Opening → Stamp → Bool → ℕ → Header → ℕ → Fault
+faultAt o s b n h d =
+    when (h .error) Error or when (differs s (h .stamp)) Clock or when (mixes b (h .still)) Mixed or when (ltb (o .frame) (n + d)) Long
 
 abbrev pub gapAfter : Seen → Bool
 gapAfter t = not (t .header .eof) && t .after
 
-abbrev pub faultFrom : Opening → Stamp → ℕ → List Seen → Fault
-faultFrom o s n [] = Sound
-faultFrom o s n (t ∷ ts) = faultAt o s n (t .header) (length (t .load)) or when (gapAfter t) Gap or faultFrom o s (n + length (t .load)) ts
+abbrev pub faultFrom : Opening → Stamp → Bool → ℕ → List Seen → Fault
+faultFrom o s b n [] = Sound
+faultFrom o s b n (t ∷ ts) =
+    faultAt o s b n (t .header) (length (t .load)) or when (gapAfter t) Gap or faultFrom o s b (n + length (t .load)) ts
 
 abbrev pub gapBefore : List Seen → Bool
 gapBefore [] = false
 gapBefore (t ∷ ts) = t .before
 
 abbrev pub fault : Opening → List Seen → Fault
-fault o ts = when (gapBefore ts) Gap or faultFrom o (firstStamp ts) 0 ts
+fault o ts = when (gapBefore ts) Gap or faultFrom o (firstStamp ts) (stillOf ts) 0 ts
 
 -- WHAT BECOMES OF IT: an entry of the ledger, with the payload bytes that it stands for.
 pub record Item : Type 0 where
   pub entry : Entry
   pub load : List ℕ
 
--- Complete: its fault, or empty if it has no data, else delivered. Without EOF: under way while its run is the last and the session open; else ended, by its
--- fault, or cut.
-abbrev pub verdict : Bool → Bool → Fault → Stamp → ℕ → Entry
-verdict way true (Bad w) s n = Entry.Dropped w n
-verdict way true Sound s n = cond (eqb n 0) (Entry.Dropped Empty n) (Entry.Delivered (record { len = n; stamp = s }))
-verdict true false q s n = Entry.UnderWay n
-verdict false false (Bad w) s n = Entry.Dropped w n
-verdict false false Sound s n = Entry.Dropped Cut n
+-- Complete: its fault, or empty if it has no data, else handed out: a still if its bit is set, and otherwise delivered. Without EOF: under way while its run is
+-- the last and the session open; else ended, by its fault, or cut.
+abbrev pub handedOut : Bool → Delivery → Entry
+handedOut true d = Entry.Still d
+handedOut false d = Entry.Delivered d
 
-abbrev pub settled : Bool → Bool → Fault → Stamp → List ℕ → Item
-settled way c q s d = record { entry = verdict way c q s (length d); load = d }
+abbrev pub verdict : Bool → Bool → Fault → Stamp → Bool → ℕ → Entry
+verdict way true (Bad w) s b n = Entry.Dropped w n
+verdict way true Sound s b n = cond (eqb n 0) (Entry.Dropped Empty n) (handedOut b (record { len = n; stamp = s }))
+verdict true false q s b n = Entry.UnderWay n
+verdict false false (Bad w) s b n = Entry.Dropped w n
+verdict false false Sound s b n = Entry.Dropped Cut n
+
+abbrev pub settled : Bool → Bool → Fault → Stamp → Bool → List ℕ → Item
+settled way c q s b d = record { entry = verdict way c q s b (length d); load = d }
 
 abbrev pub strays : List Seen → List Item
 strays [] = []
@@ -167,7 +183,8 @@ strays (t ∷ ts) = record { entry = Entry.Stray (length (t .load)); load = t .l
 
 abbrev pub judge : Opening → Bool → List Seen → List Item
 judge o way r =
-    settled way (complete (frameOf r)) (fault o (frameOf r)) (firstStamp (frameOf r)) (dataOf (frameOf r)) ∷ strays (strayOf r)
+    settled way (complete (frameOf r)) (fault o (frameOf r)) (firstStamp (frameOf r)) (stillOf (frameOf r)) (dataOf (frameOf r))
+    ∷ strays (strayOf r)
 
 abbrev pub nothing : List (List Seen) → Bool
 nothing [] = true
@@ -209,6 +226,7 @@ idleLine = accountCount + 1
 
 abbrev pub lineOf : Entry → ℕ
 lineOf (Entry.Delivered d) = placeOf Account.Delivered
+lineOf (Entry.Still d) = placeOf Account.Still
 lineOf (Entry.Dropped w n) = placeOf (accountFor w)
 lineOf (Entry.UnderWay n) = placeOf Account.UnderWay
 lineOf (Entry.Stray n) = placeOf Account.Stray
@@ -219,6 +237,7 @@ lineOf Entry.Idle = idleLine
 
 abbrev pub bytesIn : Entry → ℕ
 bytesIn (Entry.Delivered d) = d .len
+bytesIn (Entry.Still d) = d .len
 bytesIn (Entry.Dropped w n) = n
 bytesIn (Entry.UnderWay n) = n
 bytesIn (Entry.Stray n) = n
@@ -237,13 +256,15 @@ abbrev pub total : (Entry → ℕ) → List Entry → ℕ
 total m [] = 0
 total m (e ∷ es) = m e + total m es
 
--- STEPS, between consecutive delivered frames that have a stamp; a delivered frame with no stamp is untimed and passed over.
+-- STEPS, between consecutive delivered frames that have a stamp; a delivered frame with no stamp is untimed and passed over. A still is passed over, stamp or
+-- none: it ends no step, starts none and is not untimed.
 abbrev pub stampList : Stamp → List ℕ
 stampList Absent = []
 stampList (At x) = x ∷ []
 
 abbrev pub stampsOf : Entry → List ℕ
 stampsOf (Entry.Delivered d) = stampList (d .stamp)
+stampsOf (Entry.Still d) = []
 stampsOf (Entry.Dropped w n) = []
 stampsOf (Entry.UnderWay n) = []
 stampsOf (Entry.Stray n) = []
@@ -262,6 +283,7 @@ noStamp (At x) = 0
 
 abbrev pub untimed : Entry → ℕ
 untimed (Entry.Delivered d) = noStamp (d .stamp)
+untimed (Entry.Still d) = 0
 untimed (Entry.Dropped w n) = 0
 untimed (Entry.UnderWay n) = 0
 untimed (Entry.Stray n) = 0

@@ -47,6 +47,7 @@ module _ (s : Session) (a : AbleOf s) where
     fate-bytes Fate.Kept m l = omega arith
     fate-bytes Fate.Stray m l = omega arith
     fate-bytes (Fate.Delivered d) m l = omega arith
+    fate-bytes (Fate.Still d) m l = omega arith
     fate-bytes (Fate.Dropped why) m l = omega arith
     fate-bytes (Fate.Unreadable k) m l = omega arith
 
