@@ -31,7 +31,7 @@ use Rattle.books.proofs.History.{next-opening, turn-gap}
 use Rattle.books.proofs.Sound.{Fit, fit-took, fit-next, run-opening}
 use Rattle.books.proofs.Answers.{answerBy, took-answer, more-proper}
 use Rattle.books.proofs.OneMore.{pending, pending-more, spoilLast, lastIn, last-more}
-use Rattle.books.proofs.Grown.{complete-spoilt, data-spoilt, stamp-spoilt, fault-spoilt}
+use Rattle.books.proofs.Grown.{complete-spoilt, data-spoilt, stamp-spoilt, still-spoilt, fault-spoilt}
 use Rattle.books.proofs.Tracked.{Of, Tracks, Turned, turn-right, part-ended, past-ended}
 
 -- ---- an unreadable or lost transfer
@@ -50,6 +50,7 @@ spoilt-tracks o (Under x) (u ∷ us) e =
       record {
         going = complete-spoilt r ∙ p .going;
         fault₀ = first-or (x .fault) true Gap ∙ ap (_or Bad Gap) (p .fault₀) ∙ sym (fault-spoilt o u us (p .going));
+        still₀ = p .still₀ ∙ sym (still-spoilt r);
         stamp₀ = p .stamp₀ ∙ sym (stamp-spoilt r);
         bytes₀ = p .bytes₀ ∙ ap length (sym (data-spoilt r));
       },

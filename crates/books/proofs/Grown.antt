@@ -12,7 +12,7 @@ use Rattle.frames.specs.declared.Reason.the-variants.{Gap}
 use Rattle.frames.specs.declared.Fault.{Fault}
 use Rattle.frames.specs.declared.Fault.the-variants.{Sound, Bad}
 use Rattle.rules.proofs.Rows.{or-second}
-use Rattle.books.specs.Rule.{Seen, frameOf, strayOf, complete, dataOf, _orStamp_, firstStamp, _or_, when, faultAt, gapAfter, faultFrom, gapBefore, fault}
+use Rattle.books.specs.Rule.{Seen, frameOf, strayOf, complete, dataOf, _orStamp_, firstStamp, stillOf, _or_, when, faultAt, gapAfter, faultFrom, gapBefore, fault}
 use Rattle.books.specs.Answer.{earlier}
 use Rattle.books.proofs.Cut.{or-sound, or-assoc, stamp-assoc, stamp-absent}
 use Rattle.books.proofs.OneMore.{spoilLast}
@@ -107,51 +107,52 @@ stamp-more (u ∷ us) t = ap (u .header .stamp orStamp_) (stamp-more us t) ∙ s
 
 module _ (o : Opening) where
   -- where the frame has no stamp, none differs, whatever the first one will be
-  unstamped : (r : List Seen) (s z : Stamp) (n : ℕ) → firstStamp r ≡ Absent → faultFrom o s n r ≡ faultFrom o z n r
-  unstamped [] s z n e = refl
-  unstamped (t ∷ ts) s z n e = go (t .header .stamp) refl e (unstamped ts s z (n + length (t .load)))
+  unstamped : (r : List Seen) (s z : Stamp) (b : Bool) (n : ℕ) → firstStamp r ≡ Absent → faultFrom o s b n r ≡ faultFrom o z b n r
+  unstamped [] s z b n e = refl
+  unstamped (t ∷ ts) s z b n e = go (t .header .stamp) refl e (unstamped ts s z b (n + length (t .load)))
     where
-      go : (x : Stamp) → t .header .stamp ≡ x → (x orStamp firstStamp ts) ≡ Absent → (firstStamp ts ≡ Absent → faultFrom o s (n + length (t .load)) ts ≡ faultFrom o z (n + length (t .load)) ts)
-          → faultFrom o s n (t ∷ ts) ≡ faultFrom o z n (t ∷ ts)
+      go : (x : Stamp) → t .header .stamp ≡ x → (x orStamp firstStamp ts) ≡ Absent → (firstStamp ts ≡ Absent → faultFrom o s b (n + length (t .load)) ts ≡ faultFrom o z b (n + length (t .load)) ts)
+          → faultFrom o s b n (t ∷ ts) ≡ faultFrom o z b n (t ∷ ts)
       go Absent q f rec = rw (q, rec f)
       go (At x) q f rec = cc
 
-  first-held : (r : List Seen) (s : Stamp) (n : ℕ) → faultFrom o (firstStamp r orStamp s) n r ≡ faultFrom o (firstStamp r) n r
-  first-held r s n = go (firstStamp r) refl
+  first-held : (r : List Seen) (s : Stamp) (b : Bool) (n : ℕ) → faultFrom o (firstStamp r orStamp s) b n r ≡ faultFrom o (firstStamp r) b n r
+  first-held r s b n = go (firstStamp r) refl
     where
-      go : (x : Stamp) → firstStamp r ≡ x → faultFrom o (x orStamp s) n r ≡ faultFrom o x n r
-      go Absent e = unstamped r s Absent n e
+      go : (x : Stamp) → firstStamp r ≡ x → faultFrom o (x orStamp s) b n r ≡ faultFrom o x b n r
+      go Absent e = unstamped r s Absent b n e
       go (At x) e = refl
 
-  abbrev own : Stamp → ℕ → Seen → Fault
-  own s n t = faultAt o s n (t .header) (length (t .load)) or when (gapAfter t) Gap
+  abbrev own : Stamp → Bool → ℕ → Seen → Fault
+  own s b n t = faultAt o s b n (t .header) (length (t .load)) or when (gapAfter t) Gap
 
-  from-more : (r : List Seen) (s : Stamp) (n : ℕ) (t : Seen) → faultFrom o s n (and r t) ≡ faultFrom o s n r or own s (n + length (dataOf r)) t
-  from-more [] s n t = rw (add-zero n, or-sound (when (gapAfter t) Gap))
-  from-more (u ∷ us) s n t =
-      let a : Fault = faultAt o s n (u .header) (length (u .load)) in
+  from-more : (r : List Seen) (s : Stamp) (b : Bool) (n : ℕ) (t : Seen) → faultFrom o s b n (and r t) ≡ faultFrom o s b n r or own s b (n + length (dataOf r)) t
+  from-more [] s b n t = rw (add-zero n, or-sound (when (gapAfter t) Gap))
+  from-more (u ∷ us) s b n t =
+      let a : Fault = faultAt o s b n (u .header) (length (u .load)) in
       let g : Fault = when (gapAfter u) Gap in
-      let f : Fault = faultFrom o s (n + length (u .load)) us in
-      let x : Fault = own s ((n + length (u .load)) + length (dataOf us)) t in
-      ap (λ (y : Fault). a or (g or y)) (from-more us s (n + length (u .load)) t)
+      let f : Fault = faultFrom o s b (n + length (u .load)) us in
+      let x : Fault = own s b ((n + length (u .load)) + length (dataOf us)) t in
+      ap (λ (y : Fault). a or (g or y)) (from-more us s b (n + length (u .load)) t)
       ∙ ap (a or_) (or-assoc g f x)
       ∙ or-assoc a (g or f) x
-      ∙ ap (λ (k : ℕ). (a or (g or f)) or own s k t) (add-assoc n (length (u .load)) (length (dataOf us)) ∙ ap (n +_) (sym (length-append (u .load) (dataOf us))))
+      ∙ ap (λ (k : ℕ). (a or (g or f)) or own s b k t) (add-assoc n (length (u .load)) (length (dataOf us)) ∙ ap (n +_) (sym (length-append (u .load) (dataOf us))))
 
   -- the fault of a frame that the transfer t goes on with, or starts
   abbrev pub soFar : Seen → List Seen → Fault
   soFar t [] = when (t .before) Gap
   soFar t (u ∷ us) = fault o (u ∷ us)
 
-  pub fault-more : (r : List Seen) (t : Seen) → fault o (and r t) ≡ soFar t r or own (firstStamp (and r t)) (length (dataOf r)) t
+  pub fault-more : (r : List Seen) (t : Seen) → fault o (and r t) ≡ soFar t r or own (firstStamp (and r t)) (stillOf (and r t)) (length (dataOf r)) t
   fault-more [] t = rw (or-sound (when (gapAfter t) Gap))
   fault-more (u ∷ us) t =
       let r : List Seen = u ∷ us in
       let s : Stamp = firstStamp (and r t) in
+      let b : Bool = u .header .still in
       let g : Fault = when (u .before) Gap in
-      ap (g or_) (from-more r s 0 t ∙ ap (λ (k : ℕ). faultFrom o s 0 r or own s k t) (zero-add (length (dataOf r))))
-      ∙ or-assoc g (faultFrom o s 0 r) (own s (length (dataOf r)) t)
-      ∙ ap (λ (f : Fault). (g or f) or own s (length (dataOf r)) t) (ap (λ (z : Stamp). faultFrom o z 0 r) (stamp-more r t) ∙ first-held r (t .header .stamp) 0)
+      ap (g or_) (from-more r s b 0 t ∙ ap (λ (k : ℕ). faultFrom o s b 0 r or own s b k t) (zero-add (length (dataOf r))))
+      ∙ or-assoc g (faultFrom o s b 0 r) (own s b (length (dataOf r)) t)
+      ∙ ap (λ (f : Fault). (g or f) or own s b (length (dataOf r)) t) (ap (λ (z : Stamp). faultFrom o z b 0 r) (stamp-more r t) ∙ first-held r (t .header .stamp) b 0)
 
 -- ---- a gap after the last transfer
 pub complete-spoilt : (r : List Seen) → complete (spoilLast r) ≡ complete r
@@ -169,19 +170,24 @@ stamp-spoilt [] = refl
 stamp-spoilt (t ∷ []) = refl
 stamp-spoilt (t ∷ (u ∷ us)) = ap (t .header .stamp orStamp_) (stamp-spoilt (u ∷ us))
 
+pub still-spoilt : (r : List Seen) → stillOf (spoilLast r) ≡ stillOf r
+still-spoilt [] = refl
+still-spoilt (t ∷ []) = refl
+still-spoilt (t ∷ (u ∷ us)) = refl
+
 gap-once : (a : Fault) (b c : Bool) → (b || false) ≡ false → a or (when (not b && true) Gap or Sound) ≡ (a or (when (not b && c) Gap or Sound)) or Bad Gap
 gap-once a true c e = absurd (true≢false e)
 gap-once Sound false true e = refl
 gap-once Sound false false e = refl
 gap-once (Bad w) false c e = refl
 
-from-spoilt : (o : Opening) (s : Stamp) (n : ℕ) (t : Seen) (ts : List Seen) → complete (t ∷ ts) ≡ false → faultFrom o s n (spoilLast (t ∷ ts)) ≡ faultFrom o s n (t ∷ ts) or Bad Gap
-from-spoilt o s n t [] e = gap-once (faultAt o s n (t .header) (length (t .load))) (t .header .eof) (t .after) e
-from-spoilt o s n t (u ∷ us) e =
-    let a : Fault = faultAt o s n (t .header) (length (t .load)) in
+from-spoilt : (o : Opening) (s : Stamp) (b : Bool) (n : ℕ) (t : Seen) (ts : List Seen) → complete (t ∷ ts) ≡ false → faultFrom o s b n (spoilLast (t ∷ ts)) ≡ faultFrom o s b n (t ∷ ts) or Bad Gap
+from-spoilt o s b n t [] e = gap-once (faultAt o s b n (t .header) (length (t .load))) (t .header .eof) (t .after) e
+from-spoilt o s b n t (u ∷ us) e =
+    let a : Fault = faultAt o s b n (t .header) (length (t .load)) in
     let g : Fault = when (gapAfter t) Gap in
-    let f : Fault = faultFrom o s (n + length (t .load)) (u ∷ us) in
-    ap (λ (y : Fault). a or (g or y)) (from-spoilt o s (n + length (t .load)) u us (or-second (t .header .eof) (complete (u ∷ us)) e))
+    let f : Fault = faultFrom o s b (n + length (t .load)) (u ∷ us) in
+    ap (λ (y : Fault). a or (g or y)) (from-spoilt o s b (n + length (t .load)) u us (or-second (t .header .eof) (complete (u ∷ us)) e))
     ∙ ap (a or_) (or-assoc g f (Bad Gap))
     ∙ or-assoc a (g or f) (Bad Gap)
 
@@ -193,7 +199,9 @@ before-spoilt (t ∷ (u ∷ us)) = refl
 pub fault-spoilt : (o : Opening) (t : Seen) (ts : List Seen) → complete (t ∷ ts) ≡ false → fault o (spoilLast (t ∷ ts)) ≡ fault o (t ∷ ts) or Bad Gap
 fault-spoilt o t ts e =
     let r : List Seen = t ∷ ts in
-    ap (λ (b : Bool). when b Gap or faultFrom o (firstStamp (spoilLast r)) 0 (spoilLast r)) (before-spoilt r)
-    ∙ ap (λ (s : Stamp). when (t .before) Gap or faultFrom o s 0 (spoilLast r)) (stamp-spoilt r)
-    ∙ ap (when (t .before) Gap or_) (from-spoilt o (firstStamp r) 0 t ts e)
-    ∙ or-assoc (when (t .before) Gap) (faultFrom o (firstStamp r) 0 r) (Bad Gap)
+    let b : Bool = t .header .still in
+    ap (λ (c : Bool). when c Gap or faultFrom o (firstStamp (spoilLast r)) (stillOf (spoilLast r)) 0 (spoilLast r)) (before-spoilt r)
+    ∙ ap (λ (c : Bool). when (t .before) Gap or faultFrom o (firstStamp (spoilLast r)) c 0 (spoilLast r)) (still-spoilt r)
+    ∙ ap (λ (s : Stamp). when (t .before) Gap or faultFrom o s b 0 (spoilLast r)) (stamp-spoilt r)
+    ∙ ap (when (t .before) Gap or_) (from-spoilt o (firstStamp r) b 0 t ts e)
+    ∙ or-assoc (when (t .before) Gap) (faultFrom o (firstStamp r) b 0 r) (Bad Gap)

@@ -11,10 +11,10 @@ use borrow.Author.Tests.{ltb-false}
 use Rattle.sizes.specs.declared.Opening.{Opening}
 use Rattle.payload.specs.declared.Header.{Header}
 use Rattle.frames.specs.declared.Reason.{Reason}
-use Rattle.frames.specs.declared.Reason.the-variants.{Gap, Error, Clock, Long}
+use Rattle.frames.specs.declared.Reason.the-variants.{Gap, Error, Clock, Mixed, Long}
 use Rattle.frames.specs.declared.Fault.{Fault}
 use Rattle.frames.specs.declared.Fault.the-variants.{Sound, Bad}
-use Rattle.books.specs.Rule.{Seen, same, frameOf, strayOf, complete, dataOf, firstStamp, _or_, when, differs, faultAt, gapAfter, fault}
+use Rattle.books.specs.Rule.{Seen, same, frameOf, strayOf, complete, dataOf, firstStamp, stillOf, _or_, when, differs, mixes, faultAt, gapAfter, fault}
 use Rattle.books.specs.Answer.{earlier, writtenBy, writtenIn}
 use Rattle.books.proofs.OneMore.{seenWith, spoilLast, grown}
 use Rattle.books.proofs.Grown.{and, frame-whole, stray-whole, frame-more, stray-none, stray-more, earlier-more, data-more, soFar, fault-more, complete-spoilt, fault-spoilt}
@@ -55,7 +55,7 @@ module _ (o : Opening) (h : Header) (d : List ℕ) (b : Bool) (B : List ℕ) (ro
     at = length (dataOf r)
 
     abbrev own : Fault
-    own = faultAt o (firstStamp (and r t)) at h (length d)
+    own = faultAt o (firstStamp (and r t)) (stillOf (and r t)) at h (length d)
 
     module _ (sound : fault o (and r t) ≡ Sound) where
       parts : soFar o t r or (own or when (gapAfter t) Gap) ≡ Sound
@@ -65,7 +65,7 @@ module _ (o : Opening) (h : Header) (d : List ℕ) (b : Bool) (B : List ℕ) (ro
       before = held (sound-first (soFar o t r) _ parts)
 
       fits : at + length d ≤ o .frame
-      fits = ltb-false (o .frame) (at + length d) (sound-when (ltb (o .frame) (at + length d)) Long (sound-second (when (differs (firstStamp (and r t)) (h .stamp)) Clock) _ (sound-second (when (h .error) Error) _ (sound-first own _ (sound-second (soFar o t r) _ parts)))))
+      fits = ltb-false (o .frame) (at + length d) (sound-when (ltb (o .frame) (at + length d)) Long (sound-second (when (mixes (stillOf (and r t)) (h .still)) Mixed) _ (sound-second (when (differs (firstStamp (and r t)) (h .stamp)) Clock) _ (sound-second (when (h .error) Error) _ (sound-first own _ (sound-second (soFar o t r) _ parts))))))
 
       pasted : take (length (dataOf (and r t))) (paste B at d (length d)) ≡ dataOf (and r t)
       pasted =

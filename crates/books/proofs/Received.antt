@@ -14,12 +14,12 @@ use Rattle.payload.specs.declared.Stamp.{Stamp}
 use Rattle.payload.specs.declared.Reading.{Reading}
 use Rattle.payload.specs.declared.Reading.the-variants.{Idle, Unreadable, Readable}
 use Rattle.payload.specs.Transfer.{lengthAt, transferFlags, headerOf, sorted, readingOf}
-use Rattle.frames.specs.declared.Reason.the-variants.{Gap, Error, Clock, Long, Cut, Empty}
+use Rattle.frames.specs.declared.Reason.the-variants.{Gap, Error, Clock, Mixed, Long, Cut, Empty}
 use Rattle.frames.specs.declared.Fault.{Fault}
 use Rattle.frames.specs.declared.Fault.the-variants.{Sound, Bad}
 use Rattle.ledger.specs.declared.Account.{Account}
 use Rattle.ledger.specs.Entry.{Entry}
-use Rattle.books.specs.Rule.{Event, idle, unreadable, missing, readable, eventBy, events, isOpen, Seen, readables, same, ahead, runs, frameOf, strayOf, complete, dataOf, firstStamp, fault, Item, verdict, strays, judge, nothing, judged, framesBy, loose, entryOf, entries, bytesIn, partIn, total, received}
+use Rattle.books.specs.Rule.{Event, idle, unreadable, missing, readable, eventBy, events, isOpen, Seen, readables, same, ahead, runs, frameOf, strayOf, complete, dataOf, firstStamp, stillOf, fault, Item, handedOut, verdict, strays, judge, nothing, judged, framesBy, loose, entryOf, entries, bytesIn, partIn, total, received}
 use Rattle.books.specs.Demands.{over}
 use Rattle.books.proofs.Posts.{total-append}
 use Rattle.books.proofs.History.{map-append}
@@ -64,16 +64,17 @@ events-got o (Call.lost ∷ cs) = events-got o cs
 events-got o (Call.close ∷ cs) = refl
 
 -- ---- the rule's bytes
-verdict-bytes : (w c : Bool) (q : Fault) (s : Stamp) (n : ℕ) → bytesIn (verdict w c q s n) ≡ n
-verdict-bytes w true (Bad k) s n = refl
-verdict-bytes w true Sound s n = go (eqb n 0)
+verdict-bytes : (w c : Bool) (q : Fault) (s : Stamp) (b : Bool) (n : ℕ) → bytesIn (verdict w c q s b n) ≡ n
+verdict-bytes w true (Bad k) s b n = refl
+verdict-bytes w true Sound s b n = go (eqb n 0) b
   where
-    go : (b : Bool) → bytesIn (cond b (Entry.Dropped Empty n) (Entry.Delivered (record { len = n; stamp = s }))) ≡ n
-    go true = refl
-    go false = refl
-verdict-bytes true false q s n = refl
-verdict-bytes false false (Bad k) s n = refl
-verdict-bytes false false Sound s n = refl
+    go : (c b : Bool) → bytesIn (cond c (Entry.Dropped Empty n) (handedOut b (record { len = n; stamp = s }))) ≡ n
+    go true b = refl
+    go false true = refl
+    go false false = refl
+verdict-bytes true false q s b n = refl
+verdict-bytes false false (Bad k) s b n = refl
+verdict-bytes false false Sound s b n = refl
 
 abbrev bytesOfItems : List Item → ℕ
 bytesOfItems xs = total bytesIn (map entryOf xs)
@@ -118,7 +119,7 @@ runs-size (t ∷ ts) = ahead-size t (runs ts) ∙ ap (length (t .load) +_) (runs
 judge-bytes : (o : Opening) (w : Bool) (r : List Seen) → bytesOfItems (judge o w r) ≡ sizeOf r
 judge-bytes o w r =
     let f : List Seen = frameOf r in
-    omega (arith, verdict-bytes w (complete f) (fault o f) (firstStamp f) (length (dataOf f)), data-size f, strays-bytes (strayOf r), split-size r)
+    omega (arith, verdict-bytes w (complete f) (fault o f) (firstStamp f) (stillOf f) (length (dataOf f)), data-size f, strays-bytes (strayOf r), split-size r)
 
 judged-bytes : (o : Opening) (p : Bool) (rs : List (List Seen)) → bytesOfItems (judged o p rs) ≡ sizes rs
 judged-bytes o p [] = refl
@@ -153,9 +154,11 @@ over-zero (k ∷ ks) = omega (arith, over-zero ks)
 
 part-one : (e : Entry) → over (λ a. partIn (placeOf a) e) accounts ≡ bytesIn e
 part-one (Entry.Delivered d) = omega arith
+part-one (Entry.Still d) = omega arith
 part-one (Entry.Dropped Gap n) = omega arith
 part-one (Entry.Dropped Error n) = omega arith
 part-one (Entry.Dropped Clock n) = omega arith
+part-one (Entry.Dropped Mixed n) = omega arith
 part-one (Entry.Dropped Long n) = omega arith
 part-one (Entry.Dropped Cut n) = omega arith
 part-one (Entry.Dropped Empty n) = omega arith

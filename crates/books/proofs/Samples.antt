@@ -38,9 +38,9 @@ transfers =
     ∷ (0x02 ∷ 0x82 ∷ 0x22 ∷ [])
     ∷ []
 
--- what is printed: delivered, gap, error, clock, long, cut, empty, under way, stray, unreadable, headers; lost, idle, ticks, backward, untimed
+-- what is printed: delivered, gap, error, clock, long, cut, empty, still, mixed, under way, stray, unreadable, headers; lost, idle, ticks, backward, untimed
 abbrev pub printed : List ℕ
-printed = 1 ∷ 3 ∷ 1 ∷ 2 ∷ 0 ∷ 0 ∷ 0 ∷ 0 ∷ 0 ∷ 0 ∷ 1 ∷ 1 ∷ 0 ∷ 0 ∷ 0 ∷ 0 ∷ 1 ∷ 1 ∷ 1 ∷ 1 ∷ 6 ∷ 12 ∷ 0 ∷ 0 ∷ 0 ∷ 0 ∷ 1 ∷ []
+printed = 1 ∷ 3 ∷ 1 ∷ 2 ∷ 0 ∷ 0 ∷ 0 ∷ 0 ∷ 0 ∷ 0 ∷ 1 ∷ 1 ∷ 0 ∷ 0 ∷ 0 ∷ 0 ∷ 0 ∷ 0 ∷ 0 ∷ 0 ∷ 1 ∷ 1 ∷ 1 ∷ 1 ∷ 6 ∷ 12 ∷ 0 ∷ 0 ∷ 0 ∷ 0 ∷ 1 ∷ []
 
 pub by-rule : numbersOf (entries opening (map Call.transfer transfers)) ≡ printed
 unfolding pick firstFrom flagOf needOf transferFlags stampOf headerOf readingOf

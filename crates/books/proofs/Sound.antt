@@ -16,7 +16,7 @@ use Rattle.payload.specs.declared.Reading.{Reading}
 use Rattle.payload.specs.declared.Reading.the-variants.{Idle, Unreadable, Readable}
 use Rattle.payload.specs.Transfer.{readingOf}
 use Rattle.frames.specs.declared.Reason.{Reason}
-use Rattle.frames.specs.declared.Reason.the-variants.{Gap, Error, Clock, Long, Cut}
+use Rattle.frames.specs.declared.Reason.the-variants.{Gap, Error, Clock, Mixed, Long, Cut}
 use Rattle.frames.specs.declared.Fault.{Fault}
 use Rattle.frames.specs.declared.Fault.the-variants.{Sound, Bad}
 use Rattle.frames.specs.declared.Run.{Run}
@@ -34,7 +34,7 @@ use Rattle.books.proofs.Bounds.{count-bound, bytes-bound, ticks-bound, 
 use Rattle.books.proofs.History.{next-opening}
 use Rattle.ledger.specs.Accounts.{accountCount}
 use Rattle.sizes.specs.Sizes.{sizesBroken}
-use Rattle.frames.specs.Inner.{firstOf, clashOf, sameOf, whyOf, begunOf, joinedOf, filledOf, phaseOf, joinTurn, strayTurn, turnBy, turnOf, spoiltBy, spoiltOf, closedBy, closedOf}
+use Rattle.frames.specs.Inner.{firstOf, clashOf, sameOf, mixedOf, whyOf, begunOf, joinedOf, filledOf, phaseOf, joinTurn, strayTurn, turnBy, turnOf, spoiltBy, spoiltOf, closedBy, closedOf}
 use Rattle.rule_50.specs.Rule50.{rule50, unequal, fillBroken, accountBroken, accountsBroken, countsBroken}
 use Rattle.session.specs.Call.{Call}
 use Rattle.session.specs.Calls.{Offer, refusal, next, after, callOf, unless, taken, nextCall, run}
@@ -53,13 +53,18 @@ snug-spoilt : (frame : ℕ) (q : Fault) (w : Reason) (fill bytes : ℕ) → Snug
 snug-spoilt frame Sound w fill bytes e = omega arith
 snug-spoilt frame (Bad v) w fill bytes e = e
 
-pub snug-joined : (frame : ℕ) (q : Fault) (i c l : Bool) (fill bytes n : ℕ) → ltb frame (bytes + n) ≡ l → Snug frame q fill bytes
-    → Snug frame (firstOf (firstOf (firstOf q i Error) c Clock) l Long) (filledOf (firstOf (firstOf (firstOf q i Error) c Clock) l Long) fill n) (bytes + n)
-snug-joined frame (Bad w) i c l fill bytes n g e = e
-snug-joined frame Sound true c l fill bytes n g e = omega arith
-snug-joined frame Sound false true l fill bytes n g e = omega arith
-snug-joined frame Sound false false true fill bytes n g e = omega arith
-snug-joined frame Sound false false false fill bytes n g e = (omega arith, ltb-false frame (bytes + n) g)
+-- the tracker's fault once a transfer has joined, from its four tests
+abbrev pub faultBy : Fault → Bool → Bool → Bool → Bool → Fault
+faultBy q i c m l = firstOf (firstOf (firstOf (firstOf q i Error) c Clock) m Mixed) l Long
+
+pub snug-joined : (frame : ℕ) (q : Fault) (i c m l : Bool) (fill bytes n : ℕ) → ltb frame (bytes + n) ≡ l → Snug frame q fill bytes
+    → Snug frame (faultBy q i c m l) (filledOf (faultBy q i c m l) fill n) (bytes + n)
+snug-joined frame (Bad w) i c m l fill bytes n g e = e
+snug-joined frame Sound true c m l fill bytes n g e = omega arith
+snug-joined frame Sound false true m l fill bytes n g e = omega arith
+snug-joined frame Sound false false true l fill bytes n g e = omega arith
+snug-joined frame Sound false false false true fill bytes n g e = omega arith
+snug-joined frame Sound false false false false fill bytes n g e = (omega arith, ltb-false frame (bytes + n) g)
 
 pub snug-begun : (frame : ℕ) (b : Bool) → Snug frame (firstOf Sound b Gap) 0 0
 snug-begun frame true = omega arith
@@ -68,21 +73,21 @@ snug-begun frame false = (refl, omega arith)
 fit-join : (o : Opening) (h : Header) (n : ℕ) (x : Run) (e : Bool) → Fit (o .frame) (Under x) → Fit (o .frame) (phaseOf e (joinedOf o x h n))
 fit-join o h n x true f = tt
 fit-join o h n x false f =
-    snug-joined (o .frame) (x .fault) (h .error) (clashOf (x .stamp) (h .stamp)) (ltb (o .frame) (x .bytes + n)) (x .fill) (x .bytes) n refl f
+    snug-joined (o .frame) (x .fault) (h .error) (clashOf (x .stamp) (h .stamp)) (mixedOf x h) (ltb (o .frame) (x .bytes + n)) (x .fill) (x .bytes) n refl f
 
 fit-turn : (o : Opening) (h : Header) (n : ℕ) (ph : Phase) (b : Bool) → Fit (o .frame) ph → Fit (o .frame) (turnBy ph o b h n .track .phase)
 unfolding pick
-fit-turn o h n Fresh b f = fit-join o h n (begunOf b (h .fid)) (h .eof) (snug-begun (o .frame) b)
+fit-turn o h n Fresh b f = fit-join o h n (begunOf b (h .fid) (h .still)) (h .eof) (snug-begun (o .frame) b)
 fit-turn o h n (Past g) b f = go (sameOf g (h .fid))
   where
-    go : (c : Bool) → Fit (o .frame) (pick c (strayTurn g n) (joinTurn o (begunOf b (h .fid)) h n Nothing 0) .track .phase)
+    go : (c : Bool) → Fit (o .frame) (pick c (strayTurn g n) (joinTurn o (begunOf b (h .fid) (h .still)) h n Nothing 0) .track .phase)
     go true = tt
-    go false = fit-join o h n (begunOf b (h .fid)) (h .eof) (snug-begun (o .frame) b)
+    go false = fit-join o h n (begunOf b (h .fid) (h .still)) (h .eof) (snug-begun (o .frame) b)
 fit-turn o h n (Under x) b f = go (sameOf (x .fid) (h .fid))
   where
-    go : (c : Bool) → Fit (o .frame) (pick c (joinTurn o x h n Nothing 0) (joinTurn o (begunOf b (h .fid)) h n (Frame (whyOf (x .fault) Cut)) (x .bytes)) .track .phase)
+    go : (c : Bool) → Fit (o .frame) (pick c (joinTurn o x h n Nothing 0) (joinTurn o (begunOf b (h .fid) (h .still)) h n (Frame (whyOf (x .fault) Cut)) (x .bytes)) .track .phase)
     go true = fit-join o h n x (h .eof) f
-    go false = fit-join o h n (begunOf b (h .fid)) (h .eof) (snug-begun (o .frame) b)
+    go false = fit-join o h n (begunOf b (h .fid) (h .still)) (h .eof) (snug-begun (o .frame) b)
 
 fit-spoilt : (frame : ℕ) (ph : Phase) → Fit frame ph → Fit frame (spoiltBy ph)
 fit-spoilt frame Fresh f = f

@@ -14,7 +14,6 @@ use Rattle.sizes.specs.declared.Opening.{Opening}
 use Rattle.frames.specs.declared.Answer.{Answer}
 use Rattle.frames.specs.declared.Delivery.{Delivery}
 use Rattle.frames.specs.declared.Ended.{Ended}
-use Rattle.frames.specs.declared.Fate.{Fate}
 use Rattle.ledger.specs.declared.Account.{Account}
 use Rattle.session.specs.declared.Session.{Session}
 use Rattle.session.specs.declared.Start.{Start}
@@ -24,7 +23,7 @@ use Rattle.session.specs.declared.Closing.{Closing}
 use Rattle.session.specs.Refusals.{takenMost, openingFlags, recordBroken, ledgerOf}
 use Rattle.session.specs.Session.{fresh, openBy, openOf, takeOf, bufferBy, bufferOf, lostOf, closeOf}
 use Rattle.books.specs.Rule.{entries, numbersOf, stamps, forward, between, received}
-use Rattle.books.specs.Demands.{Right, over, allBytes, endedItems, Gains, Says, Whole}
+use Rattle.books.specs.Demands.{Right, over, allBytes, endedItems, Gains, Says, handing, Whole}
 use Rattle.books.specs.Answer.{answerOf, endingOf, writtenOf}
 use Rattle.books.proofs.Taken.{next-refused, after-run, Proper, taken-proper, close-last}
 use Rattle.books.proofs.Accounts.{all-right}
@@ -32,7 +31,7 @@ use Rattle.books.proofs.Received.{entries-bytes, over-all}
 use Rattle.books.proofs.Sound.{taken-small, record-sound, after-opening}
 use Rattle.books.proofs.Answers.{transfer-says, lost-says, close-says}
 use Rattle.books.proofs.ByList.{transfer-answers, transfer-writes, lost-answers, close-answers}
-use Rattle.books.proofs.Whole.{delivered-whole}
+use Rattle.books.proofs.Whole.{handed-whole}
 use Rattle.books.proofs.Print.{run-numbers}
 use Rattle.books.proofs.Samples.{opening, transfers, printed, by-rule, by-session}
 use Rattle.ledger.specs.Accounts.{ticksAt, accounts}
@@ -112,11 +111,11 @@ pub close-gains : (o : Opening) (xs : List Offer) (e : Ended) → closeOf (after
     → (n : ℕ) × (d : List ℕ) × Gains o (taken (fresh o) xs) Call.close (endedItems e n d)
 close-gains = close-says
 
--- 5. "A frame handed out is exactly the payload bytes of one whole frame, in order": with one buffer that nobody else writes and that is never shorter than the frame size.
-pub whole : (o : Opening) (buffer : List ℕ) (calls : List Call) → o .frame ≤ length buffer → (t : List ℕ) (a : Answer) (d : Delivery)
-    → takeOf (after (fresh o) (offers (fresh o) buffer calls)) (length (bufferAfter (fresh o) buffer calls)) t .outcome ≡ Outcome.Taken a → a .fate ≡ Fate.Delivered d
-    → Whole o (taken (fresh o) (offers (fresh o) buffer calls) ++ (Call.transfer t ∷ [])) d (bufferOf (after (fresh o) (offers (fresh o) buffer calls)) (bufferAfter (fresh o) buffer calls) t)
-whole o buffer calls room t a d e f = delivered-whole o buffer calls room t a d e f
+-- 5. "A frame handed out is exactly the payload bytes of one whole frame, in order", delivered or a still: with one buffer that nobody else writes and that is never shorter than the frame size.
+pub whole : (o : Opening) (buffer : List ℕ) (calls : List Call) → o .frame ≤ length buffer → (t : List ℕ) (a : Answer) (b : Bool) (d : Delivery)
+    → takeOf (after (fresh o) (offers (fresh o) buffer calls)) (length (bufferAfter (fresh o) buffer calls)) t .outcome ≡ Outcome.Taken a → a .fate ≡ handing b d
+    → Whole o (taken (fresh o) (offers (fresh o) buffer calls) ++ (Call.transfer t ∷ [])) b d (bufferOf (after (fresh o) (offers (fresh o) buffer calls)) (bufferAfter (fresh o) buffer calls) t)
+whole o buffer calls room t a b d e f = handed-whole o buffer calls room t a b d e f
 
 -- 6. A session reached from a fresh one is never refused by 50. An open one refuses a lost report by 52 alone, so it does a transfer of at most 65,536 bytes with a buffer of the
 -- frame size, and it never refuses close.

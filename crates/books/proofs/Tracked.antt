@@ -11,7 +11,7 @@ use Rattle.sizes.specs.declared.Opening.{Opening}
 use Rattle.payload.specs.declared.Header.{Header}
 use Rattle.payload.specs.declared.Stamp.{Stamp}
 use Rattle.payload.specs.declared.Stamp.the-variants.{Absent}
-use Rattle.frames.specs.declared.Reason.the-variants.{Gap, Error, Clock, Long, Cut, Empty}
+use Rattle.frames.specs.declared.Reason.the-variants.{Gap, Cut, Empty}
 use Rattle.frames.specs.declared.Fault.{Fault}
 use Rattle.frames.specs.declared.Fault.the-variants.{Sound, Bad}
 use Rattle.frames.specs.declared.Run.{Run}
@@ -20,15 +20,16 @@ use Rattle.frames.specs.declared.Phase.the-variants.{Fresh, Under, Past}
 use Rattle.frames.specs.declared.Ended.{Ended}
 use Rattle.frames.specs.declared.Ended.the-variants.{Nothing, Frame}
 use Rattle.frames.specs.declared.Fate.{Fate}
+use Rattle.frames.specs.declared.Delivery.{Delivery}
 use Rattle.frames.specs.declared.Turn.{Turn}
-use Rattle.frames.specs.Inner.{firstOf, whyOf, sameOf, begunOf, joinedOf, completeOf, fateOf, phaseOf, joinTurn, strayTurn, turnBy}
+use Rattle.frames.specs.Inner.{whyOf, sameOf, begunOf, joinedOf, completeOf, fateOf, phaseOf, joinTurn, strayTurn, turnBy}
 use Rattle.frames.specs.Inner as track
 use Rattle.ledger.specs.Entry.{Entry}
-use Rattle.books.specs.Rule.{Seen, frameOf, strayOf, complete, dataOf, _orStamp_, firstStamp, _or_, when, faultAt, fault, verdict}
+use Rattle.books.specs.Rule.{Seen, frameOf, strayOf, complete, dataOf, _orStamp_, firstStamp, stillOf, _or_, when, faultAt, fault, handedOut, verdict}
 use Rattle.books.specs.Answer.{frameEntry, reasonIn, endedIn, goesOn, fateIn, fateBy, fateOn, earlier, writtenBy, writtenIn}
-use Rattle.books.proofs.Cut.{or-sound, stamp-absent, earlier-or, fault-or}
-use Rattle.books.proofs.Owed.{same-beq, and-false, begun-fault}
-use Rattle.books.proofs.Sound.{Snug, Fit, snug-begun}
+use Rattle.books.proofs.Cut.{or-sound, stamp-absent, earlier-or, same-beq, fault-or}
+use Rattle.books.proofs.Owed.{and-false, begun-fault}
+use Rattle.books.proofs.Sound.{Snug, Fit, faultBy, snug-begun}
 use Rattle.books.proofs.OneMore.{seenWith, grown}
 use Rattle.books.proofs.Grown.{and, frame-whole, complete-frame, complete-more, frame-more, stray-none, stray-more, earlier-more, data-more, stamp-more, soFar, fault-more}
 
@@ -37,37 +38,42 @@ abbrev pub Of : Bool → List Seen → Type 0
 Of f [] = ⊥
 Of f (t ∷ ts) = t .header .fid ≡ f
 
--- a frame part read, as the tracker holds it: r has no EOF
-pub record Part (o : Opening) (q : Fault) (x : Run) (r : List Seen) : Type 0 where
+-- a frame part read, as the tracker holds it: r has no EOF; q is its fault so far, b its still bit
+pub record Part (o : Opening) (q : Fault) (b : Bool) (x : Run) (r : List Seen) : Type 0 where
   pub going : complete r ≡ false
   pub fault₀ : x .fault ≡ q
+  pub still₀ : x .still ≡ b
   pub stamp₀ : x .stamp ≡ firstStamp r
   pub bytes₀ : x .bytes ≡ length (dataOf r)
 
 -- what the tracker knows of the last run
 abbrev pub Tracks : Opening → Phase → List Seen → Type 0
 Tracks o Fresh r = r ≡ []
-Tracks o (Under x) r = Of (x .fid) r × Part o (fault o r) x r
+Tracks o (Under x) r = Of (x .fid) r × Part o (fault o r) (stillOf r) x r
 Tracks o (Past f) r = Of f r × (complete r ≡ true)
 
 -- ---- the tracker's words and the rule's
-complete-same : (q : Fault) (s : Stamp) (n : ℕ) → completeOf q n s ≡ fateIn (verdict true true q s n)
+complete-same : (q : Fault) (s : Stamp) (b : Bool) (n : ℕ) → completeOf q n s b ≡ fateIn (verdict true true q s b n)
 unfolding pick
-complete-same (Bad w) s n = refl
-complete-same Sound s n = go (eqb n 0)
+complete-same (Bad w) s b n = refl
+complete-same Sound s b n = go (eqb n 0) b
   where
-    go : (b : Bool) → pick b (Fate.Dropped Empty) (Fate.Delivered (record { len = n; stamp = s })) ≡ fateIn (cond b (Entry.Dropped Empty n) (Entry.Delivered (record { len = n; stamp = s })))
-    go true = refl
-    go false = refl
+    d : Delivery
+    d = record { len = n; stamp = s }
 
-fate-same : (e : Bool) (y : Run) → fateOf e y ≡ fateIn (verdict true e (y .fault) (y .stamp) (y .bytes))
-fate-same true y = complete-same (y .fault) (y .stamp) (y .bytes)
+    go : (c b : Bool) → pick c (Fate.Dropped Empty) (pick b (Fate.Still d) (Fate.Delivered d)) ≡ fateIn (cond c (Entry.Dropped Empty n) (handedOut b d))
+    go true b = refl
+    go false true = refl
+    go false false = refl
+
+fate-same : (e : Bool) (y : Run) → fateOf e y ≡ fateIn (verdict true e (y .fault) (y .stamp) (y .still) (y .bytes))
+fate-same true y = complete-same (y .fault) (y .stamp) (y .still) (y .bytes)
 fate-same false y = refl
 
 -- where no fault comes with a transfer, there was none before it, and all the data is written
-filled : (frame : ℕ) (q : Fault) (i c l : Bool) (fill bytes : ℕ) → Snug frame q fill bytes → firstOf (firstOf (firstOf q i Error) c Clock) l Long ≡ Sound → fill ≡ bytes
-filled frame Sound i c l fill bytes g e = g .0
-filled frame (Bad w) i c l fill bytes g e = cc
+filled : (frame : ℕ) (q : Fault) (i c m l : Bool) (fill bytes : ℕ) → Snug frame q fill bytes → faultBy q i c m l ≡ Sound → fill ≡ bytes
+filled frame Sound i c m l fill bytes g e = g .0
+filled frame (Bad w) i c m l fill bytes g e = cc
 
 -- ---- a transfer joins a frame
 module _ (o : Opening) (h : Header) (d : List ℕ) (b : Bool) where
@@ -77,24 +83,25 @@ module _ (o : Opening) (h : Header) (d : List ℕ) (b : Bool) where
   abbrev n : ℕ
   n = length d
 
-  module _ (x : Run) (r : List Seen) (p : Part o (soFar o t r) x r) where
+  module _ (x : Run) (r : List Seen) (p : Part o (soFar o t r) (stillOf (and r t)) x r) where
     abbrev y : Run
     y = joinedOf o x h n
 
     joined-stamp : y .stamp ≡ firstStamp (and r t)
     joined-stamp = earlier-or (x .stamp) (h .stamp) ∙ ap (_orStamp h .stamp) (p .stamp₀) ∙ sym (stamp-more r t)
 
-    alone : fault o (and r t) ≡ soFar o t r or faultAt o (firstStamp (and r t)) (length (dataOf r)) h n
+    alone : fault o (and r t) ≡ soFar o t r or faultAt o (firstStamp (and r t)) (stillOf (and r t)) (length (dataOf r)) h n
     alone =
-        let f : Fault = faultAt o (firstStamp (and r t)) (length (dataOf r)) h n in
+        let f : Fault = faultAt o (firstStamp (and r t)) (stillOf (and r t)) (length (dataOf r)) h n in
         fault-more o r t ∙ ap (λ (c : Bool). soFar o t r or (f or when c Gap)) (and-false (not (h .eof))) ∙ ap (soFar o t r or_) (or-sound f)
 
     joined-fault : y .fault ≡ fault o (and r t)
     joined-fault =
         fault-or o x h n Absent
-        ∙ ap (λ (s : Stamp). x .fault or faultAt o s (x .bytes) h n) (ap (x .stamp orStamp_) (stamp-absent (h .stamp)) ∙ ap (_orStamp h .stamp) (p .stamp₀) ∙ sym (stamp-more r t))
-        ∙ ap (λ (k : ℕ). x .fault or faultAt o (firstStamp (and r t)) k h n) (p .bytes₀)
-        ∙ ap (_or faultAt o (firstStamp (and r t)) (length (dataOf r)) h n) (p .fault₀)
+        ∙ ap (λ (c : Bool). x .fault or faultAt o (x .stamp orStamp (h .stamp orStamp Absent)) c (x .bytes) h n) (p .still₀)
+        ∙ ap (λ (s : Stamp). x .fault or faultAt o s (stillOf (and r t)) (x .bytes) h n) (ap (x .stamp orStamp_) (stamp-absent (h .stamp)) ∙ ap (_orStamp h .stamp) (p .stamp₀) ∙ sym (stamp-more r t))
+        ∙ ap (λ (k : ℕ). x .fault or faultAt o (firstStamp (and r t)) (stillOf (and r t)) k h n) (p .bytes₀)
+        ∙ ap (_or faultAt o (firstStamp (and r t)) (stillOf (and r t)) (length (dataOf r)) h n) (p .fault₀)
         ∙ sym alone
 
     joined-bytes : y .bytes ≡ length (dataOf (and r t))
@@ -104,13 +111,14 @@ module _ (o : Opening) (h : Header) (d : List ℕ) (b : Bool) where
     joined-eof = complete-more r t ∙ ap (_|| h .eof) (p .going)
 
     -- its fate is the rule's
-    entry-right : frameEntry o true (and r t) ≡ verdict true (h .eof) (y .fault) (y .stamp) (y .bytes)
+    entry-right : frameEntry o true (and r t) ≡ verdict true (h .eof) (y .fault) (y .stamp) (y .still) (y .bytes)
     entry-right =
-        ap (λ (f : List Seen). verdict true (complete f) (fault o f) (firstStamp f) (length (dataOf f))) (frame-more r t (p .going))
-        ∙ sym (ap (λ (q : Fault). verdict true (h .eof) q (y .stamp) (y .bytes)) joined-fault
-        ∙ ap (λ (s : Stamp). verdict true (h .eof) (fault o (and r t)) s (y .bytes)) joined-stamp
-        ∙ ap (verdict true (h .eof) (fault o (and r t)) (firstStamp (and r t))) joined-bytes
-        ∙ ap (λ (e : Bool). verdict true e (fault o (and r t)) (firstStamp (and r t)) (length (dataOf (and r t)))) (sym joined-eof))
+        ap (λ (f : List Seen). verdict true (complete f) (fault o f) (firstStamp f) (stillOf f) (length (dataOf f))) (frame-more r t (p .going))
+        ∙ sym (ap (λ (q : Fault). verdict true (h .eof) q (y .stamp) (y .still) (y .bytes)) joined-fault
+        ∙ ap (λ (s : Stamp). verdict true (h .eof) (fault o (and r t)) s (y .still) (y .bytes)) joined-stamp
+        ∙ ap (λ (c : Bool). verdict true (h .eof) (fault o (and r t)) (firstStamp (and r t)) c (y .bytes)) (p .still₀)
+        ∙ ap (verdict true (h .eof) (fault o (and r t)) (firstStamp (and r t)) (stillOf (and r t))) joined-bytes
+        ∙ ap (λ (e : Bool). verdict true e (fault o (and r t)) (firstStamp (and r t)) (stillOf (and r t)) (length (dataOf (and r t)))) (sym joined-eof))
 
     joined-fate : fateOf (h .eof) y ≡ fateOn o (and r t)
     joined-fate =
@@ -122,7 +130,7 @@ module _ (o : Opening) (h : Header) (d : List ℕ) (b : Bool) where
       where
         go : (e : Bool) → h .eof ≡ e → Tracks o (phaseOf e y) (and r t)
         go true e = (f, joined-eof ∙ e)
-        go false e = (f, record { going = joined-eof ∙ e; fault₀ = joined-fault; stamp₀ = joined-stamp; bytes₀ = joined-bytes })
+        go false e = (f, record { going = joined-eof ∙ e; fault₀ = joined-fault; still₀ = p .still₀; stamp₀ = joined-stamp; bytes₀ = joined-bytes })
 
     -- its data is written as the rule says
     put : (B : List ℕ) (f : Fault) → (f ≡ Sound → x .fill ≡ length (dataOf r)) → paste B (x .fill) d (track.writtenOf f n) ≡ writtenBy [] f (length (dataOf r)) d B
@@ -131,23 +139,23 @@ module _ (o : Opening) (h : Header) (d : List ℕ) (b : Bool) where
 
     joined-written : Snug (o .frame) (x .fault) (x .fill) (x .bytes) → (B : List ℕ) → paste B (x .fill) d (track.writtenOf (y .fault) n) ≡ writtenIn o (and r t) d B
     joined-written g B =
-        put B (y .fault) (λ e. filled (o .frame) (x .fault) (h .error) (track.clashOf (x .stamp) (h .stamp)) (ltb (o .frame) (x .bytes + n)) (x .fill) (x .bytes) g e ∙ p .bytes₀)
+        put B (y .fault) (λ e. filled (o .frame) (x .fault) (h .error) (track.clashOf (x .stamp) (h .stamp)) (track.mixedOf x h) (ltb (o .frame) (x .bytes + n)) (x .fill) (x .bytes) g e ∙ p .bytes₀)
         ∙ ap (λ (q : Fault). writtenBy [] q (length (dataOf r)) d B) joined-fault
         ∙ ap (λ (l : List Seen). writtenBy [] (fault o (and r t)) (length (dataOf l)) d B) (sym (earlier-more r t))
         ∙ ap (λ (f : List Seen). writtenBy [] (fault o f) (length (dataOf (earlier f))) d B) (sym (frame-more r t (p .going)))
         ∙ ap (λ (ts : List Seen). writtenBy ts (fault o (frameOf (and r t))) (length (dataOf (earlier (frameOf (and r t))))) d B) (sym (stray-none r t (p .going)))
 
 -- ---- a frame that is ended
-reason-same : (q : Fault) (s : Stamp) (k : ℕ) → reasonIn (verdict false false q s k) ≡ Frame (whyOf q Cut)
-reason-same Sound s k = refl
-reason-same (Bad w) s k = refl
+reason-same : (q : Fault) (s : Stamp) (b : Bool) (k : ℕ) → reasonIn (verdict false false q s b k) ≡ Frame (whyOf q Cut)
+reason-same Sound s b k = refl
+reason-same (Bad w) s b k = refl
 
-pub part-ended : (o : Opening) (x : Run) (u : Seen) (us : List Seen) → Part o (fault o (u ∷ us)) x (u ∷ us) → endedIn o (u ∷ us) ≡ Frame (whyOf (x .fault) Cut)
+pub part-ended : (o : Opening) (x : Run) (u : Seen) (us : List Seen) → Part o (fault o (u ∷ us)) (u .header .still) x (u ∷ us) → endedIn o (u ∷ us) ≡ Frame (whyOf (x .fault) Cut)
 part-ended o x u us p =
     let r : List Seen = u ∷ us in
     let z : ℕ = length (dataOf (frameOf r)) in
-    ap (λ (c : Bool). cond c Nothing (reasonIn (verdict false c (fault o (frameOf r)) (firstStamp (frameOf r)) z))) (complete-frame r ∙ p .going)
-    ∙ reason-same (fault o (frameOf r)) (firstStamp (frameOf r)) z
+    ap (λ (c : Bool). cond c Nothing (reasonIn (verdict false c (fault o (frameOf r)) (firstStamp (frameOf r)) (stillOf (frameOf r)) z))) (complete-frame r ∙ p .going)
+    ∙ reason-same (fault o (frameOf r)) (firstStamp (frameOf r)) (stillOf (frameOf r)) z
     ∙ ap (λ (f : List Seen). Frame (whyOf (fault o f) Cut)) (frame-whole r (p .going))
     ∙ ap (λ (q : Fault). Frame (whyOf q Cut)) (sym (p .fault₀))
 
@@ -170,12 +178,12 @@ stray-written [] t q at d B = refl
 stray-written (u ∷ us) t q at d B = refl
 
 module _ (o : Opening) (h : Header) (d : List ℕ) (b : Bool) where
-  begun-part : Part o (when b Gap) (begunOf b (h .fid)) []
-  begun-part = record { going = refl; fault₀ = begun-fault b; stamp₀ = refl; bytes₀ = refl }
+  begun-part : Part o (when b Gap) (h .still) (begunOf b (h .fid) (h .still)) []
+  begun-part = record { going = refl; fault₀ = begun-fault b; still₀ = refl; stamp₀ = refl; bytes₀ = refl }
 
-  begun-turned : (r : List Seen) (ended : Ended) (gone : ℕ) → ended ≡ cond (goesOn h r) Nothing (endedIn o r) → Turned o h d r (t o h d b ∷ []) (joinTurn o (begunOf b (h .fid)) h (length d) ended gone)
+  begun-turned : (r : List Seen) (ended : Ended) (gone : ℕ) → ended ≡ cond (goesOn h r) Nothing (endedIn o r) → Turned o h d r (t o h d b ∷ []) (joinTurn o (begunOf b (h .fid) (h .still)) h (length d) ended gone)
   begun-turned r ended gone e =
-      let x : Run = begunOf b (h .fid) in
+      let x : Run = begunOf b (h .fid) (h .still) in
       record {
         ended = e;
         fate = joined-fate o h d b x [] begun-part;
@@ -183,7 +191,7 @@ module _ (o : Opening) (h : Header) (d : List ℕ) (b : Bool) where
         written = joined-written o h d b x [] begun-part (snug-begun (o .frame) b);
       }
 
-  joined-turned : (x : Run) (u : Seen) (us : List Seen) → u .header .fid ≡ x .fid → Part o (fault o (u ∷ us)) x (u ∷ us) → Snug (o .frame) (x .fault) (x .fill) (x .bytes)
+  joined-turned : (x : Run) (u : Seen) (us : List Seen) → u .header .fid ≡ x .fid → Part o (fault o (u ∷ us)) (u .header .still) x (u ∷ us) → Snug (o .frame) (x .fault) (x .fill) (x .bytes)
       → goesOn h (u ∷ us) ≡ true → Turned o h d (u ∷ us) (and (u ∷ us) (t o h d b)) (joinTurn o x h (length d) Nothing 0)
   joined-turned x u us f p g e = record {
     ended = sym (ap (λ (c : Bool). cond c Nothing (endedIn o (u ∷ us))) e);
@@ -215,13 +223,13 @@ module _ (o : Opening) (h : Header) (d : List ℕ) (b : Bool) where
   turn-right (Under x) (u ∷ us) e g = rw (same-run (x .fid) u (e .0)) (go (Bool·beq (u .header .fid) (h .fid)) refl)
     where
       go : (c : Bool) → goesOn h (u ∷ us) ≡ c → Turned o h d (u ∷ us) (cond c (and (u ∷ us) (t o h d b)) (t o h d b ∷ []))
-          (pick c (joinTurn o x h (length d) Nothing 0) (joinTurn o (begunOf b (h .fid)) h (length d) (Frame (whyOf (x .fault) Cut)) (x .bytes)))
+          (pick c (joinTurn o x h (length d) Nothing 0) (joinTurn o (begunOf b (h .fid) (h .still)) h (length d) (Frame (whyOf (x .fault) Cut)) (x .bytes)))
       go true q = joined-turned x u us (e .0) (e .1) g q
       go false q = begun-turned (u ∷ us) (Frame (whyOf (x .fault) Cut)) (x .bytes) (sym (ap (λ (c : Bool). cond c Nothing (endedIn o (u ∷ us))) q ∙ part-ended o x u us (e .1)))
   turn-right (Past f) [] e g = absurd (e .0)
   turn-right (Past f) (u ∷ us) e g = rw (same-run f u (e .0)) (go (Bool·beq (u .header .fid) (h .fid)) refl)
     where
       go : (c : Bool) → goesOn h (u ∷ us) ≡ c → Turned o h d (u ∷ us) (cond c (and (u ∷ us) (t o h d b)) (t o h d b ∷ []))
-          (pick c (strayTurn f (length d)) (joinTurn o (begunOf b (h .fid)) h (length d) Nothing 0))
+          (pick c (strayTurn f (length d)) (joinTurn o (begunOf b (h .fid) (h .still)) h (length d) Nothing 0))
       go true q = stray-turned f u us (e .0) (e .1) q
       go false q = begun-turned (u ∷ us) Nothing 0 (sym (ap (λ (c : Bool). cond c Nothing (endedIn o (u ∷ us))) q ∙ past-ended o u us (e .1)))

@@ -1,4 +1,4 @@
--- With one buffer that nobody else writes, a delivered frame is whole: the buffer's first bytes are its payload bytes, in order.
+-- With one buffer that nobody else writes, a frame handed out, delivered or a still, is whole: the buffer's first bytes are its payload bytes, in order.
 use Prim.Native.Nat.{ℕ, zero, suc, _≤_}
 use mathlib.Core.Path.{_≡_, refl, sym, _∙_, ap, subst}
 use mathlib.Core.Bool.{Bool, true, false, cond, true≢false}
@@ -23,9 +23,9 @@ use Rattle.session.specs.declared.Outcome.{Outcome}
 use Rattle.session.specs.Session.{fresh, takeOf, bufferBy, bufferOf}
 use Rattle.session.specs.Call.{Call}
 use Rattle.session.specs.Calls.{Offer, refusal, next, after, callOf, unless, taken, offerWith, bufferNext, offers, bufferAfter}
-use Rattle.books.specs.Rule.{Event, idle, unreadable, missing, readable, eventBy, events, isOpen, Seen, frameOf, strayOf, complete, dataOf, firstStamp, fault, verdict}
+use Rattle.books.specs.Rule.{Event, idle, unreadable, missing, readable, eventBy, events, isOpen, Seen, frameOf, strayOf, complete, dataOf, firstStamp, stillOf, fault, handedOut, verdict}
 use Rattle.books.specs.Answer.{lastRun, fateIn, fateBy, fateOn, with, answerFor, answerOf, writtenFor, writtenOf}
-use Rattle.books.specs.Demands.{Whole}
+use Rattle.books.specs.Demands.{handing, Whole}
 use Rattle.books.proofs.Answers.{taken-answer, same-answer, taken-more}
 use Rattle.books.proofs.OneMore.{lastIn, pending, last-more}
 use Rattle.books.proofs.Held.{Held, Left, grown-left, left-held, spoilt-held}
@@ -52,11 +52,12 @@ buffer-refused s B (Call.transfer t) k e = ap (λ (n : ℕ). bufferBy n s B t) e
 buffer-refused s B Call.lost k e = refl
 buffer-refused s B Call.close k e = refl
 
--- ---- a fate that delivers
-record Delivers (o : Opening) (r : List Seen) (d : Delivery) : Type 0 where
+-- ---- a fate that hands a frame out
+record HandsOut (o : Opening) (r : List Seen) (b : Bool) (d : Delivery) : Type 0 where
   pub alone : strayOf r ≡ []
   pub ended : complete (frameOf r) ≡ true
   pub sound : fault o (frameOf r) ≡ Sound
+  pub bit : stillOf (frameOf r) ≡ b
   pub size : d .len ≡ length (dataOf (frameOf r))
   pub stamp : d .stamp ≡ firstStamp (frameOf r)
 
@@ -139,41 +140,71 @@ module _ (o : Opening) where
   pub kept-all : (B : List ℕ) (ks : List Call) → o .frame ≤ length B → Kept (offers (fresh o) B ks) (bufferAfter (fresh o) B ks)
   kept-all B ks room = kept-from ks [] B (record { held = λ e c f. refl; room = room })
 
--- ---- a delivered frame
-abbrev isDelivered : Fate → Bool
-isDelivered (Fate.Delivered d) = true
-isDelivered Fate.Idle = false
-isDelivered Fate.Kept = false
-isDelivered Fate.Stray = false
-isDelivered (Fate.Dropped w) = false
-isDelivered (Fate.Unreadable k) = false
+-- ---- a frame handed out
+abbrev isHanded : Fate → Bool
+isHanded (Fate.Delivered d) = true
+isHanded (Fate.Still d) = true
+isHanded Fate.Idle = false
+isHanded Fate.Kept = false
+isHanded Fate.Stray = false
+isHanded (Fate.Dropped w) = false
+isHanded (Fate.Unreadable k) = false
 
-undelivered : (f : Fate) (d : Delivery) → isDelivered f ≡ false → f ≡ Fate.Delivered d → ⊥
-undelivered f d e q = true≢false (sym (ap isDelivered q) ∙ e)
+handed : (b : Bool) (d : Delivery) → isHanded (handing b d) ≡ true
+handed true d = refl
+handed false d = refl
 
-same-delivery : (x d : Delivery) → Fate.Delivered x ≡ Fate.Delivered d → x ≡ d
-same-delivery x d e = cc
+not-handed : (f : Fate) (b : Bool) (d : Delivery) → isHanded f ≡ false → f ≡ handing b d → ⊥
+not-handed f b d e q = true≢false (sym (handed b d) ∙ sym (ap isHanded q) ∙ e)
 
-delivers : (o : Opening) (r : List Seen) (d : Delivery) → fateOn o r ≡ Fate.Delivered d → Delivers o r d
-delivers o r d = go (strayOf r) refl (complete (frameOf r)) refl (fault o (frameOf r)) refl
+-- which bit, and which delivery
+abbrev isStill : Fate → Bool
+isStill (Fate.Still d) = true
+isStill (Fate.Delivered d) = false
+isStill Fate.Idle = false
+isStill Fate.Kept = false
+isStill Fate.Stray = false
+isStill (Fate.Dropped w) = false
+isStill (Fate.Unreadable k) = false
+
+handing-bit : (b : Bool) (d : Delivery) → isStill (handing b d) ≡ b
+handing-bit true d = refl
+handing-bit false d = refl
+
+same-bit : (b c : Bool) (x d : Delivery) → handing b x ≡ handing c d → b ≡ c
+same-bit b c x d e = sym (handing-bit b x) ∙ ap isStill e ∙ handing-bit c d
+
+same-delivery : (b : Bool) (x d : Delivery) → handing b x ≡ handing b d → x ≡ d
+same-delivery true x d e = cc
+same-delivery false x d e = cc
+
+fate-handed : (b : Bool) (d : Delivery) → fateIn (handedOut b d) ≡ handing b d
+fate-handed true d = refl
+fate-handed false d = refl
+
+hands-out : (o : Opening) (r : List Seen) (b : Bool) (d : Delivery) → fateOn o r ≡ handing b d → HandsOut o r b d
+hands-out o r b d = go (strayOf r) refl (complete (frameOf r)) refl (fault o (frameOf r)) refl
   where
-    n : ℕ
-    n = length (dataOf (frameOf r))
+    x : Delivery
+    x = record { len = length (dataOf (frameOf r)); stamp = firstStamp (frameOf r) }
 
-    s : Stamp
-    s = firstStamp (frameOf r)
+    k : Bool
+    k = stillOf (frameOf r)
 
-    go : (ts : List Seen) → strayOf r ≡ ts → (c : Bool) → complete (frameOf r) ≡ c → (q : Fault) → fault o (frameOf r) ≡ q → fateBy ts (verdict true c q s n) ≡ Fate.Delivered d → Delivers o r d
-    go (t ∷ ts) u c v q w e = absurd (undelivered Fate.Stray d refl e)
-    go [] u false v q w e = absurd (undelivered Fate.Kept d refl e)
-    go [] u true v (Bad x) w e = absurd (undelivered (Fate.Dropped x) d refl e)
-    go [] u true v Sound w e = full (eqb n 0) e
+    go : (ts : List Seen) → strayOf r ≡ ts → (c : Bool) → complete (frameOf r) ≡ c → (q : Fault) → fault o (frameOf r) ≡ q
+        → fateBy ts (verdict true c q (x .stamp) k (x .len)) ≡ handing b d → HandsOut o r b d
+    go (t ∷ ts) u c v q w e = absurd (not-handed Fate.Stray b d refl e)
+    go [] u false v q w e = absurd (not-handed Fate.Kept b d refl e)
+    go [] u true v (Bad y) w e = absurd (not-handed (Fate.Dropped y) b d refl e)
+    go [] u true v Sound w e = full (eqb (x .len) 0) e
       where
-        full : (b : Bool) → fateIn (cond b (Entry.Dropped Empty n) (Entry.Delivered (record { len = n; stamp = s }))) ≡ Fate.Delivered d → Delivers o r d
-        full true f = absurd (undelivered (Fate.Dropped Empty) d refl f)
+        full : (c : Bool) → fateIn (cond c (Entry.Dropped Empty (x .len)) (handedOut k x)) ≡ handing b d → HandsOut o r b d
+        full true f = absurd (not-handed (Fate.Dropped Empty) b d refl f)
         full false f =
-            let z = same-delivery (record { len = n; stamp = s }) d f in
-            record { alone = u; ended = v; sound = w; size = ap (λ (y : Delivery). y .len) (sym z); stamp = ap (λ (y : Delivery). y .stamp) (sym z) }
+            let g : handing k x ≡ handing b d = sym (fate-handed k x) ∙ f in
+            let i : k ≡ b = same-bit k b x d g in
+            let z : x ≡ d = same-delivery b x d (ap (λ (c : Bool). handing c x) (sym i) ∙ g) in
+            record { alone = u; ended = v; sound = w; bit = i; size = ap (λ (y : Delivery). y .len) (sym z); stamp = ap (λ (y : Delivery). y .stamp) (sym z) }
 
 module _ (o : Opening) (B : List ℕ) (ks : List Call) (room : o .frame ≤ length B) where
   abbrev pub calls : List Offer
@@ -185,25 +216,27 @@ module _ (o : Opening) (B : List ℕ) (ks : List Call) (room : o .frame ≤ leng
   abbrev cs : List Call
   cs = taken (fresh o) calls
 
-  whole-by : (t : List ℕ) (d : Delivery) → isOpen cs ≡ true → (r : Reading) → readingOf o t ≡ r → answerFor r o cs t .fate ≡ Fate.Delivered d → Whole o (with cs t) d (writtenFor r o cs t buffer)
-  whole-by t d p Idle q f = absurd (undelivered Fate.Idle d refl f)
-  whole-by t d p (Unreadable k) q f = absurd (undelivered (Fate.Unreadable k) d refl f)
-  whole-by t d p (Readable h) q f =
+  whole-by : (t : List ℕ) (b : Bool) (d : Delivery) → isOpen cs ≡ true → (r : Reading) → readingOf o t ≡ r → answerFor r o cs t .fate ≡ handing b d
+      → Whole o (with cs t) b d (writtenFor r o cs t buffer)
+  whole-by t b d p Idle q f = absurd (not-handed Fate.Idle b d refl f)
+  whole-by t b d p (Unreadable k) q f = absurd (not-handed (Fate.Unreadable k) b d refl f)
+  whole-by t b d p (Readable h) q f =
       let k = kept-all o B ks room in
-      let w = delivers o (lastRun o (with cs t)) d f in
+      let w = hands-out o (lastRun o (with cs t)) b d f in
       let l = read-left o cs p buffer (k .held p) (k .room) t h q in
       record {
         ended = w .ended;
         sound = w .sound;
         alone = w .alone;
+        bit = w .bit;
         payload = rw (w .size) (l .frame (w .alone) (w .sound));
         size = w .size;
         stamp = w .stamp;
       }
 
-  pub delivered-whole : (t : List ℕ) (a : Answer) (d : Delivery) → takeOf (after (fresh o) calls) (length buffer) t .outcome ≡ Outcome.Taken a → a .fate ≡ Fate.Delivered d
-      → Whole o (with cs t) d (bufferOf (after (fresh o) calls) buffer t)
-  delivered-whole t a d e f =
+  pub handed-whole : (t : List ℕ) (a : Answer) (b : Bool) (d : Delivery) → takeOf (after (fresh o) calls) (length buffer) t .outcome ≡ Outcome.Taken a → a .fate ≡ handing b d
+      → Whole o (with cs t) b d (bufferOf (after (fresh o) calls) buffer t)
+  handed-whole t a b d e f =
       let ok = taken-answer (after (fresh o) calls) buffer t a e .0 in
       let same : answerOf o cs t ≡ a = same-answer (answerOf o cs t) a (sym (transfer-answers o calls buffer t ok) ∙ e) in
-      rw (transfer-writes o calls buffer t ok) (whole-by t d (still-open o calls (Offer.take buffer t) ok) (readingOf o t) refl (ap (λ (x : Answer). x .fate) same ∙ f))
+      rw (transfer-writes o calls buffer t ok) (whole-by t b d (still-open o calls (Offer.take buffer t) ok) (readingOf o t) refl (ap (λ (x : Answer). x .fate) same ∙ f))
