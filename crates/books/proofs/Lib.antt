@@ -19,5 +19,6 @@ pub mod ByList
 pub mod Held
 pub mod Whole
 pub mod Print
+pub mod Stills
 pub mod Theorems
 pub mod Samples

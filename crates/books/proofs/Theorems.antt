@@ -22,8 +22,8 @@ use Rattle.session.specs.declared.Report.{Report}
 use Rattle.session.specs.declared.Closing.{Closing}
 use Rattle.session.specs.Refusals.{takenMost, openingFlags, recordBroken, ledgerOf}
 use Rattle.session.specs.Session.{fresh, openBy, openOf, takeOf, bufferBy, bufferOf, lostOf, closeOf}
-use Rattle.books.specs.Rule.{entries, numbersOf, stamps, forward, between, received}
-use Rattle.books.specs.Demands.{Right, over, allBytes, endedItems, Gains, Says, handing, Whole}
+use Rattle.books.specs.Rule.{events, entries, numbersOf, stamps, forward, between, received}
+use Rattle.books.specs.Demands.{Right, over, allBytes, endedItems, Gains, Says, handing, Whole, Film, WithoutStills}
 use Rattle.books.specs.Answer.{answerOf, endingOf, writtenOf}
 use Rattle.books.proofs.Taken.{next-refused, after-run, Proper, taken-proper, close-last}
 use Rattle.books.proofs.Accounts.{all-right}
@@ -33,6 +33,7 @@ use Rattle.books.proofs.Answers.{transfer-says, lost-says, close-says}
 use Rattle.books.proofs.ByList.{transfer-answers, transfer-writes, lost-answers, close-answers}
 use Rattle.books.proofs.Whole.{handed-whole}
 use Rattle.books.proofs.Print.{run-numbers}
+use Rattle.books.proofs.Stills.{without-stills}
 use Rattle.books.proofs.Samples.{opening, transfers, printed, by-rule, by-session}
 use Rattle.ledger.specs.Accounts.{ticksAt, accounts}
 use Rattle.sizes.specs.Sizes.{sizesBroken}
@@ -136,6 +137,10 @@ module _ (o : Opening) (sizes : sizesBroken o ≡ false) (xs : List Offer) (open
 
   pub close-never : refusal (after (fresh o) xs) Offer.close ≡ 0
   close-never = rw (never-stuck o sizes xs, open₀)
+
+-- "Still pictures among the film" (document 02, Ten): where no readable transfer has D5, no frame is a still or mixed, and both accounts are zero.
+pub no-stills : (o : Opening) (xs : List Offer) → Film (events o (taken (fresh o) xs)) → WithoutStills o (taken (fresh o) xs) (ledgerOf (after (fresh o) xs))
+no-stills o xs f = without-stills o (taken (fresh o) xs) (ledgerOf (after (fresh o) xs)) (accounts-right o xs) f
 
 -- 7. The ledger sample of document 01, about the rule and about the session, as computed equalities.
 pub sample-by-rule : numbersOf (entries opening (map Call.transfer transfers)) ≡ printed

@@ -2,9 +2,10 @@
 use Prim.Native.Nat.{ℕ, _+_}
 use mathlib.Core.Path.{_≡_}
 use mathlib.Core.Bool.{Bool, true, false}
-use mathlib.Core.List.{List, [], _∷_, _++_}
+use mathlib.Core.List.{List, [], _∷_, _++_, map}
 use lib.ListN.{length, getD, take}
 use Rattle.sizes.specs.declared.Opening.{Opening}
+use Rattle.frames.specs.declared.Reason.the-variants.{Mixed}
 use Rattle.frames.specs.declared.Fault.the-variants.{Sound}
 use Rattle.frames.specs.declared.Ended.{Ended}
 use Rattle.frames.specs.declared.Ended.the-variants.{Nothing, Frame}
@@ -15,7 +16,7 @@ use Rattle.ledger.specs.declared.Account.{Account}
 use Rattle.ledger.specs.Entry.{Entry}
 use Rattle.ledger.specs.declared.Ledger.{Ledger}
 use Rattle.ledger.specs.Ledger.{countOf, bytesOf}
-use Rattle.books.specs.Rule.{frameOf, strayOf, complete, dataOf, firstStamp, stillOf, fault, Item, framesBy, entries, lostLine, idleLine, oneIn, partIn, total, stamps, untimed, forward, back, between}
+use Rattle.books.specs.Rule.{Event, idle, unreadable, missing, readable, frameOf, strayOf, complete, dataOf, firstStamp, stillOf, fault, Item, framesBy, entryOf, entries, lostLine, idleLine, oneIn, partIn, total, stamps, untimed, forward, back, between}
 use Rattle.ledger.specs.Accounts.{accounts, placeOf, lostAt, idleAt, ticksAt, backwardAt, untimedAt}
 use Rattle.session.specs.Call.{Call}
 use Rattle.books.specs.Answer.{lastRun}
@@ -90,3 +91,35 @@ pub record Whole (o : Opening) (cs : List Call) (b : Bool) (d : Delivery) (buffe
   pub payload : take (d .len) buffer ≡ dataOf (frameOf (lastRun o cs))
   pub size : d .len ≡ length (dataOf (frameOf (lastRun o cs)))
   pub stamp : d .stamp ≡ firstStamp (frameOf (lastRun o cs))
+
+-- NO STILLS: no readable transfer has D5
+abbrev pub Film : List Event → Type 0
+Film [] = Unit {0}
+Film (idle ∷ es) = Film es
+Film (unreadable n ∷ es) = Film es
+Film (missing ∷ es) = Film es
+Film (readable h d ∷ es) = (h .still ≡ false) × Film es
+
+-- neither a still nor mixed
+abbrev pub NoStill : Entry → Type 0
+NoStill (Entry.Still d) = ⊥
+NoStill (Entry.Dropped w n) = w ≡ Mixed → ⊥
+NoStill (Entry.Delivered d) = Unit {0}
+NoStill (Entry.UnderWay n) = Unit {0}
+NoStill (Entry.Stray n) = Unit {0}
+NoStill (Entry.Unreadable n) = Unit {0}
+NoStill (Entry.Headers n) = Unit {0}
+NoStill Entry.Lost = Unit {0}
+NoStill Entry.Idle = Unit {0}
+
+abbrev pub NoneStill : List Entry → Type 0
+NoneStill [] = Unit {0}
+NoneStill (e ∷ es) = NoStill e × NoneStill es
+
+-- no frame is a still or mixed, and both accounts are zero
+pub record WithoutStills (o : Opening) (cs : List Call) (l : Ledger) : Type 0 where
+  pub frames : NoneStill (map entryOf (framesBy o cs))
+  pub stills : countOf l (placeOf Account.Still) ≡ 0
+  pub still-bytes : bytesOf l (placeOf Account.Still) ≡ 0
+  pub mixed : countOf l (placeOf Account.Mixed) ≡ 0
+  pub mixed-bytes : bytesOf l (placeOf Account.Mixed) ≡ 0

@@ -1,0 +1,195 @@
+-- Where no readable transfer has D5, no frame is a still or mixed, and both accounts are zero.
+use Prim.Native.Nat.{ℕ, _+_}
+use mathlib.Core.Path.{_≡_, refl, sym, _∙_, subst}
+use mathlib.Core.Bool.{Bool, true, false, cond, _&&_}
+use mathlib.Core.List.{List, [], _∷_, _++_, map}
+use native.Mathlib.Omega.{arith}
+use native.Mathlib.Nat.{zero-add}
+use lib.ListN.{length}
+use lib.Dec.{eqb, ltb}
+use borrow.Author.Tests.{ne-eqb}
+use Rattle.sizes.specs.declared.Opening.{Opening}
+use Rattle.payload.specs.declared.Header.{Header}
+use Rattle.payload.specs.declared.Stamp.{Stamp}
+use Rattle.frames.specs.declared.Reason.{Reason}
+use Rattle.frames.specs.declared.Reason.the-variants.{Gap, Error, Clock, Mixed, Long, Cut, Empty}
+use Rattle.frames.specs.declared.Fault.{Fault}
+use Rattle.frames.specs.declared.Fault.the-variants.{Sound, Bad}
+use Rattle.ledger.specs.declared.Account.{Account}
+use Rattle.ledger.specs.declared.Ledger.{Ledger}
+use Rattle.ledger.specs.Accounts.{placeOf, accountFor}
+use Rattle.ledger.specs.Entry.{Entry}
+use Rattle.session.specs.Call.{Call}
+use Rattle.books.specs.Rule.{Event, idle, unreadable, missing, readable, events, isOpen, Seen, readables, same, ahead, runs, frameOf, strayOf, complete, dataOf, firstStamp, stillOf, _or_, when, differs, mixes, faultAt, gapAfter, faultFrom, gapBefore, fault, verdict, Item, strays, judge, nothing, judged, loose, entryOf, framesBy, entries, lineOf, bytesIn, oneIn, partIn, total}
+use Rattle.books.specs.Demands.{Right, Film, NoStill, NoneStill, WithoutStills}
+use Rattle.books.proofs.History.{map-append}
+
+-- ---- no transfer of a list, or of any run, has D5
+abbrev Clear : List Seen → Type 0
+Clear [] = Unit {0}
+Clear (t ∷ ts) = (t .header .still ≡ false) × Clear ts
+
+abbrev AllClear : List (List Seen) → Type 0
+AllClear [] = Unit {0}
+AllClear (r ∷ rs) = Clear r × AllClear rs
+
+readables-clear : (b : Bool) (es : List Event) → Film es → Clear (readables b es)
+readables-clear b [] f = tt
+readables-clear b (idle ∷ es) f = readables-clear b es f
+readables-clear b (unreadable n ∷ es) f = readables-clear true es f
+readables-clear b (missing ∷ es) f = readables-clear true es f
+readables-clear b (readable h d ∷ es) f = (f .0, readables-clear false es (f .1))
+
+ahead-clear : (t : Seen) (rs : List (List Seen)) → t .header .still ≡ false → AllClear rs → AllClear (ahead t rs)
+ahead-clear t [] e c = ((e, tt), tt)
+ahead-clear t ([] ∷ rs) e c = ((e, tt), c .1)
+ahead-clear t ((u ∷ us) ∷ rs) e c = go (same t u)
+  where
+    go : (b : Bool) → AllClear (cond b ((t ∷ u ∷ us) ∷ rs) ((t ∷ []) ∷ (u ∷ us) ∷ rs))
+    go true = ((e, c .0), c .1)
+    go false = ((e, tt), c)
+
+runs-clear : (ts : List Seen) → Clear ts → AllClear (runs ts)
+runs-clear [] c = tt
+runs-clear (t ∷ ts) c = ahead-clear t (runs ts) (c .0) (runs-clear ts (c .1))
+
+frame-clear : (r : List Seen) → Clear r → Clear (frameOf r)
+frame-clear [] c = tt
+frame-clear (t ∷ ts) c = (c .0, go (t .header .eof) (frame-clear ts (c .1)))
+  where
+    go : (b : Bool) → Clear (frameOf ts) → Clear (cond b [] (frameOf ts))
+    go true rec = tt
+    go false rec = rec
+
+still-clear : (r : List Seen) → Clear r → stillOf r ≡ false
+still-clear [] c = refl
+still-clear (t ∷ ts) c = c .0
+
+-- ---- so its frame is not mixed
+abbrev NotMixed : Fault → Type 0
+NotMixed Sound = Unit {0}
+NotMixed (Bad w) = w ≡ Mixed → ⊥
+
+or-not : (p q : Fault) → NotMixed p → NotMixed q → NotMixed (p or q)
+or-not Sound q a b = b
+or-not (Bad w) q a b = a
+
+when-not : (b : Bool) (w : Reason) → (w ≡ Mixed → ⊥) → NotMixed (when b w)
+when-not true w h = h
+when-not false w h = tt
+
+gap-not : Gap ≡ Mixed → ⊥
+gap-not e = let z : _≡_ {A = ℕ} 0 1 = cc in omega arith
+
+error-not : Error ≡ Mixed → ⊥
+error-not e = let z : _≡_ {A = ℕ} 0 1 = cc in omega arith
+
+clock-not : Clock ≡ Mixed → ⊥
+clock-not e = let z : _≡_ {A = ℕ} 0 1 = cc in omega arith
+
+long-not : Long ≡ Mixed → ⊥
+long-not e = let z : _≡_ {A = ℕ} 0 1 = cc in omega arith
+
+cut-not : Cut ≡ Mixed → ⊥
+cut-not e = let z : _≡_ {A = ℕ} 0 1 = cc in omega arith
+
+empty-not : Empty ≡ Mixed → ⊥
+empty-not e = let z : _≡_ {A = ℕ} 0 1 = cc in omega arith
+
+module _ (o : Opening) (s : Stamp) where
+  at-not : (n : ℕ) (h : Header) (d : ℕ) → h .still ≡ false → NotMixed (faultAt o s false n h d)
+  at-not n h d e =
+      or-not (when (h .error) Error) _ (when-not (h .error) Error error-not)
+      (or-not (when (differs s (h .stamp)) Clock) _ (when-not (differs s (h .stamp)) Clock clock-not)
+      (rw e (when-not (ltb (o .frame) (n + d)) Long long-not)))
+
+  from-not : (n : ℕ) (ts : List Seen) → Clear ts → NotMixed (faultFrom o s false n ts)
+  from-not n [] c = tt
+  from-not n (t ∷ ts) c =
+      or-not (faultAt o s false n (t .header) (length (t .load))) _ (at-not n (t .header) (length (t .load)) (c .0))
+      (or-not (when (gapAfter t) Gap) _ (when-not (gapAfter t) Gap gap-not) (from-not (n + length (t .load)) ts (c .1)))
+
+fault-not : (o : Opening) (r : List Seen) → Clear r → NotMixed (fault o r)
+fault-not o r c = or-not (when (gapBefore r) Gap) _ (when-not (gapBefore r) Gap gap-not) (rw (still-clear r c) (from-not o (firstStamp r) 0 r c))
+
+-- ---- and no still
+verdict-film : (w c : Bool) (q : Fault) (s : Stamp) (b : Bool) (n : ℕ) → NotMixed q → b ≡ false → NoStill (verdict w c q s b n)
+verdict-film w true (Bad k) s b n h e = h
+verdict-film w true Sound s true n h e = absurd (let z : _≡_ {A = ℕ} 0 1 = cc in omega arith)
+verdict-film w true Sound s false n h e = go (eqb n 0)
+  where
+    go : (c : Bool) → NoStill (cond c (Entry.Dropped Empty n) (Entry.Delivered (record { len = n; stamp = s })))
+    go true = empty-not
+    go false = tt
+verdict-film true false q s b n h e = tt
+verdict-film false false (Bad k) s b n h e = h
+verdict-film false false Sound s b n h e = cut-not
+
+none-append : (xs ys : List Entry) → NoneStill xs → NoneStill ys → NoneStill (xs ++ ys)
+none-append [] ys a b = b
+none-append (x ∷ xs) ys a b = (a .0, none-append xs ys (a .1) b)
+
+strays-film : (ts : List Seen) → NoneStill (map entryOf (strays ts))
+strays-film [] = tt
+strays-film (t ∷ ts) = (tt, strays-film ts)
+
+judged-film : (o : Opening) (p : Bool) (rs : List (List Seen)) → AllClear rs → NoneStill (map entryOf (judged o p rs))
+judged-film o p [] c = tt
+judged-film o p (r ∷ rs) c =
+    let f : List Seen = frameOf r in
+    let k = frame-clear r (c .0) in
+    subst NoneStill (sym (map-append (judge o (p && nothing rs) r) (judged o p rs)))
+    (none-append (map entryOf (judge o (p && nothing rs) r)) (map entryOf (judged o p rs))
+    (verdict-film (p && nothing rs) (complete f) (fault o f) (firstStamp f) (stillOf f) (length (dataOf f)) (fault-not o f k) (still-clear f k), strays-film (strayOf r))
+    (judged-film o p rs (c .1)))
+
+loose-film : (es : List Event) → NoneStill (loose es)
+loose-film [] = tt
+loose-film (idle ∷ es) = (tt, loose-film es)
+loose-film (unreadable n ∷ es) = (tt, loose-film es)
+loose-film (missing ∷ es) = (tt, loose-film es)
+loose-film (readable h d ∷ es) = (tt, loose-film es)
+
+frames-film : (o : Opening) (cs : List Call) → Film (events o cs) → NoneStill (map entryOf (framesBy o cs))
+frames-film o cs f = judged-film o (isOpen cs) (runs (readables false (events o cs))) (runs-clear (readables false (events o cs)) (readables-clear false (events o cs) f))
+
+-- ---- both accounts are zero
+reason-line : (w : Reason) → (w ≡ Mixed → ⊥) → (placeOf (accountFor w) ≡ placeOf Account.Still → ⊥) × (placeOf (accountFor w) ≡ placeOf Account.Mixed → ⊥)
+reason-line Gap h = (λ e. omega arith, λ e. omega arith)
+reason-line Error h = (λ e. omega arith, λ e. omega arith)
+reason-line Clock h = (λ e. omega arith, λ e. omega arith)
+reason-line Mixed h = absurd (h refl)
+reason-line Long h = (λ e. omega arith, λ e. omega arith)
+reason-line Cut h = (λ e. omega arith, λ e. omega arith)
+reason-line Empty h = (λ e. omega arith, λ e. omega arith)
+
+entry-line : (x : Entry) → NoStill x → (lineOf x ≡ placeOf Account.Still → ⊥) × (lineOf x ≡ placeOf Account.Mixed → ⊥)
+entry-line (Entry.Still d) h = absurd h
+entry-line (Entry.Dropped w n) h = reason-line w h
+entry-line (Entry.Delivered d) h = (λ e. omega arith, λ e. omega arith)
+entry-line (Entry.UnderWay n) h = (λ e. omega arith, λ e. omega arith)
+entry-line (Entry.Stray n) h = (λ e. omega arith, λ e. omega arith)
+entry-line (Entry.Unreadable n) h = (λ e. omega arith, λ e. omega arith)
+entry-line (Entry.Headers n) h = (λ e. omega arith, λ e. omega arith)
+entry-line Entry.Lost h = (λ e. omega arith, λ e. omega arith)
+entry-line Entry.Idle h = (λ e. omega arith, λ e. omega arith)
+
+module _ (k : ℕ) (other : (x : Entry) → NoStill x → lineOf x ≡ k → ⊥) where
+  none-one : (es : List Entry) → NoneStill es → total (oneIn k) es ≡ 0
+  none-one [] f = refl
+  none-one (x ∷ es) f = rw (ne-eqb (lineOf x) k (other x (f .0))) (zero-add _ ∙ none-one es (f .1))
+
+  none-part : (es : List Entry) → NoneStill es → total (partIn k) es ≡ 0
+  none-part [] f = refl
+  none-part (x ∷ es) f = rw (ne-eqb (lineOf x) k (other x (f .0))) (zero-add _ ∙ none-part es (f .1))
+
+pub without-stills : (o : Opening) (cs : List Call) (l : Ledger) → Right o cs l → Film (events o cs) → WithoutStills o cs l
+without-stills o cs l r f =
+    let n : NoneStill (entries o cs) = none-append (map entryOf (framesBy o cs)) (loose (events o cs)) (frames-film o cs f) (loose-film (events o cs)) in
+    record {
+      frames = frames-film o cs f;
+      stills = r .counts Account.Still ∙ none-one (placeOf Account.Still) (λ x h. entry-line x h .0) (entries o cs) n;
+      still-bytes = r .bytes Account.Still ∙ none-part (placeOf Account.Still) (λ x h. entry-line x h .0) (entries o cs) n;
+      mixed = r .counts Account.Mixed ∙ none-one (placeOf Account.Mixed) (λ x h. entry-line x h .1) (entries o cs) n;
+      mixed-bytes = r .bytes Account.Mixed ∙ none-part (placeOf Account.Mixed) (λ x h. entry-line x h .1) (entries o cs) n;
+    }
