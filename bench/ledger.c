@@ -8,8 +8,8 @@
 
 enum { FRAME = 256, PAYLOAD = 62, RECORD = 64, INPUT = 65536 };
 
-static const char *const names[ACCOUNTS] = {"delivered", "gap",       "error", "clock",      "long",   "cut",
-                                            "empty",     "under way", "stray", "unreadable", "headers"};
+static const char *const names[ACCOUNTS] = {"delivered", "gap",   "error",     "clock", "long",       "cut",    "empty",
+                                            "still",     "mixed", "under way", "stray", "unreadable", "headers"};
 
 static struct session s;
 static uint8_t frame[FRAME];

@@ -104,11 +104,12 @@ static void put(uint8_t *to, const uint8_t *from, size_t n) {
 
 /* a readable transfer with n bytes of data */
 static void readable(struct session *s, uint8_t *buffer, const uint8_t *t, const uint8_t *data, size_t n, struct answer *a) {
-    int flags = t[1], fid = flags & 1;
+    int flags = t[1], fid = flags & 1, still = flags & 0x20;
     if (s->phase == FRESH || s->fid != fid) {
         a->ended = cut(s);
         s->phase = UNDER;
         s->fid = fid;
+        s->still = still;
         s->fault = s->gap ? GAP : DELIVERED;
         s->bytes = 0;
         s->fill = 0;
@@ -131,6 +132,8 @@ static void readable(struct session *s, uint8_t *buffer, const uint8_t *t, const
             s->fault = CLOCK;
         }
     }
+    if (s->fault == DELIVERED && s->still != still)
+        s->fault = MIXED;
     if (s->fault == DELIVERED && s->bytes + n > s->frame)
         s->fault = LONG;
     if (s->fault == DELIVERED) {
@@ -143,8 +146,11 @@ static void readable(struct session *s, uint8_t *buffer, const uint8_t *t, const
         return;
     s->phase = PAST;
     if (s->fault == DELIVERED && s->bytes != 0) {
-        delivered(s);
-        a->fate = FATE_DELIVERED;
+        if (s->still)
+            post(s, STILL, s->bytes);
+        else
+            delivered(s);
+        a->fate = s->still ? FATE_STILL : FATE_DELIVERED;
         a->length = s->bytes;
         a->stamped = s->stamped;
         a->stamp = s->stamp;

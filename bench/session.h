@@ -6,7 +6,7 @@
 #include <stdint.h>
 
 /* The accounts in the order of print. A frame's fault or reason is the account that it goes to, and DELIVERED where it has none. */
-enum account { DELIVERED, GAP, ERROR, CLOCK, LONG, CUT, EMPTY, UNDER_WAY, STRAY, UNREADABLE, HEADERS, ACCOUNTS };
+enum account { DELIVERED, GAP, ERROR, CLOCK, LONG, CUT, EMPTY, STILL, MIXED, UNDER_WAY, STRAY, UNREADABLE, HEADERS, ACCOUNTS };
 
 /* No readable transfer yet; in a frame; after a frame, in the run of its FID. */
 enum phase { FRESH, UNDER, PAST };
@@ -17,7 +17,8 @@ struct session {
     uint32_t taken;
     enum phase phase;
     int gap, fid;
-    /* the frame under way: its earliest fault, its data so far, how much of it is written, its first stamp */
+    /* the frame under way: its first transfer's still bit, its earliest fault, its data so far, how much of it is written, its first stamp */
+    int still;
     enum account fault;
     uint64_t bytes;
     size_t fill;
@@ -30,7 +31,7 @@ struct session {
     uint32_t last;
 };
 
-enum fate { FATE_IDLE, FATE_KEPT, FATE_STRAY, FATE_DELIVERED, FATE_DROPPED, FATE_UNREADABLE };
+enum fate { FATE_IDLE, FATE_KEPT, FATE_STRAY, FATE_DELIVERED, FATE_STILL, FATE_DROPPED, FATE_UNREADABLE };
 
 struct answer {
     unsigned refused;    /* the number of the refusal, and nothing else is said; or 0 */
@@ -38,7 +39,7 @@ struct answer {
     enum fate fate;      /* of the transfer itself */
     enum account reason; /* of a dropped frame */
     unsigned number;     /* of an unreadable transfer, 61 to 66 */
-    uint64_t length;     /* of a delivered frame, and its stamp */
+    uint64_t length;     /* of a delivered frame or still, and its stamp */
     int stamped;
     uint32_t stamp;
 };

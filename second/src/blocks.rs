@@ -152,6 +152,7 @@ pub const FID: u8 = 1;
 pub const EOF: u8 = 2;
 pub const PTS: u8 = 4;
 pub const SCR: u8 = 8;
+pub const STILL: u8 = 0x20;
 pub const ERROR: u8 = 0x40;
 pub const END: u8 = 0x80;
 

@@ -10,9 +10,9 @@
 //!   T calls      four bytes frame size, four bytes payload size, part buffer, four bytes number of calls, and each call:
 //!                byte 0 and part transfer, byte 1 (lost), byte 2 (close)
 //!   F forged     session record, part buffer, part transfer
-//! The record: eight bytes frame size, eight bytes payload size, byte closed, four bytes taken, the phase, byte gap, 27 numbers of eight
+//! The record: eight bytes frame size, eight bytes payload size, byte closed, four bytes taken, the phase, byte gap, 31 numbers of eight
 //! bytes, the last stamp. A stamp: byte present and four bytes. The phase: byte 0 fresh; 1 under way and byte FID, byte fault (0 none,
-//! 1 gap to 6 empty), eight bytes data so far, eight bytes fill, the stamp; 2 past a frame and byte FID.
+//! 1 gap to 6 empty), eight bytes data so far, eight bytes fill, the stamp, byte still; 2 past a frame and byte FID.
 
 use crate::control;
 use crate::frames::Call;
@@ -50,11 +50,12 @@ fn record(out: &mut Vec<u8>, r: &Record) {
     out.extend(r.taken.to_le_bytes());
     match r.phase {
         Phase::Fresh => out.push(0),
-        Phase::Under { fid, fault, bytes, fill, stamp: s } => {
+        Phase::Under { fid, fault, bytes, fill, stamp: s, still } => {
             out.extend([1, u8::from(fid), fault]);
             out.extend(bytes.to_le_bytes());
             out.extend(fill.to_le_bytes());
             stamp(out, s);
+            out.push(u8::from(still));
         }
         Phase::Past(fid) => out.extend([2, u8::from(fid)]),
     }

@@ -12,6 +12,7 @@ pub enum Reason {
     Gap,
     Error,
     Clock,
+    Mixed,
     Long,
     Cut,
     Empty,
@@ -21,7 +22,7 @@ pub enum Reason {
 pub enum Sort {
     Idle,
     Unreadable(u8),
-    Readable { fid: bool, eof: bool, error: bool, stamp: Option<u32>, header: usize },
+    Readable { fid: bool, eof: bool, still: bool, error: bool, stamp: Option<u32>, header: usize },
 }
 
 pub fn sort(t: &[u8], payload: usize) -> Sort {
@@ -47,7 +48,7 @@ pub fn sort(t: &[u8], payload: usize) -> Sort {
         return Sort::Unreadable(66);
     }
     let stamp = if bit(2) { Some(u32::from_le_bytes([t[2], t[3], t[4], t[5]])) } else { None };
-    Sort::Readable { fid: bit(0), eof: bit(1), error: bit(6), stamp, header }
+    Sort::Readable { fid: bit(0), eof: bit(1), still: bit(5), error: bit(6), stamp, header }
 }
 
 /// A readable transfer, by its place in the list.
@@ -55,6 +56,7 @@ struct Piece {
     place: usize,
     fid: bool,
     eof: bool,
+    still: bool,
     error: bool,
     stamp: Option<u32>,
     data: usize,
@@ -66,6 +68,7 @@ struct Piece {
 #[derive(Clone, Copy, Debug, PartialEq)]
 pub enum Becomes {
     Delivered(Option<u32>),
+    Still(Option<u32>),
     Dropped(Reason),
     UnderWay,
 }
@@ -114,10 +117,10 @@ pub fn judge(calls: &[Call], frame_size: usize, payload: usize) -> Verdict {
                     v.unreadable.push(t.len());
                     true
                 }
-                Sort::Readable { fid, eof, error, stamp, header } => {
+                Sort::Readable { fid, eof, still, error, stamp, header } => {
                     v.headers.push(header);
                     let data = t.len() - header;
-                    pieces.push(Piece { place, fid, eof, error, stamp, data, before: spoilt, after: false });
+                    pieces.push(Piece { place, fid, eof, still, error, stamp, data, before: spoilt, after: false });
                     spoilt = false;
                     false
                 }
@@ -164,6 +167,9 @@ fn one(frame: &[Piece], frame_size: usize, over: bool) -> Judged {
         if p.stamp.is_some() && p.stamp != first_stamp {
             faults.push((i, Reason::Clock));
         }
+        if p.still != frame[0].still {
+            faults.push((i, Reason::Mixed));
+        }
         if size > frame_size {
             faults.push((i, Reason::Long));
         }
@@ -176,6 +182,7 @@ fn one(frame: &[Piece], frame_size: usize, over: bool) -> Judged {
     let becomes = match (complete, fault) {
         (true, Some((_, r))) => Becomes::Dropped(r),
         (true, None) if size == 0 => Becomes::Dropped(Reason::Empty),
+        (true, None) if frame[0].still => Becomes::Still(first_stamp),
         (true, None) => Becomes::Delivered(first_stamp),
         (false, _) if !over => Becomes::UnderWay,
         (false, Some((_, r))) => Becomes::Dropped(r),
@@ -186,7 +193,7 @@ fn one(frame: &[Piece], frame_size: usize, over: bool) -> Judged {
 
 /// The ledger's numbers in the order of print.
 pub fn ledger(v: &Verdict) -> Vec<u64> {
-    let mut accounts = [(0u64, 0u64); 11];
+    let mut accounts = [(0u64, 0u64); 13];
     let mut add = |k: usize, n: usize| {
         accounts[k].0 += 1;
         accounts[k].1 += n as u64;
@@ -202,13 +209,15 @@ pub fn ledger(v: &Verdict) -> Vec<u64> {
                     None => untimed += 1,
                 }
             }
+            // A still is billed apart: it has no part in the time.
+            Becomes::Still(_) => add(7, f.bytes),
             Becomes::Dropped(r) => add(reason_number(r), f.bytes),
-            Becomes::UnderWay => add(7, f.bytes),
+            Becomes::UnderWay => add(9, f.bytes),
         }
     }
-    v.strays.iter().for_each(|&n| add(8, n));
-    v.unreadable.iter().for_each(|&n| add(9, n));
-    v.headers.iter().for_each(|&n| add(10, n));
+    v.strays.iter().for_each(|&n| add(10, n));
+    v.unreadable.iter().for_each(|&n| add(11, n));
+    v.headers.iter().for_each(|&n| add(12, n));
     let steps: Vec<i64> = stamps.windows(2).map(|w| step(w[0], w[1])).collect();
     let ticks: i64 = steps.iter().filter(|&&s| s >= 0).sum();
     let backward = steps.iter().filter(|&&s| s < 0).count() as u64;
@@ -235,11 +244,12 @@ pub fn reason_number(r: Reason) -> usize {
         Reason::Long => 4,
         Reason::Cut => 5,
         Reason::Empty => 6,
+        Reason::Mixed => 8,
     }
 }
 
 pub fn reason_name(r: Reason) -> &'static str {
-    ["", "gap", "error", "clock", "long", "cut", "empty"][reason_number(r)]
+    ["", "gap", "error", "clock", "long", "cut", "empty", "", "mixed"][reason_number(r)]
 }
 
 /// What the last call of a list answers, from what the list came to without it and with it:
@@ -269,14 +279,18 @@ pub fn answer(calls: &[Call], old: &Verdict, new: &Verdict, payload: usize) -> (
                     match last.becomes {
                         Becomes::UnderWay => "kept".into(),
                         Becomes::Dropped(r) => format!("dropped {}", reason_name(r)),
-                        Becomes::Delivered(None) => format!("delivered {} -", last.bytes),
-                        Becomes::Delivered(Some(s)) => format!("delivered {} {s}", last.bytes),
+                        Becomes::Delivered(s) => format!("delivered {} {}", last.bytes, stamp_or_dash(s)),
+                        Becomes::Still(s) => format!("still {} {}", last.bytes, stamp_or_dash(s)),
                     }
                 }
             }
         },
     };
     (ended, fate)
+}
+
+fn stamp_or_dash(stamp: Option<u32>) -> String {
+    stamp.map_or("-".into(), |s| s.to_string())
 }
 
 fn data(call: &Call) -> &[u8] {

@@ -120,7 +120,8 @@ const FIELDS: [&str; 21] = [
 ];
 
 /// The accounts, each with two numbers, then the other counts.
-const ACCOUNTS: [&str; 11] = ["delivered", "gap", "error", "clock", "long", "cut", "empty", "under way", "stray", "unreadable", "headers"];
+const ACCOUNTS: [&str; 13] =
+    ["delivered", "gap", "error", "clock", "long", "cut", "empty", "still", "mixed", "under way", "stray", "unreadable", "headers"];
 const COUNTS: [&str; 5] = ["lost", "idle", "ticks", "backward", "untimed"];
 
 pub const RECORD: usize = 64;

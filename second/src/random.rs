@@ -420,7 +420,9 @@ pub fn calls(r: &mut Random, most: usize) -> Case {
     let eofs = 1 + r.below(6);
     let turns = 1 + r.below(8);
     let faulty = r.pick(&[3, 8, 30, 1000]);
+    let stills = r.pick(&[1, 2, 4, 1000]);
     let mut fid = 0u8;
+    let mut still = 0u8;
     let mut stamp = r.pick(&[0, 0x10, 0xFFFF_FFF0, 0x7FFF_FFF8, 0x8000_0000, 12_345]);
     let mut list = Vec::with_capacity(n);
     for i in 0..n {
@@ -450,6 +452,7 @@ pub fn calls(r: &mut Random, most: usize) -> Case {
         }
         if r.once_in(turns) {
             fid ^= 1;
+            still = if r.once_in(stills) { blocks::STILL } else { 0 };
             stamp = match r.below(12) {
                 0 => r.next() as u32,
                 1 => stamp.wrapping_add(0x7FFF_FFFF).wrapping_add(r.below(3) as u32),
@@ -457,7 +460,10 @@ pub fn calls(r: &mut Random, most: usize) -> Case {
                 _ => stamp.wrapping_add(r.below(40) as u32),
             };
         }
-        let mut flags = blocks::END | fid | (r.byte() & 0x30);
+        let mut flags = blocks::END | fid | still | (r.byte() & 0x10);
+        if r.once_in(faulty * 2) {
+            flags ^= blocks::STILL;
+        }
         if r.once_in(eofs) {
             flags |= blocks::EOF;
         }
@@ -504,13 +510,20 @@ pub fn record(r: &mut Random) -> Record {
     let phase = match r.below(4) {
         0 => Phase::Fresh,
         1 => Phase::Past(r.once_in(2)),
-        _ => Phase::Under { fid: r.once_in(2), fault, bytes: if fault == 0 { fill } else { fill + r.below(50) as u64 }, fill, stamp },
+        _ => Phase::Under {
+            fid: r.once_in(2),
+            fault,
+            bytes: if fault == 0 { fill } else { fill + r.below(50) as u64 },
+            fill,
+            stamp,
+            still: r.once_in(2),
+        },
     };
-    let mut numbers = [0; 27];
+    let mut numbers = [0; 31];
     for (i, x) in numbers.iter_mut().enumerate() {
-        let most = if i == 24 {
+        let most = if i == 28 {
             n << 31
-        } else if i < 22 && i % 2 == 1 {
+        } else if i < 26 && i % 2 == 1 {
             n << 16
         } else {
             n
@@ -529,10 +542,10 @@ pub fn record(r: &mut Random) -> Record {
     };
     match r.below(10) {
         0..=2 => {
-            let i = r.below(27);
-            let most = if i == 24 {
+            let i = r.below(31);
+            let most = if i == 28 {
                 n << 31
-            } else if i < 22 && i % 2 == 1 {
+            } else if i < 26 && i % 2 == 1 {
                 n << 16
             } else {
                 n

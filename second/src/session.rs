@@ -8,7 +8,7 @@ use std::fmt::Write;
 #[derive(Clone, Debug)]
 pub enum Phase {
     Fresh,
-    Under { fid: bool, fault: u8, bytes: u64, fill: u64, stamp: Option<u32> },
+    Under { fid: bool, fault: u8, bytes: u64, fill: u64, stamp: Option<u32>, still: bool },
     Past(bool),
 }
 
@@ -20,7 +20,7 @@ pub struct Record {
     pub taken: u32,
     pub phase: Phase,
     pub gap: bool,
-    pub numbers: [u64; 27],
+    pub numbers: [u64; 31],
     pub last: Option<u32>,
 }
 
@@ -102,18 +102,18 @@ fn broken(r: &Record) -> bool {
     }
     // The frame under way is kept with the run; its account is that frame's, whatever the record holds in its place.
     let mut numbers: Vec<u128> = r.numbers.iter().map(|&n| u128::from(n)).collect();
-    numbers[14] = 0;
-    numbers[15] = 0;
+    numbers[18] = 0;
+    numbers[19] = 0;
     if let Phase::Under { fault, bytes, fill, .. } = r.phase {
         if fill > r.frame || (fault == 0 && fill != bytes) {
             return true;
         }
-        numbers[14] = 1;
-        numbers[15] = u128::from(bytes);
+        numbers[18] = 1;
+        numbers[19] = u128::from(bytes);
     }
     numbers.iter().enumerate().any(|(i, &n)| match i {
-        1 | 3 | 5 | 7 | 9 | 11 | 13 | 15 | 17 | 19 | 21 => n > 65_536 * taken,
-        24 => n > (1 << 31) * taken,
+        i if i < 26 && i % 2 == 1 => n > 65_536 * taken,
+        28 => n > (1 << 31) * taken,
         _ => n > taken,
     })
 }
@@ -138,9 +138,9 @@ fn refusal(r: &Record, lost_or_take: bool, take: Option<(usize, usize)>) -> Opti
 
 /// Where a transfer writes on a record that refuses nothing. The record's gap is for a frame that begins; its fault is the frame's.
 fn place(r: &Record, transfer: &[u8]) -> Option<(usize, usize)> {
-    if let Sort::Readable { fid, error, stamp, header, .. } = sort(transfer, r.payload as usize) {
+    if let Sort::Readable { fid, still, error, stamp, header, .. } = sort(transfer, r.payload as usize) {
         let n = transfer.len() - header;
-        let begins = Some((r.gap, 0, 0, None));
+        let begins = Some((r.gap, 0, 0, None, still));
         let run = match r.phase {
             Phase::Fresh => begins,
             Phase::Past(f) => {
@@ -150,17 +150,17 @@ fn place(r: &Record, transfer: &[u8]) -> Option<(usize, usize)> {
                     begins
                 }
             }
-            Phase::Under { fid: f, fault, bytes, fill, stamp } => {
+            Phase::Under { fid: f, fault, bytes, fill, stamp, still } => {
                 if f == fid {
-                    Some((fault != 0, bytes, fill, stamp))
+                    Some((fault != 0, bytes, fill, stamp, still))
                 } else {
                     begins
                 }
             }
         };
-        if let Some((faulted, bytes, fill, first)) = run {
+        if let Some((faulted, bytes, fill, first, bit)) = run {
             let clock = first.is_some() && stamp.is_some() && first != stamp;
-            if !faulted && !error && !clock && bytes + n as u64 <= r.frame {
+            if !faulted && !error && !clock && still == bit && bytes + n as u64 <= r.frame {
                 return Some((fill as usize, header));
             }
         }

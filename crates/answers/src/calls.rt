@@ -181,6 +181,7 @@ fn reason(why: Reason) {
         Reason::Gap => print::text(b" gap"),
         Reason::Error => print::text(b" error"),
         Reason::Clock => print::text(b" clock"),
+        Reason::Mixed => print::text(b" mixed"),
         Reason::Long => print::text(b" long"),
         Reason::Cut => print::text(b" cut"),
         Reason::Empty => print::text(b" empty"),
@@ -192,7 +193,14 @@ fn fate(f: Fate) {
         Fate::Idle => print::text(b" idle"),
         Fate::Kept => print::text(b" kept"),
         Fate::Stray => print::text(b" stray"),
-        Fate::Delivered(d) => delivered(d),
+        Fate::Delivered(d) => {
+            print::text(b" delivered");
+            delivery(d);
+        }
+        Fate::Still(d) => {
+            print::text(b" still");
+            delivery(d);
+        }
         Fate::Dropped(why) => {
             print::text(b" dropped");
             reason(why);
@@ -204,8 +212,7 @@ fn fate(f: Fate) {
     }
 }
 
-fn delivered(d: Delivery) {
-    print::text(b" delivered");
+fn delivery(d: Delivery) {
     print::field(d.len);
     let s = d.stamp;
     match s {

@@ -2,7 +2,8 @@
 //
 // The record: eight bytes frame size, eight bytes payload size, byte closed, four bytes taken, the phase, byte gap,
 // the ledger's numbers of eight bytes each, the last stamp. A stamp: byte present and four bytes. The phase: byte 0 fresh, 2 past and byte FID, or
-// any other and byte FID, byte fault (1 gap, 2 error, 3 clock, 4 long, 5 cut, 6 empty, any other none), eight bytes data so far, eight bytes fill, the stamp.
+// any other and byte FID, byte fault (1 gap, 2 error, 3 clock, 4 long, 5 cut, 6 empty, any other none), eight bytes data so far, eight bytes fill, the stamp,
+// byte still.
 use cases::input;
 use cases::print;
 use frames::Fault;
@@ -76,8 +77,10 @@ fn under() -> Run {
     let bytes = input::long();
     let fill = input::long() as usize;
     let stamp = stamp();
+    let still = input::flag();
     Run {
         fid,
+        still,
         fault,
         bytes,
         fill,

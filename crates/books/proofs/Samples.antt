@@ -16,12 +16,12 @@ use Rattle.books.specs.Answer.{answerOf, with}
 use Rattle.payload.specs.Transfer.{flagOf, needOf, transferFlags, stampOf, headerOf, readingOf}
 use Rattle.ledger.specs.Ledger.{plusOf, timedOf, postOf, shownOf}
 use Rattle.session.specs.Refusals.{ledgerOf}
-use Rattle.session.specs.Session.{fresh, readOf, tookOf, takeOf}
+use Rattle.session.specs.Session.{fresh, readOf, tookOf, takeOf, lostOf}
 use Rattle.books.specs.Rule.{entries, numbersOf}
 use Rattle.frames.specs.Inner.{turnOf, spoiltOf, closedOf}
 use Rattle.rule_50.specs.Rule50.{rule50, fillBroken, accountsBroken, countsBroken}
 use Rattle.session.specs.Call.{Call}
-use Rattle.session.specs.Calls.{Offer, after, taken}
+use Rattle.session.specs.Calls.{Offer, after, taken, offerWith}
 
 -- frame size 256, payload size 62
 abbrev pub opening : Opening
@@ -73,3 +73,43 @@ pub answers-by-rule : answersFrom [] transfers
     ∷ []
 unfolding pick firstFrom flagOf needOf transferFlags stampOf headerOf readingOf
 answers-by-rule = refl
+
+-- Stills among the film (document 02, Ten): the step of 32 goes over a stamped still, which is in its own account; then a frame that is mixed.
+abbrev pub among-film : List Call
+among-film =
+    Call.transfer (0x06 ∷ 0x86 ∷ 0xF0 ∷ 0xFF ∷ 0xFF ∷ 0xFF ∷ 0x61 ∷ 0x62 ∷ 0x63 ∷ [])
+    ∷ Call.transfer (0x06 ∷ 0xA7 ∷ 0x07 ∷ 0x00 ∷ 0x00 ∷ 0x00 ∷ 0x73 ∷ [])
+    ∷ Call.transfer (0x02 ∷ 0x82 ∷ 0x78 ∷ 0x79 ∷ [])
+    ∷ Call.transfer (0x06 ∷ 0x87 ∷ 0x10 ∷ 0x00 ∷ 0x00 ∷ 0x00 ∷ 0x7A ∷ [])
+    ∷ Call.transfer (0x06 ∷ 0x86 ∷ 0x0B ∷ 0x00 ∷ 0x00 ∷ 0x00 ∷ 0x7A ∷ [])
+    ∷ Call.lost
+    ∷ Call.transfer (0x06 ∷ 0x87 ∷ 0x03 ∷ 0x00 ∷ 0x00 ∷ 0x00 ∷ 0x71 ∷ [])
+    ∷ Call.transfer (0x06 ∷ 0x86 ∷ 0x0B ∷ 0x00 ∷ 0x00 ∷ 0x00 ∷ 0x7A ∷ 0x7A ∷ [])
+    ∷ Call.transfer (0x02 ∷ 0x81 ∷ 0x6D ∷ [])
+    ∷ Call.transfer (0x02 ∷ 0xA3 ∷ 0x6E ∷ [])
+    ∷ []
+
+abbrev pub billed-apart : List ℕ
+billed-apart =
+    5 ∷ 9 ∷ 1 ∷ 1 ∷ 0 ∷ 0 ∷ 0 ∷ 0 ∷ 0 ∷ 0 ∷ 0 ∷ 0 ∷ 0 ∷ 0 ∷ 1 ∷ 1 ∷ 1 ∷ 2 ∷ 0 ∷ 0 ∷ 0 ∷ 0 ∷ 0 ∷ 0 ∷ 9 ∷ 42 ∷ 1 ∷ 0 ∷ 32 ∷ 1 ∷ 1 ∷ []
+
+pub stills-by-rule : numbersOf (entries opening among-film) ≡ billed-apart
+unfolding pick firstFrom flagOf needOf transferFlags stampOf headerOf readingOf
+stills-by-rule = refl
+
+pub stills-by-session : ledgerOf (after (fresh opening) (map (offerWith (replicate 256 0)) among-film)) .numbers ≡ billed-apart
+unfolding pick firstFrom anyBelow frameSizeBroken payloadSizeBroken flagOf needOf transferFlags stampOf headerOf readingOf turnOf spoiltOf closedOf plusOf timedOf postOf shownOf sizesBroken fillBroken accountsBroken countsBroken rule50 readOf tookOf takeOf lostOf
+stills-by-session = refl
+
+-- what its still, its mixed frame and an empty still answer
+pub still-answer : answerOf opening [] (0x06 ∷ 0xA7 ∷ 0x07 ∷ 0x00 ∷ 0x00 ∷ 0x00 ∷ 0x73 ∷ []) ≡ only (Fate.Still (record { len = 1; stamp = Stamp.At 7 }))
+unfolding pick firstFrom flagOf needOf transferFlags stampOf headerOf readingOf
+still-answer = refl
+
+pub mixed-answer : answerOf opening (Call.transfer (0x02 ∷ 0x81 ∷ 0x6D ∷ []) ∷ []) (0x02 ∷ 0xA3 ∷ 0x6E ∷ []) ≡ only (Fate.Dropped Reason.Mixed)
+unfolding pick firstFrom flagOf needOf transferFlags stampOf headerOf readingOf
+mixed-answer = refl
+
+pub empty-still : answerOf opening [] (0x02 ∷ 0xA2 ∷ []) ≡ only (Fate.Dropped Reason.Empty)
+unfolding pick firstFrom flagOf needOf transferFlags stampOf headerOf readingOf
+empty-still = refl

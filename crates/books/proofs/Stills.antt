@@ -20,7 +20,7 @@ use Rattle.ledger.specs.declared.Ledger.{Ledger}
 use Rattle.ledger.specs.Accounts.{placeOf, accountFor}
 use Rattle.ledger.specs.Entry.{Entry}
 use Rattle.session.specs.Call.{Call}
-use Rattle.books.specs.Rule.{Event, idle, unreadable, missing, readable, events, isOpen, Seen, readables, same, ahead, runs, frameOf, strayOf, complete, dataOf, firstStamp, stillOf, _or_, when, differs, mixes, faultAt, gapAfter, faultFrom, gapBefore, fault, verdict, Item, strays, judge, nothing, judged, loose, entryOf, framesBy, entries, lineOf, bytesIn, oneIn, partIn, total}
+use Rattle.books.specs.Rule.{Event, idle, unreadable, missing, readable, events, isOpen, Seen, readables, same, ahead, runs, frameOf, strayOf, complete, dataOf, firstStamp, stillOf, _or_, when, differs, faultAt, gapAfter, faultFrom, gapBefore, fault, verdict, strays, judge, nothing, judged, loose, entryOf, framesBy, entries, lineOf, oneIn, partIn, total}
 use Rattle.books.specs.Demands.{Right, Film, NoStill, NoneStill, WithoutStills}
 use Rattle.books.proofs.History.{map-append}
 

@@ -189,16 +189,18 @@ fn joined(o: Opening, r: Run, h: Header, n: usize) -> Run
     let b = h.stamp;
     let bytes = r.bytes + n as u64;
     let long = (o.frame as u64) < bytes;
+    let still = r.still;
+    let mixed = !same(still, h.still);
     let f = r.fault;
     let e = first_of(f, h.error, Reason::Error);
     let c = first_of(e, clash(a, b), Reason::Clock);
-    let m = first_of(c, !same(r.still, h.still), Reason::Mixed);
+    let m = first_of(c, mixed, Reason::Mixed);
     let fault = first_of(m, long, Reason::Long);
     let fill = filled(fault, r.fill, n);
     let stamp = earlier(a, b);
     Run {
         fid: r.fid,
-        still: r.still,
+        still,
         fault,
         bytes,
         fill,
@@ -304,7 +306,14 @@ impl Track {
                 }
                 let f = r.fault;
                 let why = why_of(f, Reason::Cut);
-                join(o, begun(self.gap, h.fid, h.still), h, n, Ended::Frame(why), r.bytes)
+                join(
+                    o,
+                    begun(self.gap, h.fid, h.still),
+                    h,
+                    n,
+                    Ended::Frame(why),
+                    r.bytes,
+                )
             }
             Phase::Past(fid) => {
                 if same(fid, h.fid) {

@@ -12,12 +12,12 @@ use Rattle.ledger_text.specs.Report.{rows, rowAt}
 
 -- the code's tables
 abbrev pub widths : List ℕ
-widths = 9 ∷ 3 ∷ 5 ∷ 5 ∷ 4 ∷ 3 ∷ 5 ∷ 9 ∷ 5 ∷ 10 ∷ 7 ∷ 4 ∷ 4 ∷ 5 ∷ 8 ∷ 7 ∷ []
+widths = 9 ∷ 3 ∷ 5 ∷ 5 ∷ 4 ∷ 3 ∷ 5 ∷ 5 ∷ 5 ∷ 9 ∷ 5 ∷ 10 ∷ 7 ∷ 4 ∷ 4 ∷ 5 ∷ 8 ∷ 7 ∷ []
 
 abbrev pub names : List ℕ
 names =
     bytes
-    "delivered gap       error     clock     long      cut       empty     under way stray     unreadableheaders   lost      idle      ticks     backward  untimed   "
+    "delivered gap       error     clock     long      cut       empty     still     mixed     under way stray     unreadableheaders   lost      idle      ticks     backward  untimed   "
 
 pub width-right : (i : ℕ) → i < lineCount → getD widths i 0 ≡ length (rowAt i .name)
 unfolding rows
@@ -57,7 +57,7 @@ count-most i h = leb→le (rowAt i .count) 2 (below (λ i. leb (rowAt i .count) 
 pub total-most : (i : ℕ) → i < lineCount → total (take i rows) + rowAt i .count ≤ numberCount
 unfolding rows
 total-most i h =
-    leb→le (total (take i rows) + rowAt i .count) numberCount (below (λ i. leb (total (take i rows) + rowAt i .count) 27) lineCount tt i h)
+    leb→le (total (take i rows) + rowAt i .count) numberCount (below (λ i. leb (total (take i rows) + rowAt i .count) numberCount) lineCount tt i h)
 
 -- an array in a struct has its length
 pub length-of : (X Y : Type 0) (f : X → Y) (l : List X) (n : ℕ) → length (map f l) ≡ n → length l ≡ n

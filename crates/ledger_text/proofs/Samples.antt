@@ -24,8 +24,8 @@ unfolding decimal
 refused = refl
 
 counted : List ℕ
-counted = 0 ∷ 1 ∷ 2 ∷ 3 ∷ 4 ∷ 5 ∷ 6 ∷ 7 ∷ 8 ∷ 9 ∷ 10 ∷ 11 ∷ 12 ∷ 13 ∷ 14 ∷ 15 ∷ 16 ∷ 17 ∷ 18 ∷ 19 ∷ 20 ∷ 21 ∷ 22 ∷ 23 ∷ 24 ∷ 25 ∷ 26 ∷ []
+counted = 0 ∷ 1 ∷ 2 ∷ 3 ∷ 4 ∷ 5 ∷ 6 ∷ 7 ∷ 8 ∷ 9 ∷ 10 ∷ 11 ∷ 12 ∷ 13 ∷ 14 ∷ 15 ∷ 16 ∷ 17 ∷ 18 ∷ 19 ∷ 20 ∷ 21 ∷ 22 ∷ 23 ∷ 24 ∷ 25 ∷ 26 ∷ 27 ∷ 28 ∷ 29 ∷ 30 ∷ []
 
-ledger : textOf Good counted ≡ bytes "delivered 0 1\ngap 2 3\nerror 4 5\nclock 6 7\nlong 8 9\ncut 10 11\nempty 12 13\nunder way 14 15\nstray 16 17\nunreadable 18 19\nheaders 20 21\nlost 22\nidle 23\nticks 24\nbackward 25\nuntimed 26\n"
+ledger : textOf Good counted ≡ bytes "delivered 0 1\ngap 2 3\nerror 4 5\nclock 6 7\nlong 8 9\ncut 10 11\nempty 12 13\nstill 14 15\nmixed 16 17\nunder way 18 19\nstray 20 21\nunreadable 22 23\nheaders 24 25\nlost 26\nidle 27\nticks 28\nbackward 29\nuntimed 30\n"
 unfolding decimal rows counted
 ledger = refl

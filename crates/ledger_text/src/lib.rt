@@ -18,7 +18,7 @@ use trace::State;
 pub const ROOM: usize = 64 * Ledger::LINES;
 
 // How long the name of each line is, and how many numbers follow it: two of an account, one of any other.
-const WIDTHS: [usize; Ledger::LINES] = [9, 3, 5, 5, 4, 3, 5, 9, 5, 10, 7, 4, 4, 5, 8, 7];
+const WIDTHS: [usize; Ledger::LINES] = [9, 3, 5, 5, 4, 3, 5, 5, 5, 9, 5, 10, 7, 4, 4, 5, 8, 7];
 
 fn width(i: usize) -> usize
     requires { ⌜ i < lineCount ⌝ }
@@ -44,7 +44,7 @@ fn row(buf: &mut [u8], at: usize, i: usize, ns: &[u64]) -> usize
     ensures { λ r. ⌜ r ≤ at + 64 ⌝ }
 {
     let names: &[u8] =
-        b"delivered gap       error     clock     long      cut       empty     under way stray     unreadableheaders   lost      idle      ticks     backward  untimed   ";
+        b"delivered gap       error     clock     long      cut       empty     still     mixed     under way stray     unreadableheaders   lost      idle      ticks     backward  untimed   ";
     let from = 10 * i;
     let to = from + width(i);
     text::line(buf, at, &names[from..to], ns)

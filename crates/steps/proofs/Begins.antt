@@ -55,13 +55,13 @@ unfolding pick
 turn-fid o h n Fresh b = ended-fid (h .eof) _
 turn-fid o h n (Past f) b = go (sameOf f (h .fid)) refl
   where
-    go : (c : Bool) → sameOf f (h .fid) ≡ c → phaseFid (pick c (strayTurn f n) (joinTurn o (begunOf b (h .fid)) h n Nothing 0) .track .phase) ≡ of (h .fid)
+    go : (c : Bool) → sameOf f (h .fid) ≡ c → phaseFid (pick c (strayTurn f n) (joinTurn o (begunOf b (h .fid) (h .still)) h n Nothing 0) .track .phase) ≡ of (h .fid)
     go true e = ap of (same-fid f (h .fid) e)
     go false e = ended-fid (h .eof) _
 turn-fid o h n (Under x) b = go (sameOf (x .fid) (h .fid)) refl
   where
     go : (c : Bool) → sameOf (x .fid) (h .fid) ≡ c →
-        phaseFid (pick c (joinTurn o x h n Nothing 0) (joinTurn o (begunOf b (h .fid)) h n (Frame (whyOf (x .fault) Cut)) (x .bytes)) .track .phase) ≡ of (h .fid)
+        phaseFid (pick c (joinTurn o x h n Nothing 0) (joinTurn o (begunOf b (h .fid) (h .still)) h n (Frame (whyOf (x .fault) Cut)) (x .bytes)) .track .phase) ≡ of (h .fid)
     go true e = ended-fid (h .eof) _ ∙ ap of (same-fid (x .fid) (h .fid) e)
     go false e = ended-fid (h .eof) _
 

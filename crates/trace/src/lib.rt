@@ -41,7 +41,7 @@ pub struct Trace {
     pub state: State,
 }
 
-// What is printed: the ledger's sixteen lines, or one line in their place.
+// What is printed: the ledger's lines, or one line in their place.
 pub struct Printed {
     pub state: State,
     pub ledger: Ledger,

@@ -8,6 +8,7 @@ pub fn all() -> Vec<Case> {
     let mut all = transfers();
     all.extend(frames());
     all.extend(fault_pairs());
+    all.extend(stills());
     all.extend(earlier_boxes());
     all.extend(openings());
     all
@@ -163,12 +164,13 @@ fn fault_pairs() -> Vec<Case> {
             1 => vec![Call::Transfer(vec![2]), send(0, &[5])],
             2 => vec![send(ERROR, &[6])],
             3 => vec![stamped(0, wrong, &[7])],
+            4 => vec![send(STILL, &[9])],
             _ => vec![send(0, &[8; 20])],
         }
     };
     let mut all = Vec::new();
-    for a in 0..5 {
-        for b in 0..5 {
+    for a in 0..6 {
+        for b in 0..6 {
             for end in 0..3 {
                 let mut calls = vec![stamped(0, 7, &[1, 2])];
                 calls.extend(faulty(a, false));
@@ -183,8 +185,8 @@ fn fault_pairs() -> Vec<Case> {
             }
         }
     }
-    // In one transfer: a gap before it, D6, another stamp, too much data, each with and without, with EOF and without, as the frame's first or not.
-    for bits in 0..64u8 {
+    // In one transfer: a gap before it, D6, another stamp, too much data, D5, each with and without, with EOF and without, as the frame's first or not.
+    for bits in 0..128u8 {
         let on = |n: u8| bits >> n & 1 == 1;
         let mut calls = Vec::new();
         if on(5) {
@@ -193,12 +195,65 @@ fn fault_pairs() -> Vec<Case> {
         if on(0) {
             calls.push(Call::Lost);
         }
-        let flags = if on(1) { ERROR } else { 0 } | if on(4) { EOF } else { 0 };
+        let flags = if on(1) { ERROR } else { 0 } | if on(4) { EOF } else { 0 } | if on(6) { STILL } else { 0 };
         let data = if on(3) { vec![2; 20] } else { vec![3] };
         calls.push(stamped(flags, if on(2) { 8 } else { 7 }, &data));
         calls.push(send(FID | EOF, &[9]));
         calls.push(Call::Close);
         all.push(session(8, 64, 10, calls));
+    }
+    all
+}
+
+/// Stills among the film, and frames whose bit is mixed.
+fn stills() -> Vec<Case> {
+    let mut all = Vec::new();
+    let mut add = |calls: Vec<Call>| {
+        all.push(session(8, 32, 12, calls.clone()));
+        let mut closed = calls;
+        closed.push(Call::Close);
+        all.push(session(8, 32, 12, closed));
+    };
+    // Delivered, of several transfers, empty, under way, cut, long, with a gap before it or within, with an error, with two stamps.
+    add(vec![send(STILL | EOF, &[1])]);
+    add(vec![send(STILL, &[1, 2]), send(STILL, &[]), send(STILL | EOF, &[3])]);
+    add(vec![send(STILL | EOF, &[])]);
+    add(vec![send(STILL, &[1])]);
+    add(vec![send(STILL, &[1]), send(FID | EOF, &[2])]);
+    add(vec![send(STILL | EOF, &[1; 8])]);
+    add(vec![send(STILL | EOF, &[1; 9])]);
+    add(vec![Call::Lost, send(STILL | EOF, &[1])]);
+    add(vec![send(STILL, &[1]), Call::Transfer(vec![2]), send(STILL | EOF, &[2])]);
+    add(vec![send(STILL | EOF | ERROR, &[1])]);
+    add(vec![stamped(STILL, 5, &[1]), stamped(STILL | EOF, 6, &[2])]);
+    add(vec![send(STILL, &[1]), stamped(STILL | EOF, 6, &[2])]);
+    // D5 of a stray and of an unreadable transfer is ignored; so is that of a frame's neighbours.
+    add(vec![send(EOF, &[1]), send(STILL, &[2]), send(FID | EOF, &[3])]);
+    add(vec![send(STILL | EOF, &[1]), send(0, &[2]), send(FID | STILL | EOF, &[3])]);
+    add(vec![send(0, &[1]), Call::Transfer(vec![2, STILL]), send(EOF, &[2])]);
+    add(vec![send(EOF, &[1]), send(FID | STILL | EOF, &[2]), send(EOF, &[3])]);
+    // Mixed: the bit differs from the first transfer's, in the second or a later one, and whether or not it turns back.
+    for first in [0, STILL] {
+        let other = STILL ^ first;
+        add(vec![send(first, &[1]), send(other | EOF, &[2])]);
+        add(vec![send(first, &[1]), send(first, &[2]), send(other, &[3]), send(other | EOF, &[4])]);
+        add(vec![send(first, &[1]), send(other, &[2]), send(first | EOF, &[3]), send(FID | first | EOF, &[4])]);
+        add(vec![send(first, &[]), send(other | EOF, &[])]);
+        add(vec![send(first, &[1]), send(other, &[2])]);
+        add(vec![send(first, &[1]), send(other, &[2]), send(FID | EOF, &[3])]);
+        add(vec![send(first, &[1]), send(other, &[2]), Call::Lost, send(first | EOF, &[3])]);
+        add(vec![send(first, &[1]), Call::Lost, send(other, &[2]), send(first | EOF, &[3])]);
+        add(vec![send(first, &[1; 8]), send(other | EOF, &[2])]);
+        add(vec![send(first, &[1; 9]), send(other | EOF, &[2])]);
+        add(vec![send(first, &[1]), send(other | EOF | ERROR, &[2; 9])]);
+        add(vec![stamped(first, 5, &[1]), stamped(other | EOF, 6, &[2; 9])]);
+    }
+    // A still ends no step, starts none and is not untimed.
+    for (a, b, c) in [(10, 50, 30), (10, 5, 30), (0, 0x8000_0000, 0x7FFF_FFFF), (30, 20, 10)] {
+        add(vec![stamped(EOF, a, &[1]), stamped(FID | STILL | EOF, b, &[2]), stamped(EOF, c, &[3])]);
+        add(vec![stamped(STILL | EOF, a, &[1]), stamped(FID | EOF, b, &[2]), stamped(STILL | EOF, c, &[3])]);
+        add(vec![stamped(EOF, a, &[1]), send(FID | STILL | EOF, &[2]), stamped(EOF, c, &[3])]);
+        add(vec![stamped(STILL | EOF, a, &[1]), stamped(FID | STILL | EOF, b, &[2]), stamped(EOF, c, &[3])]);
     }
     all
 }

@@ -37,7 +37,7 @@ pub fn write(stdin: &str, stdout: &str) -> Result<(), String> {
     std::fs::write(stdout, wanted.concat()).map_err(|e| format!("{stdout}: {e}"))
 }
 
-/// Fails unless every number and every fate of document 01 occurs in the answers.
+/// Fails unless every number and every fate of document 01, and those of request Ten, occur in the answers.
 fn covered(answers: &[String]) -> Result<(), String> {
     let mut seen: BTreeSet<String> = BTreeSet::new();
     for line in answers.iter().flat_map(|a| a.lines()) {
@@ -54,10 +54,10 @@ fn covered(answers: &[String]) -> Result<(), String> {
     let numbers = (1..=16).chain(20..=38).chain(41..=47).chain(50..=53).chain([55]);
     let mut wanted: Vec<String> = numbers.map(|n| format!("refused {n}")).collect();
     wanted.extend((61..=66).map(|n| format!("unreadable {n}")));
-    wanted.extend(["idle", "kept", "stray", "delivered", "dropped", "unreadable"].map(|f| format!("fate {f}")));
-    wanted.extend(["gap", "error", "clock", "long", "empty"].map(|f| format!("dropped {f}")));
-    wanted.extend(["none", "gap", "error", "clock", "long", "cut"].map(|f| format!("ended {f}")));
-    wanted.extend(["none", "gap", "error", "clock", "long", "cut"].map(|f| format!("closed {f}")));
+    wanted.extend(["idle", "kept", "stray", "delivered", "still", "dropped", "unreadable"].map(|f| format!("fate {f}")));
+    wanted.extend(["gap", "error", "clock", "mixed", "long", "empty"].map(|f| format!("dropped {f}")));
+    wanted.extend(["none", "gap", "error", "clock", "mixed", "long", "cut"].map(|f| format!("ended {f}")));
+    wanted.extend(["none", "gap", "error", "clock", "mixed", "long", "cut"].map(|f| format!("closed {f}")));
     wanted.extend(["control", "streaming", "check", "probe", "write"].map(|f| format!("{f} accepted")));
     let missing: Vec<String> = wanted.into_iter().filter(|w| !seen.contains(w)).collect();
     if missing.is_empty() {

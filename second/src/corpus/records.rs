@@ -5,7 +5,7 @@ use crate::cases::Case;
 use crate::session::{Phase, Record};
 
 fn plain_record() -> Record {
-    Record { frame: 8, payload: 32, closed: false, taken: 10, phase: Phase::Fresh, gap: false, numbers: [0; 27], last: None }
+    Record { frame: 8, payload: 32, closed: false, taken: 10, phase: Phase::Fresh, gap: false, numbers: [0; 31], last: None }
 }
 
 /// 50, and 53, 52, 51, 55 in their order.
@@ -15,12 +15,12 @@ pub fn all() -> Vec<Case> {
     let long = vec![2; 65_537];
     let mut add = |r: &Record, room: usize, t: &[u8]| all.push(Case::Forged(r.clone(), vec![0xAA; room], t.to_vec()));
     // Each number at its limit and past it.
-    for i in 0..27 {
+    for i in 0..31 {
         for taken in [0u32, 10, u32::MAX] {
             let n = u64::from(taken);
             let most = match i {
-                1 | 3 | 5 | 7 | 9 | 11 | 13 | 15 | 17 | 19 | 21 => n * 65_536,
-                24 => n << 31,
+                i if i < 26 && i % 2 == 1 => n * 65_536,
+                28 => n << 31,
                 _ => n,
             };
             for value in [most, most + 1] {
@@ -55,7 +55,7 @@ pub fn all() -> Vec<Case> {
         ] {
             for fid in [false, true] {
                 for gap in [false, true] {
-                    let phase = Phase::Under { fid, fault, bytes, fill, stamp: None };
+                    let phase = Phase::Under { fid, fault, bytes, fill, stamp: None, still: false };
                     add(&Record { phase, gap, ..plain_record() }, 9, &good);
                 }
             }
@@ -63,11 +63,24 @@ pub fn all() -> Vec<Case> {
     }
     for stamp in [None, Some(7), Some(8)] {
         for flags in [0, FID, ERROR, EOF, FID | ERROR] {
-            let phase = Phase::Under { fid: false, fault: 0, bytes: 2, fill: 2, stamp };
+            let phase = Phase::Under { fid: false, fault: 0, bytes: 2, fill: 2, stamp, still: false };
             add(&Record { phase, ..plain_record() }, 9, &transfer(END | PTS | flags, 7, 0, &[1, 2]));
         }
     }
-    add(&Record { taken: 0, phase: Phase::Under { fid: false, fault: 0, bytes: 0, fill: 0, stamp: None }, ..plain_record() }, 8, &good);
+    // The still bit of the frame under way and that of the transfer; another FID begins a frame of its own bit.
+    for still in [false, true] {
+        for flags in [0, STILL, FID, FID | STILL, STILL | EOF, EOF] {
+            for fault in [0, 3] {
+                let phase = Phase::Under { fid: false, fault, bytes: 2, fill: 2, stamp: None, still };
+                add(&Record { phase, ..plain_record() }, 9, &transfer(END | flags, 0, 0, &[1, 2]));
+            }
+        }
+    }
+    add(
+        &Record { taken: 0, phase: Phase::Under { fid: false, fault: 0, bytes: 0, fill: 0, stamp: None, still: false }, ..plain_record() },
+        8,
+        &good,
+    );
     for fid in [false, true] {
         for gap in [false, true] {
             add(&Record { phase: Phase::Past(fid), gap, ..plain_record() }, 8, &good);

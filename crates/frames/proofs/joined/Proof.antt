@@ -5,6 +5,9 @@ use Rattle.frames.proofs.joined.Tie as tie
 add-bytes : tie.Need-add-bytes
 add-bytes c = search needs
 
+same-requires : tie.Need-same-requires
+same-requires c κs = search needs
+
 first-of-requires : tie.Need-first-of-requires
 first-of-requires c κs = search needs
 
@@ -16,9 +19,6 @@ first-of-requires-2 c κs = search needs
 
 first-of-requires-3 : tie.Need-first-of-requires-3
 first-of-requires-3 c κs = search needs
-
-same-requires : tie.Need-same-requires
-same-requires c κs = search needs
 
 first-of-requires-4 : tie.Need-first-of-requires-4
 first-of-requires-4 c κs = search needs
@@ -35,10 +35,10 @@ returns c = simp (
   c .before .filled .ensures,
   c .before .before .first-of4 .ensures,
   c .before .before .before .first-of3 .ensures,
-  c .before .before .before .before .same .ensures,
-  c .before .before .before .before .before .first-of2 .ensures,
-  c .before .before .before .before .before .before .clash .ensures,
-  c .before .before .before .before .before .before .before .first-of .ensures,
+  c .before .before .before .before .first-of2 .ensures,
+  c .before .before .before .before .before .clash .ensures,
+  c .before .before .before .before .before .before .first-of .ensures,
+  c .before .before .before .before .before .before .before .same .ensures,
 )
 
 pub joined-spec : {M : Type 1} → statement M
@@ -46,10 +46,10 @@ joined-spec =
     tie.close
     (tie.spec
     add-bytes
+    same-requires
     first-of-requires
     clash-requires
     first-of-requires-2
-    same-requires
     first-of-requires-3
     first-of-requires-4
     filled-requires
