@@ -1,7 +1,7 @@
 -- Where no readable transfer has D5, no frame is a still or mixed, and both accounts are zero.
 use Prim.Native.Nat.{ℕ, _+_}
-use mathlib.Core.Path.{_≡_, refl, sym, _∙_, subst}
-use mathlib.Core.Bool.{Bool, true, false, cond, _&&_}
+use mathlib.Core.Path.{_≡_, refl, sym, _∙_, ap, subst}
+use mathlib.Core.Bool.{Bool, true, false, cond, _&&_, true≢false}
 use mathlib.Core.List.{List, [], _∷_, _++_, map}
 use native.Mathlib.Omega.{arith}
 use native.Mathlib.Nat.{zero-add}
@@ -74,56 +74,51 @@ or-not : (p q : Fault) → NotMixed p → NotMixed q → NotMixed (p or q)
 or-not Sound q a b = b
 or-not (Bad w) q a b = a
 
-when-not : (b : Bool) (w : Reason) → (w ≡ Mixed → ⊥) → NotMixed (when b w)
-when-not true w h = h
+-- the other reasons
+abbrev isMixed : Reason → Bool
+isMixed Gap = false
+isMixed Error = false
+isMixed Clock = false
+isMixed Mixed = true
+isMixed Long = false
+isMixed Cut = false
+isMixed Empty = false
+
+other : (w : Reason) → isMixed w ≡ false → w ≡ Mixed → ⊥
+other w e q = true≢false (sym (ap isMixed q) ∙ e)
+
+when-not : (b : Bool) (w : Reason) → isMixed w ≡ false → NotMixed (when b w)
+when-not true w h = other w h
 when-not false w h = tt
-
-gap-not : Gap ≡ Mixed → ⊥
-gap-not e = let z : _≡_ {A = ℕ} 0 1 = cc in omega arith
-
-error-not : Error ≡ Mixed → ⊥
-error-not e = let z : _≡_ {A = ℕ} 0 1 = cc in omega arith
-
-clock-not : Clock ≡ Mixed → ⊥
-clock-not e = let z : _≡_ {A = ℕ} 0 1 = cc in omega arith
-
-long-not : Long ≡ Mixed → ⊥
-long-not e = let z : _≡_ {A = ℕ} 0 1 = cc in omega arith
-
-cut-not : Cut ≡ Mixed → ⊥
-cut-not e = let z : _≡_ {A = ℕ} 0 1 = cc in omega arith
-
-empty-not : Empty ≡ Mixed → ⊥
-empty-not e = let z : _≡_ {A = ℕ} 0 1 = cc in omega arith
 
 module _ (o : Opening) (s : Stamp) where
   at-not : (n : ℕ) (h : Header) (d : ℕ) → h .still ≡ false → NotMixed (faultAt o s false n h d)
   at-not n h d e =
-      or-not (when (h .error) Error) _ (when-not (h .error) Error error-not)
-      (or-not (when (differs s (h .stamp)) Clock) _ (when-not (differs s (h .stamp)) Clock clock-not)
-      (rw e (when-not (ltb (o .frame) (n + d)) Long long-not)))
+      or-not (when (h .error) Error) _ (when-not (h .error) Error refl)
+      (or-not (when (differs s (h .stamp)) Clock) _ (when-not (differs s (h .stamp)) Clock refl)
+      (rw e (when-not (ltb (o .frame) (n + d)) Long refl)))
 
   from-not : (n : ℕ) (ts : List Seen) → Clear ts → NotMixed (faultFrom o s false n ts)
   from-not n [] c = tt
   from-not n (t ∷ ts) c =
       or-not (faultAt o s false n (t .header) (length (t .load))) _ (at-not n (t .header) (length (t .load)) (c .0))
-      (or-not (when (gapAfter t) Gap) _ (when-not (gapAfter t) Gap gap-not) (from-not (n + length (t .load)) ts (c .1)))
+      (or-not (when (gapAfter t) Gap) _ (when-not (gapAfter t) Gap refl) (from-not (n + length (t .load)) ts (c .1)))
 
 fault-not : (o : Opening) (r : List Seen) → Clear r → NotMixed (fault o r)
-fault-not o r c = or-not (when (gapBefore r) Gap) _ (when-not (gapBefore r) Gap gap-not) (rw (still-clear r c) (from-not o (firstStamp r) 0 r c))
+fault-not o r c = or-not (when (gapBefore r) Gap) _ (when-not (gapBefore r) Gap refl) (rw (still-clear r c) (from-not o (firstStamp r) 0 r c))
 
 -- ---- and no still
 verdict-film : (w c : Bool) (q : Fault) (s : Stamp) (b : Bool) (n : ℕ) → NotMixed q → b ≡ false → NoStill (verdict w c q s b n)
 verdict-film w true (Bad k) s b n h e = h
-verdict-film w true Sound s true n h e = absurd (let z : _≡_ {A = ℕ} 0 1 = cc in omega arith)
+verdict-film w true Sound s true n h e = absurd (true≢false e)
 verdict-film w true Sound s false n h e = go (eqb n 0)
   where
     go : (c : Bool) → NoStill (cond c (Entry.Dropped Empty n) (Entry.Delivered (record { len = n; stamp = s })))
-    go true = empty-not
+    go true = other Empty refl
     go false = tt
 verdict-film true false q s b n h e = tt
 verdict-film false false (Bad k) s b n h e = h
-verdict-film false false Sound s b n h e = cut-not
+verdict-film false false Sound s b n h e = other Cut refl
 
 none-append : (xs ys : List Entry) → NoneStill xs → NoneStill ys → NoneStill (xs ++ ys)
 none-append [] ys a b = b
@@ -174,14 +169,14 @@ entry-line (Entry.Headers n) h = (λ e. omega arith, λ e. omega arith)
 entry-line Entry.Lost h = (λ e. omega arith, λ e. omega arith)
 entry-line Entry.Idle h = (λ e. omega arith, λ e. omega arith)
 
-module _ (k : ℕ) (other : (x : Entry) → NoStill x → lineOf x ≡ k → ⊥) where
+module _ (k : ℕ) (apart : (x : Entry) → NoStill x → lineOf x ≡ k → ⊥) where
   none-one : (es : List Entry) → NoneStill es → total (oneIn k) es ≡ 0
   none-one [] f = refl
-  none-one (x ∷ es) f = rw (ne-eqb (lineOf x) k (other x (f .0))) (zero-add _ ∙ none-one es (f .1))
+  none-one (x ∷ es) f = rw (ne-eqb (lineOf x) k (apart x (f .0))) (zero-add _ ∙ none-one es (f .1))
 
   none-part : (es : List Entry) → NoneStill es → total (partIn k) es ≡ 0
   none-part [] f = refl
-  none-part (x ∷ es) f = rw (ne-eqb (lineOf x) k (other x (f .0))) (zero-add _ ∙ none-part es (f .1))
+  none-part (x ∷ es) f = rw (ne-eqb (lineOf x) k (apart x (f .0))) (zero-add _ ∙ none-part es (f .1))
 
 pub without-stills : (o : Opening) (cs : List Call) (l : Ledger) → Right o cs l → Film (events o cs) → WithoutStills o cs l
 without-stills o cs l r f =
