@@ -22,15 +22,15 @@ pub enum Fault {
     Bad(Reason),
 }
 
-// A frame under way: its run's FID, its first transfer's still bit, its earliest fault, its data so far, how much of it is
-// written, and its first stamp.
+// A frame under way: its data so far, how much of it is written, its first stamp, its run's FID, its first transfer's still
+// bit, and its earliest fault.
 pub struct Run {
-    pub fid: bool,
-    pub still: bool,
-    pub fault: Fault,
     pub bytes: u64,
     pub fill: usize,
     pub stamp: Stamp,
+    pub fid: bool,
+    pub still: bool,
+    pub fault: Fault,
 }
 
 pub enum Phase {
