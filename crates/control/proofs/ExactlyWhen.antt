@@ -16,7 +16,7 @@ use Rattle.rules.proofs.Walks.{walk-done, walk-stop}
 use Rattle.blocks.specs.Blocks.{wholeRows}
 use Rattle.entities.specs.Table.{noTable, entityAt}
 use Rattle.entities.specs.declared.Entity.{Entity}
-use Rattle.control_rules.specs.Rules.{headRows, rows, entityRows}
+use Rattle.control_rules.specs.Rules.{headRows, rowsIn, kindRows, entityRows}
 use Rattle.sources.specs.Sources.{Breaks13, Breaks14, Breaks15, None, Judged, Judged.thirteen, Judged.fourteen, Judged.fifteen, Judged.fine}
 use Rattle.control.specs.Answer.{course, refusedBy, tableOf, ControlIs, ControlIs.block, ControlIs.descriptor, ControlIs.source, ControlIs.sound}
 use Rattle.control.specs.Broken.{BlockRight, Entities, Kept, Sound, FirstEntity, FirstBroken, FirstBroken.by-block, FirstBroken.by-descriptor, FirstBroken.by-13, FirstBroken.by-14, FirstBroken.by-15}
@@ -129,7 +129,7 @@ module _ (s : List ℕ) where
   head-few g = given-each (λ k. k < 5) g (omega arith)
 
   pub rows-few : {k o : ℕ} → FirstBreak (course s) k o → k < 13
-  unfolding rows entityRows
+  unfolding rowsIn kindRows entityRows
   rows-few f = given-each (λ k. k < 13) (f .given) (omega arith)
 
   to-loop : {k o : ℕ} → FirstBroken s k o → k ≡ 15 → Looped o

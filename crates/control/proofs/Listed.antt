@@ -21,9 +21,10 @@ use Rattle.entities.specs.declared.Entity.{Entity}
 use Rattle.entities.specs.declared.Found.{Found}
 use Rattle.entities.specs.declared.Found.the-variants.{At, Nothing}
 use Rattle.entities.proofs.Finding.{found-within}
-use Rattle.control_rules.specs.Descriptors.{kindOf, kindAt, lenAt, isEntity, sourcePlace}
+use Rattle.control_rules.specs.Descriptors.{revisionOf, knownAs, kindOf, kindAt, lenAt, isEntity, sourcePlace}
 use Rattle.control_rules.specs.Rules.{entityOf, entitiesAt}
 use Rattle.control_rules.proofs.Within.{sources-within}
+use Rattle.control_rules.proofs.Subtypes.{entity-known}
 use Rattle.sources.specs.Sources.{sourcesOf, sourceAt}
 use Rattle.control.specs.Answer.{usedBefore, course, tableOf, ControlIs}
 use Rattle.control.specs.Broken.{Entities, Sound}
@@ -140,4 +141,5 @@ module _ (s : List ℕ) where
       → (sourcePlace (kindOf (e .kind)) + sourcesOf s e ≤ lenAt s (e .offset)) × (e .offset + lenAt s (e .offset) ≤ length s)
   sources-inside before e w =
       let k : e .kind ≡ byte s (e .offset) 2 = ap (λ (x : Entity). x .kind) (w .same) in
-      (rw k (sources-within (kindAt s (e .offset)) s (e .offset) (w .shaped)), w .shaped .inside)
+      let n : knownAs (revisionOf s) (byte s (e .offset) 2) ≡ byte s (e .offset) 2 = entity-known (revisionOf s) (byte s (e .offset) 2) (w .entity) in
+      (rw (k, ← n) (sources-within (kindAt s (e .offset)) s (e .offset) (w .shaped)), w .shaped .inside)

@@ -11,10 +11,12 @@ use Rattle.rules.specs.Chain.{Chain.one}
 use Rattle.rules.specs.Walk.{walkFrom, walk}
 use Rattle.rules.specs.declared.Verdict.the-variants.{Accepted}
 use Rattle.entities.specs.Table.{noTable, findFrom}
+use Rattle.entities.specs.Revisions.{saysOf}
 use Rattle.entities.specs.declared.Entity.{Entity}
-use Rattle.control_rules.specs.Descriptors.{kindOf, fixedAt, countedAt, inputAt, shape, isEntity, terminalOf, sourceCount, sourcePlace}
+use Rattle.entities.specs.declared.Revision.the-variants.{R15}
+use Rattle.control_rules.specs.Descriptors.{revisionBy, knownAs, kindOf, fixedAt, countedAt, sizedAt, inputAt, shape, isEntity, terminalOf, sourceCount, sourcePlace}
 use Rattle.blocks.specs.Blocks.{wholeRows, lengthBroken, typeBroken}
-use Rattle.control_rules.specs.Rules.{revisionRight, pinCount, pinsRight, entityRows, rows, entitiesAt}
+use Rattle.control_rules.specs.Rules.{isRevision, revisionRight, pinCount, pinsRight, entityRows, kindRows, rowsIn, entitiesAt}
 use Rattle.sources.specs.Sources.{Breaks13, Breaks15, Judged.thirteen, Judged.fifteen}
 use Rattle.sources.proofs.Loops.{allBelow, earlier, orderly, orderly-is, orderly-fine, plain, allPlain, plain-found, plain-kept, feed-each-other, feeds-itself}
 use Rattle.control.specs.Answer.{usedBefore, refusedBy, acceptedWith, ControlIs, ControlIs.source, ControlIs.sound}
@@ -72,7 +74,7 @@ first-here l P p = record { within = omega arith; before = λ i h. absurd (omega
 
 pub record Samples : Type 0 where
   -- P: the header alone: accepted, no entities, 48,000,000 Hz
-  pub header-alone : ControlIs (header 0x0C) (record { verdict = Accepted; table = record { count = 0; entities = noTable .entities; clock = 48000000 } })
+  pub header-alone : ControlIs (header 0x0C) (record { verdict = Accepted; table = record { count = 0; entities = noTable .entities; clock = 48000000; revision = R15 } })
   -- P: a selector that names itself: 15 at 12. P: one that names nothing: 13 at 12
   pub names-itself : ControlIs (header 0x13 ++ selector 5 5) (refusedBy 15 12)
   pub names-nothing : ControlIs (header 0x13 ++ selector 5 6) (refusedBy 13 12)
@@ -82,7 +84,7 @@ pub record Samples : Type 0 where
   pub unreached-loop : ControlIs apart (refusedBy 15 12)
 
 pub samples : Samples
-unfolding wholeRows rows lengthBroken typeBroken shape countedAt fixedAt inputAt kindOf revisionRight entityRows isEntity pinsRight pinCount terminalOf usedBefore entitiesAt pick walkFrom walk sourceCount sourcePlace findFrom allBelow earlier orderly plain allPlain
+unfolding wholeRows rowsIn kindRows lengthBroken typeBroken saysOf revisionBy knownAs shape countedAt fixedAt sizedAt inputAt kindOf isRevision revisionRight entityRows isEntity pinsRight pinCount terminalOf usedBefore entitiesAt pick walkFrom walk sourceCount sourcePlace findFrom allBelow earlier orderly plain allPlain
 samples = record {
   header-alone = sound [] (refl, (refl, (refl, (refl, tt)))) refl (orderly-fine (header 0x0C) [] (orderly-is (header 0x0C) [] refl));
   names-itself = source (at-twelve ∷ []) 15 12 (refl, (refl, (refl, (refl, tt)))) refl

@@ -23,10 +23,11 @@ use Rattle.blocks.proofs.Right.{placed, sizes}
 use Rattle.entities.specs.Table.{entitiesMost, noEntity, noTable, used}
 use Rattle.entities.specs.declared.Entity.{Entity}
 use Rattle.entities.specs.declared.Table.{Table}
+use Rattle.entities.specs.declared.Revision.{Revision}
 use Rattle.marks.specs.Marks.{noMarks, marked, withMark}
 use Rattle.marks.proofs.Sets.{Good, good-none, good-with, none-marked, with-marked}
-use Rattle.control_rules.specs.Descriptors.{lenAt, kindAt, isEntity, Shaped}
-use Rattle.control_rules.specs.Rules.{limits, headRows, entityRows, rows, entityOf, entitiesAt}
+use Rattle.control_rules.specs.Descriptors.{lenAt, revisionOf, knownAs, kindOf, kindAt, isEntity, Shaped}
+use Rattle.control_rules.specs.Rules.{limits, headRows, entityRows, kindRows, rowsIn, rows, entityOf, entitiesAt}
 use Rattle.control_rules.proofs.Shortest.{sub-room, id-room}
 use Rattle.sources.specs.Sources.{Judged}
 use Rattle.control.specs.Answer.{usedBefore, course, refusedBy, ControlIs, ControlIs.block, ControlIs.descriptor, ControlIs.source, ControlIs.sound}
@@ -40,7 +41,7 @@ pub record Fine (s : List ℕ) (o : ℕ) (u : Bool) (n : ℕ) : Type 0 where
   pub nonzero : isEntity (kindAt s o) ≡ true → eqb (byte s o 3) 0 ≡ false
 
 pub fine : (s : List ℕ) (o : ℕ) (u : Bool) (n : ℕ) → NoneOf (rows s o u n) → Fine s o u n
-unfolding rows entityRows
+unfolding rowsIn kindRows entityRows
 fine s o u n d = let p = placed s o (d .0) in record {
   shaped = record { long = p .long; inside = p .inside; right = not-false _ (d .1 .1 .0) };
   few = λ e. leb-false entitiesMost n (rw e at (d .1 .1 .1 .1 .1 .1 .0));
@@ -54,7 +55,7 @@ unfolding wholeRows
 head-numbered s = omega arith
 
 pub numbered : (s : List ℕ) (o : ℕ) (u : Bool) (n : ℕ) → Numbered (rows s o u n)
-unfolding rows entityRows
+unfolding rowsIn kindRows entityRows
 numbered s o u n = omega arith
 
 -- ---- the course is steady: a descriptor that breaks no rule has a length and lies within the block
@@ -78,6 +79,10 @@ pub record Reading (s : List ℕ) (t : Table) (m : List ℕ) (at : ℕ) : Type 0
 pub begins : (s : List ℕ) → Reading s noTable noMarks 0
 unfolding usedBefore
 begins s = record { seen = []; walking = starts (course s); counted = refl; room = omega arith; kept = refl; good = good-none; ids = none-marked }
+
+-- what the code asks of a subtype, by the block's revision
+pub said-entity : (s : List ℕ) (o : ℕ) (v : Revision) (z : ℕ) (r b : Bool) → v ≡ revisionOf s → z ≡ knownAs v (byte s o 2) → r ≡ isEntity (kindOf z) → r ≡ b → isEntity (kindAt s o) ≡ b
+said-entity s o v z r b e k i q = rw (← e, ← k) (sym i ∙ q)
 
 -- ---- one turn of the walk: a descriptor stands here, after what was read
 pub record Turn (s : List ℕ) (t : Table) (m : List ℕ) (o : ℕ) : Type 0 where
@@ -163,8 +168,8 @@ module _ (s : List ℕ) (t : Table) (m : List ℕ) (o : ℕ) (w : Reading s t m 
     walked : walk (course s) ≡ done (w .seen)
     walked = ends (course s) (w .seen) o (w .walking) h
 
-    pub accepts : (k : ℕ) → v ≡ Accepted → k ≡ le32At s 7 → ControlIs s (record { verdict = Accepted; table = record { count = t .count; entities = t .entities; clock = k } })
-    accepts k e q = rw (q, w .kept, w .counted) (sound (w .seen) z walked (rw (e, all-used) at j))
+    pub accepts : (k : ℕ) (x : Revision) → v ≡ Accepted → k ≡ le32At s 7 → x ≡ revisionOf s → ControlIs s (record { verdict = Accepted; table = record { count = t .count; entities = t .entities; clock = k; revision = x } })
+    accepts k x e q y = rw (q, y, w .kept, w .counted) (sound (w .seen) z walked (rw (e, all-used) at j))
 
     pub rejects : (k p : ℕ) (x : Control) → v ≡ Refused k p → x ≡ refusedBy k p → ControlIs s x
     rejects k p x e q = rw q (source (w .seen) k p z walked (rw (e, all-used) at j))

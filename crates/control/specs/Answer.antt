@@ -13,7 +13,7 @@ use Rattle.rules.specs.declared.Verdict.the-variants.{Accepted, Refused}
 use Rattle.entities.specs.Table.{entitiesMost, noEntity, noTable}
 use Rattle.entities.specs.declared.Entity.{Entity}
 use Rattle.entities.specs.declared.Table.{Table}
-use Rattle.control_rules.specs.Descriptors.{lenAt}
+use Rattle.control_rules.specs.Descriptors.{lenAt, revisionOf}
 use Rattle.control_rules.specs.Rules.{headRows, rows, entitiesAt}
 use Rattle.sources.specs.Sources.{Judged}
 use Rattle.control.specs.declared.Control.{Control}
@@ -33,12 +33,12 @@ course s = record {
   gather = λ seen o. seen ++ entitiesAt s o;
 }
 
--- refused: an all-zero table. Accepted: the entities in block order, unused places zero, and the clock frequency
+-- refused: an all-zero table that says 1.5. Accepted: the entities in block order, unused places zero, the clock frequency and the revision
 abbrev pub refusedBy : ℕ → ℕ → Control
 refusedBy k o = record { verdict = Refused k o; table = noTable }
 
 abbrev pub tableOf : List ℕ → List Entity → Table
-tableOf s seen = record { count = length seen; entities = pad entitiesMost noEntity seen; clock = le32At s 7 }
+tableOf s seen = record { count = length seen; entities = pad entitiesMost noEntity seen; clock = le32At s 7; revision = revisionOf s }
 
 abbrev pub acceptedWith : List ℕ → List Entity → Control
 acceptedWith s seen = record { verdict = Accepted; table = tableOf s seen }

@@ -7,7 +7,7 @@ ghost use Rattle.control.specs.Answer.{ControlIs, refusedBy};
 use entities::Table;
 use rules::Verdict;
 
-// The verdict, and the entity table: all zero where the block is refused.
+// The verdict, and the entity table: all zero, and of revision 1.5, where the block is refused.
 pub struct Control {
     pub verdict: Verdict,
     pub table: Table,
@@ -29,16 +29,17 @@ fn walk(s: &[u8]) -> Control
     requires { ⌜ NoneOf (headRows (now s)) ⌝ }
     ensures { λ r. ⌜ ControlIs (now (s .entry)) r ⌝ }
 {
+    let revision = control_rules::revision_of(s);
     let mut table = entities::no_table();
     let mut marks = marks::none();
     let mut at: usize = 0;
     while at < s.len() {
         let count = table.count;
-        let broken = control_rules::rule_at(s, at, count, &marks);
+        let broken = control_rules::rule_at(s, at, count, &marks, revision);
         if broken != 0 {
             return refused(broken, at);
         }
-        if control_rules::is_entity(s[at + 2]) {
+        if control_rules::is_entity(control_rules::known_as(revision, s[at + 2])) {
             marks::with(&mut marks, s[at + 3]);
             table.entities[count] = control_rules::entity_at(s, at);
             table.count = count + 1;
@@ -47,7 +48,12 @@ fn walk(s: &[u8]) -> Control
     }
     match sources::judge(s, table) {
         Verdict::Accepted => {
-            table.clock = le::le32(s, 7);
+            let table = Table {
+                count: table.count,
+                entities: table.entities,
+                clock: le::le32(s, 7),
+                revision,
+            };
             Control {
                 verdict: Verdict::Accepted,
                 table,

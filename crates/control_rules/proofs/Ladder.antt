@@ -1,5 +1,5 @@
 -- What the tests of the rule functions say of the rules, in the order of the code.
-use Prim.Native.Nat.{ℕ, _+_, _<_}
+use Prim.Native.Nat.{ℕ, _+_, _≤_, _<_}
 use mathlib.Core.Path.{_≡_, refl, sym, _∙_}
 use mathlib.Core.List.{List}
 use mathlib.Core.Bool.{Bool, true, false, not, _&&_, true≢false}
@@ -8,7 +8,8 @@ use borrow.Author.Tests.{not-true, not-false}
 use Rattle.rules.specs.Numbered.{firstRow}
 use Rattle.blocks.specs.Blocks.{lengthBroken}
 use Rattle.blocks.proofs.Right.{said-placed}
-use Rattle.control_rules.specs.Descriptors.{Kind, header, input, output, selector, processing, extension, encoding, unknown, shape, isEntity, Shaped}
+use Rattle.entities.specs.declared.Revision.{Revision}
+use Rattle.control_rules.specs.Descriptors.{Kind, header, input, output, selector, processing, extension, encoding, unknown, lenAt, revisionOf, shape, isEntity, Shaped}
 use Rattle.control_rules.specs.Rules.{pinsRight, entityRows}
 use Rattle.control_rules.proofs.Shortest.{id-room}
 
@@ -36,5 +37,14 @@ no-entity k s o u n e h i = let f : isEntity k ≡ false = sym h ∙ not-true e 
 pub and-is : (k : Kind) (e b v : Bool) → e ≡ isEntity k → not e ≡ false → b ≡ v → (isEntity k && b) ≡ v
 and-is k e b v h i p = rw (← h, not-false e i) p
 
-pub shaped : (k : Kind) (s : List ℕ) (o : ℕ) (b : Bool) (q : Bool) → b ≡ lengthBroken s o → b ≡ false → q ≡ shape k s o → not q ≡ false → Shaped k s o
-shaped k s o b q e h f g = let p = said-placed s o b e h in record { long = p .long; inside = p .inside; right = sym f ∙ not-false q g }
+pub shaped : (v : Revision) (k : Kind) (s : List ℕ) (o : ℕ) (q : Bool) → v ≡ revisionOf s → 3 ≤ lenAt s o → o + lenAt s o ≤ length s → q ≡ shape v k s o → not q ≡ false → Shaped k s o
+shaped v k s o q z l i f g = record { long = l; inside = i; right = (rw z at (sym f)) ∙ not-false q g }
+
+pub len-in : (s : List ℕ) (o len : ℕ) → len ≡ lenAt s o → o + lenAt s o ≤ length s → o + len ≤ length s
+len-in s o len e h = rw e h
+
+pub placed-long : (s : List ℕ) (o : ℕ) (b : Bool) → b ≡ lengthBroken s o → b ≡ false → 3 ≤ lenAt s o
+placed-long s o b e h = said-placed s o b e h .long
+
+pub placed-inside : (s : List ℕ) (o : ℕ) (b : Bool) → b ≡ lengthBroken s o → b ≡ false → o + lenAt s o ≤ length s
+placed-inside s o b e h = said-placed s o b e h .inside

@@ -1,15 +1,19 @@
 -- What the arms and the defaults of the matches on a subtype number say of its kind.
 use Prim.Native.Nat.{ℕ, _+_, _≤_, _<_}
-use mathlib.Core.Path.{_≡_, refl}
+use mathlib.Core.Path.{_≡_, refl, sym}
 use mathlib.Core.List.{List}
-use mathlib.Core.Bool.{true, false}
+use mathlib.Core.Bool.{Bool, true, false, true≢false}
 use lib.ListN.{length}
-use lib.Dec.{leb}
-use borrow.Author.Tests.{lt-leb, le-leb}
+use lib.Dec.{leb, eqb}
+use borrow.Author.Tests.{lt-leb, le-leb, eq-eqb, ne-eqb, eqb-true}
 use native.Mathlib.Omega.{arith}
 use Rattle.le.specs.Le.{le16At}
-use Rattle.control_rules.specs.Descriptors.{kindOf, isEntity, terminalOf, Shaped}
-use Rattle.control_rules.specs.Rules.{pinsRight, revisionRight, pinCount}
+use Rattle.rules.specs.Pick.{pick}
+use Rattle.entities.specs.Revisions.{saysOf}
+use Rattle.entities.specs.declared.Revision.{Revision}
+use Rattle.entities.specs.declared.Says.{Says}
+use Rattle.control_rules.specs.Descriptors.{knownAs, kindOf, isEntity, terminalOf, Shaped}
+use Rattle.control_rules.specs.Rules.{pinsRight, isRevision, revisionRight, pinCount}
 use Rattle.control_rules.proofs.Shortest.{by-kind, shortest, room}
 
 module _ (s : List ℕ) (o : ℕ) where
@@ -71,3 +75,39 @@ pin-none p h = rw (lt-leb 1 p h)
 pub pin-some : (p : ℕ) → 1 ≤ p → leb p 16 ≡ pinCount p
 unfolding pinCount
 pin-some p h = rw (le-leb 1 p h)
+
+-- ---- the revision
+pub is-10 : (x : ℕ) → x ≡ 0x0100 → true ≡ isRevision x
+unfolding isRevision
+is-10 x h = rw (eq-eqb x 0x0100 h)
+
+pub is-11 : (x : ℕ) → (x ≡ 0x0100 → ⊥) → x ≡ 0x0110 → true ≡ isRevision x
+unfolding isRevision
+is-11 x n h = rw (ne-eqb x 0x0100 n, eq-eqb x 0x0110 h)
+
+pub is-15 : (x : ℕ) → (x ≡ 0x0100 → ⊥) → (x ≡ 0x0110 → ⊥) → eqb x 0x0150 ≡ isRevision x
+unfolding isRevision
+is-15 x n m = rw (ne-eqb x 0x0100 n, ne-eqb x 0x0110 m)
+
+pub known-other : (v : Revision) (x : ℕ) → (x ≡ 7 → ⊥) → x ≡ knownAs v x
+unfolding knownAs pick
+known-other v x n = rw (ne-eqb x 7 n)
+
+module _ (v : Revision) (y : Says) (e : y ≡ saysOf v) (x : ℕ) (h : x ≡ 7) where
+  pub known-yes : y .encoding ≡ true → 7 ≡ knownAs v x
+  unfolding knownAs pick
+  known-yes q = rw (h, ← e, q)
+
+  pub known-no : y .encoding ≡ false → 0 ≡ knownAs v x
+  unfolding knownAs pick
+  known-no q = rw (h, ← e, q)
+
+-- an entity's subtype is known to its revision
+pub entity-known : (v : Revision) (x : ℕ) → isEntity (kindOf (knownAs v x)) ≡ true → knownAs v x ≡ x
+unfolding knownAs pick kindOf isEntity
+entity-known v x h = go (eqb x 7) refl (saysOf v .encoding) refl h
+  where
+    go : (a : Bool) → eqb x 7 ≡ a → (b : Bool) → saysOf v .encoding ≡ b → isEntity (kindOf (pick a (pick b 7 0) x)) ≡ true → pick a (pick b 7 0) x ≡ x
+    go true p true q i = sym (eqb-true x 7 p)
+    go true p false q i = absurd (true≢false (sym i))
+    go false p b q i = refl

@@ -1,13 +1,24 @@
--- Document 01, "Control block": the table of descriptors, a line for each subtype. `s` is the block, and the descriptor starts at `o`.
+-- Document 01, "Control block", with document 02, request Four: the table of descriptors, a line for each subtype. `s` is the block, and the descriptor
+-- starts at `o`.
 use Prim.Native.Nat.{ℕ, zero, suc, _+_, _≤_}
 use mathlib.Core.Path.{_≡_}
 use mathlib.Core.List.{List}
-use mathlib.Core.Bool.{Bool, true, false, _&&_}
+use mathlib.Core.Bool.{Bool, true, false, not, _&&_}
 use lib.ListN.{length, getD}
 use lib.Dec.{leb, eqb}
 use Rattle.le.specs.Le.{byte, le16At}
 use Rattle.rules.specs.Pick.{pick}
+use Rattle.entities.specs.Revisions.{saysOf}
+use Rattle.entities.specs.declared.Revision.{Revision}
+use Rattle.entities.specs.declared.Revision.the-variants.{R10, R11, R15}
 pub use Rattle.blocks.specs.Blocks.{lenAt}
+
+-- ---- the revision: bcdUVC of the header, which stands first. What is no revision is refused by 8, and read as 1.5 until then
+unfoldable pub revisionBy : ℕ → Revision
+revisionBy x = pick (eqb x 0x0100) R10 (pick (eqb x 0x0110) R11 R15)
+
+abbrev pub revisionOf : List ℕ → Revision
+revisionOf s = revisionBy (le16At s 3)
 
 -- what a subtype number says, with one case for everything unknown
 pub data Kind : Type 0 where
@@ -24,9 +35,16 @@ kindOf (suc (suc (suc (suc (suc (suc zero)))))) = extension
 kindOf (suc (suc (suc (suc (suc (suc (suc zero))))))) = encoding
 kindOf (suc (suc (suc (suc (suc (suc (suc (suc n)))))))) = unknown
 
--- the kind by the subtype
+-- the subtype as a revision reads it: one without encoding units does not know 7, as none knows 0
+unfoldable pub knownAs : Revision → ℕ → ℕ
+knownAs v x = pick (eqb x 7) (pick (saysOf v .encoding) 7 0) x
+
+-- the kind by the subtype, as a revision reads it; and as the block's own does
+abbrev pub kindIn : Revision → List ℕ → ℕ → Kind
+kindIn v s o = kindOf (knownAs v (byte s o 2))
+
 abbrev pub kindAt : List ℕ → ℕ → Kind
-kindAt s o = kindOf (byte s o 2)
+kindAt s o = kindIn (revisionOf s) s o
 
 -- the terminal type of a camera
 abbrev pub camera : ℕ
@@ -42,23 +60,28 @@ fixedAt s o size k = eqb (lenAt s o) size && eqb (byte s o k) 3
 unfoldable pub countedAt : List ℕ → ℕ → ℕ → ℕ → Bool
 countedAt s o base k = eqb (lenAt s o) (base + byte s o k)
 
--- at least 8; exactly 18 for a camera, whose byte 14 is 3
-unfoldable pub inputAt : List ℕ → ℕ → Bool
-inputAt s o = leb 8 (lenAt s o) && pick (eqb (le16At s (o + 4)) camera) (fixedAt s o 18 14) true
+-- the length is `base` + n, n the control size, at `k`: as many as the revision allows
+unfoldable pub sizedAt : Revision → List ℕ → ℕ → ℕ → ℕ → Bool
+sizedAt v s o base k = countedAt s o base k && (leb (saysOf v .least) (byte s o k) && leb (byte s o k) (saysOf v .most))
+
+-- at least 8; for a camera 15 + n, n at 14
+unfoldable pub inputAt : Revision → List ℕ → ℕ → Bool
+inputAt v s o = leb 8 (lenAt s o) && pick (eqb (le16At s (o + 4)) camera) (sizedAt v s o (saysOf v .camera) 14) true
 
 -- 24+p+n: p at 21, and n at 22+p
 unfoldable pub extensionAt : List ℕ → ℕ → Bool
 extensionAt s o = eqb (lenAt s o) (24 + byte s o 21 + getD s (o + 22 + byte s o 21) 0)
 
-unfoldable pub shape : Kind → List ℕ → ℕ → Bool
-shape header s o = countedAt s o 12 11
-shape input s o = inputAt s o
-shape output s o = leb 9 (lenAt s o)
-shape selector s o = countedAt s o 6 4
-shape processing s o = fixedAt s o 13 7
-shape extension s o = extensionAt s o
-shape encoding s o = fixedAt s o 13 6
-shape unknown s o = true
+-- by the revision
+unfoldable pub shape : Revision → Kind → List ℕ → ℕ → Bool
+shape v header s o = countedAt s o 12 11
+shape v input s o = inputAt v s o
+shape v output s o = leb 9 (lenAt s o)
+shape v selector s o = countedAt s o 6 4
+shape v processing s o = sizedAt v s o (saysOf v .unit) 7
+shape v extension s o = extensionAt s o
+shape v encoding s o = fixedAt s o 13 6
+shape v unknown s o = true
 
 -- ---- what stands in the entity table: the kind, and the terminal type or 0
 unfoldable pub isEntity : Kind → Bool
@@ -107,8 +130,8 @@ pub data ControlsAt : Kind → ℕ → ℕ → Type 0 where
   camera-terminal : (t : ℕ) → t ≡ camera → ControlsAt input t 15
   processing-unit : (t : ℕ) → ControlsAt processing t 8
 
--- ---- a descriptor that lies in the block and has its kind's length and control size
+-- ---- a descriptor that lies in the block and has its kind's length and control size, by the block's revision
 pub record Shaped (k : Kind) (s : List ℕ) (o : ℕ) : Type 0 where
   pub long : 3 ≤ lenAt s o
   pub inside : o + lenAt s o ≤ length s
-  pub right : shape k s o ≡ true
+  pub right : shape (revisionOf s) k s o ≡ true

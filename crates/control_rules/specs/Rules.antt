@@ -1,7 +1,7 @@
 -- Document 01, "Numbers": rules 1 to 4 of a control block, and rules 5 to 12 of the descriptor at o, each with its number.
 use Prim.Native.Nat.{ℕ, _+_}
 use mathlib.Core.List.{List, [], _∷_}
-use mathlib.Core.Bool.{Bool, true, not, _&&_}
+use mathlib.Core.Bool.{Bool, true, not, _&&_, _||_}
 use lib.Dec.{leb, eqb}
 use Rattle.le.specs.Le.{byte, le16At}
 use Rattle.rules.specs.Pick.{pick}
@@ -10,7 +10,8 @@ use Rattle.blocks.specs.Blocks.{wholeRows, lengthBroken, typeBroken}
 use Rattle.blocks.specs.declared.Limits.{Limits}
 use Rattle.entities.specs.Table.{entitiesMost}
 use Rattle.entities.specs.declared.Entity.{Entity}
-use Rattle.control_rules.specs.Descriptors.{Kind, header, input, output, selector, processing, extension, encoding, unknown, kindAt, shape, isEntity, terminalOf}
+use Rattle.entities.specs.declared.Revision.{Revision}
+use Rattle.control_rules.specs.Descriptors.{Kind, header, input, output, selector, processing, extension, encoding, unknown, revisionOf, kindIn, kindAt, shape, isEntity, terminalOf}
 
 -- 1 to 4: as every block, with at least 12 and at most 4,096 bytes, and wTotalLength at 5
 abbrev pub limits : Limits
@@ -19,9 +20,12 @@ limits = record { least = 12; most = 4096; total = 5; first = 1 }
 abbrev pub headRows : List ℕ → List Row
 headRows s = wholeRows limits s
 
--- 8: bcdUVC not 0x0150
+-- 8: bcdUVC is none of 0x0100, 0x0110 and 0x0150
+unfoldable pub isRevision : ℕ → Bool
+isRevision x = eqb x 0x0100 || (eqb x 0x0110 || eqb x 0x0150)
+
 unfoldable pub revisionRight : Kind → List ℕ → ℕ → Bool
-revisionRight header s o = eqb (le16At s (o + 3)) 0x0150
+revisionRight header s o = isRevision (le16At s (o + 3))
 revisionRight input s o = true
 revisionRight output s o = true
 revisionRight selector s o = true
@@ -53,14 +57,23 @@ entityRows k s o used n =
     ∷ row 12 (not (pinsRight k s o))
     ∷ []
 
--- 5, 6: as in every block. 7: length or control size. 8: revision
-unfoldable pub rows : List ℕ → ℕ → Bool → ℕ → List Row
-rows s o used n =
+-- 7 to 12 of a descriptor of kind k, by a revision. 7: length or control size. 8: revision
+unfoldable pub kindRows : Revision → Kind → List ℕ → ℕ → Bool → ℕ → List Row
+kindRows v k s o used n =
+    row 7 (not (shape v k s o))
+    ∷ row 8 (not (revisionRight k s o))
+    ∷ entityRows k s o used n
+
+-- 5, 6: as in every block; then those of its kind, as the revision reads it
+unfoldable pub rowsIn : Revision → List ℕ → ℕ → Bool → ℕ → List Row
+rowsIn v s o used n =
     row 5 (lengthBroken s o)
     ∷ row 6 (typeBroken s o)
-    ∷ row 7 (not (shape (kindAt s o) s o))
-    ∷ row 8 (not (revisionRight (kindAt s o) s o))
-    ∷ entityRows (kindAt s o) s o used n
+    ∷ kindRows v (kindIn v s o) s o used n
+
+-- by the block's own
+abbrev pub rows : List ℕ → ℕ → Bool → ℕ → List Row
+rows s o used n = rowsIn (revisionOf s) s o used n
 
 -- what the descriptor at o puts into the entity table: one entity or none
 abbrev pub entityOf : List ℕ → ℕ → Entity

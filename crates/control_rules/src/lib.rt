@@ -2,17 +2,18 @@
 mod shape;
 
 ghost use mathlib.Core.Path.{_≡_};
-ghost use Prim.Native.Nat.{_<_, _≤_};
+ghost use Prim.Native.Nat.{_+_, _<_, _≤_};
 ghost use lib.ListN.{length};
 ghost use mathlib.Core.Bool.{true};
 ghost use Rattle.le.specs.Le.{byte};
 ghost use Rattle.rules.specs.Numbered.{firstRow};
 ghost use Rattle.marks.specs.Marks.{marked};
-ghost use Rattle.control_rules.specs.Descriptors.{kindOf, isEntity, terminalOf, Shaped};
-ghost use Rattle.control_rules.specs.Rules.{limits, headRows, rows, entityRows, revisionRight, pinCount, pinsRight, entityOf};
+ghost use Rattle.control_rules.specs.Descriptors.{lenAt, revisionBy, revisionOf, knownAs, kindOf, kindAt, isEntity, terminalOf, Shaped};
+ghost use Rattle.control_rules.specs.Rules.{limits, headRows, rowsIn, kindRows, entityRows, isRevision, revisionRight, pinCount, pinsRight, entityOf};
 use blocks::Limits;
 use entities::ENTITIES_MOST;
 use entities::Entity;
+use entities::Revision;
 use marks::Marks;
 
 const LIMITS: Limits = Limits {
@@ -24,7 +25,10 @@ const LIMITS: Limits = Limits {
 
 const PINS_MOST: u8 = 16;
 
-const REVISION: u16 = 0x0150;
+// bcdUVC of the three revisions.
+const REVISION_10: u16 = 0x0100;
+const REVISION_11: u16 = 0x0110;
+const REVISION_15: u16 = 0x0150;
 // The terminal type of a camera.
 pub const CAMERA: u16 = 0x0201;
 
@@ -35,11 +39,44 @@ pub fn head_rule(s: &[u8]) -> u8
     blocks::whole_rule(s, LIMITS)
 }
 
-// Inner: a descriptor starts at `at`.
+// Inner: the block has its header's bytes. The revision that it is read by.
+pub fn revision_of(s: &[u8]) -> Revision
+    requires { ⌜ 4 < length (now s) ⌝ }
+    ensures { λ r. ⌜ r ≡ revisionOf (now (s .entry)) ⌝ }
+{
+    revision_by(le::le16(s, 3))
+}
+
+fn revision_by(bcd: u16) -> Revision
+    ensures { λ r. ⌜ r ≡ revisionBy bcd ⌝ }
+{
+    if bcd == REVISION_10 {
+        return Revision::R10;
+    }
+    if bcd == REVISION_11 {
+        return Revision::R11;
+    }
+    Revision::R15
+}
+
+// The subtype as the revision reads it: 0, which is unknown, for an encoding unit where there are none.
+pub fn known_as(revision: Revision, sub: u8) -> u8
+    ensures { λ r. ⌜ r ≡ knownAs revision sub ⌝ }
+{
+    if sub != 7 {
+        return sub;
+    }
+    if entities::says_of(revision).encoding {
+        return 7;
+    }
+    0
+}
+
+// Inner: a descriptor starts at `at`, and the revision is the block's.
 // The first of rules 5 to 12 that it breaks, after `count` entities whose IDs are marked; 0 where none is broken.
-pub fn rule_at(s: &[u8], at: usize, count: usize, marks: &Marks) -> u8
-    requires { ⌜ at < length (now s) ⌝ }
-    ensures { λ r. ⌜ r ≡ firstRow (rows (now (s .entry)) at (marked (now (marks .entry)) (byte (now (s .entry)) at 3)) count) ⌝ }
+pub fn rule_at(s: &[u8], at: usize, count: usize, marks: &Marks, revision: Revision) -> u8
+    requires { ⌜ (at < length (now s)) × (revision ≡ revisionOf (now s)) ⌝ }
+    ensures { λ r. ⌜ r ≡ firstRow (rowsIn revision (now (s .entry)) at (marked (now (marks .entry)) (byte (now (s .entry)) at 3)) count) ⌝ }
 {
     if blocks::length_broken(s, at) {
         return 5;
@@ -47,23 +84,14 @@ pub fn rule_at(s: &[u8], at: usize, count: usize, marks: &Marks) -> u8
     if blocks::type_broken(s, at) {
         return 6;
     }
-    let len = le::wide(s[at]);
-    let sub = s[at + 2];
-    let shaped = shape::right(s, at, len, sub);
-    if !shaped {
-        return 7;
-    }
-    let known = revision_right(s, at, sub);
-    if !known {
-        return 8;
-    }
-    entity_rule(s, at, sub, count, marks)
+    let sub = known_as(revision, s[at + 2]);
+    kind_rule(s, at, sub, count, marks, revision)
 }
 
 // Inner: the descriptor at `at` is that of an entity, and lies in the block.
 pub fn entity_at(s: &[u8], at: usize) -> Entity
-    requires { ⌜ (at ≤ limits .most) × Shaped (kindOf (byte (now s) at 2)) (now s) at ⌝ }
-    requires { ⌜ isEntity (kindOf (byte (now s) at 2)) ≡ true ⌝ }
+    requires { ⌜ (at ≤ limits .most) × Shaped (kindAt (now s) at) (now s) at ⌝ }
+    requires { ⌜ isEntity (kindAt (now s) at) ≡ true ⌝ }
     ensures { λ r. ⌜ r ≡ entityOf (now (s .entry)) at ⌝ }
 {
     let sub = s[at + 2];
@@ -86,15 +114,45 @@ pub fn is_entity(sub: u8) -> bool
     }
 }
 
-// Rule 8: the header's revision.
+// Rules 7 to 12, of a descriptor of this subtype that lies in the block; 0 where none is broken.
+fn kind_rule(s: &[u8], at: usize, sub: u8, count: usize, marks: &Marks, revision: Revision) -> u8
+    requires { ⌜ (3 ≤ lenAt (now s) at) × (at + lenAt (now s) at ≤ length (now s)) ⌝ }
+    requires { ⌜ revision ≡ revisionOf (now s) ⌝ }
+    ensures { λ r. ⌜ r ≡ firstRow (kindRows revision (kindOf sub) (now (s .entry)) at (marked (now (marks .entry)) (byte (now (s .entry)) at 3)) count) ⌝ }
+{
+    let len = le::wide(s[at]);
+    let shaped = shape::right(s, at, len, sub, revision);
+    if !shaped {
+        return 7;
+    }
+    let known = revision_right(s, at, sub);
+    if !known {
+        return 8;
+    }
+    entity_rule(s, at, sub, count, marks)
+}
+
+// Rule 8: the header's revision is one of the three.
 fn revision_right(s: &[u8], at: usize, sub: u8) -> bool
     requires { ⌜ Shaped (kindOf sub) (now s) at ⌝ }
     ensures { λ r. ⌜ r ≡ revisionRight (kindOf sub) (now (s .entry)) at ⌝ }
 {
     match sub {
-        1 => le::le16(s, at + 3) == REVISION,
+        1 => is_revision(le::le16(s, at + 3)),
         _ => true,
     }
+}
+
+fn is_revision(bcd: u16) -> bool
+    ensures { λ r. ⌜ r ≡ isRevision bcd ⌝ }
+{
+    if bcd == REVISION_10 {
+        return true;
+    }
+    if bcd == REVISION_11 {
+        return true;
+    }
+    bcd == REVISION_15
 }
 
 // Rules 9 to 12, of an entity; 0 where none is broken.

@@ -1,24 +1,25 @@
-// Rule 7: the length and the control size that a subtype requires.
+// Rule 7: the length and the control size that a subtype requires, by the revision.
 ghost use mathlib.Core.Path.{_≡_};
 ghost use Prim.Native.Nat.{_+_, _<_, _≤_};
 ghost use lib.ListN.{length, getD};
-ghost use Rattle.control_rules.specs.Descriptors.{kindOf, fixedAt, countedAt, inputAt, extensionAt, shape};
+ghost use Rattle.control_rules.specs.Descriptors.{kindOf, fixedAt, countedAt, sizedAt, inputAt, extensionAt, shape};
 use crate::CAMERA;
+use entities::Revision;
 
-// bControlSize of a camera, a processing unit and an encoding unit.
+// bControlSize of an encoding unit.
 const CONTROL_SIZE: u8 = 3;
 
 // Inner: `len` is bLength, and the descriptor lies in the block.
-pub fn right(s: &[u8], at: usize, len: usize, sub: u8) -> bool
+pub fn right(s: &[u8], at: usize, len: usize, sub: u8, revision: Revision) -> bool
     requires { ⌜ (len ≡ getD (now s) at 0) × (at + len ≤ length (now s)) ⌝ }
-    ensures { λ r. ⌜ r ≡ shape (kindOf sub) (now (s .entry)) at ⌝ }
+    ensures { λ r. ⌜ r ≡ shape revision (kindOf sub) (now (s .entry)) at ⌝ }
 {
     match sub {
         1 => counted(s, at, len, 12, 11),
-        2 => input(s, at, len),
+        2 => input(s, at, len, revision),
         3 => 9 <= len,
         4 => counted(s, at, len, 6, 4),
-        5 => fixed(s, at, len, 13, 7),
+        5 => sized(s, at, len, entities::says_of(revision).unit, 7, revision),
         6 => extension(s, at, len),
         7 => fixed(s, at, len, 13, 6),
         _ => true,
@@ -49,10 +50,28 @@ fn counted(s: &[u8], at: usize, len: usize, base: usize, k: usize) -> bool
     len == base + le::wide(s[at + k])
 }
 
-// At least 8; exactly 18 for a camera, whose byte 14 is 3.
-fn input(s: &[u8], at: usize, len: usize) -> bool
+// The length is `base` and the control size, at `k`, which is as large as the revision allows.
+fn sized(s: &[u8], at: usize, len: usize, base: usize, k: usize, revision: Revision) -> bool
     requires { ⌜ (len ≡ getD (now s) at 0) × (at + len ≤ length (now s)) ⌝ }
-    ensures { λ r. ⌜ r ≡ inputAt (now (s .entry)) at ⌝ }
+    requires { ⌜ (k < base) × (base < 256) ⌝ }
+    ensures { λ r. ⌜ r ≡ sizedAt revision (now (s .entry)) at base k ⌝ }
+{
+    let right = counted(s, at, len, base, k);
+    if !right {
+        return false;
+    }
+    let n = le::wide(le::byte_at(s, at + k));
+    let says = entities::says_of(revision);
+    if n < says.least {
+        return false;
+    }
+    n <= says.most
+}
+
+// At least 8; for a camera 15 + n, n at 14.
+fn input(s: &[u8], at: usize, len: usize, revision: Revision) -> bool
+    requires { ⌜ (len ≡ getD (now s) at 0) × (at + len ≤ length (now s)) ⌝ }
+    ensures { λ r. ⌜ r ≡ inputAt revision (now (s .entry)) at ⌝ }
 {
     if len < 8 {
         return false;
@@ -60,7 +79,7 @@ fn input(s: &[u8], at: usize, len: usize) -> bool
     if le::le16(s, at + 4) != CAMERA {
         return true;
     }
-    fixed(s, at, len, 18, 14)
+    sized(s, at, len, entities::says_of(revision).camera, 14, revision)
 }
 
 // 24 + p + n: p at 21, and n at 22 + p.

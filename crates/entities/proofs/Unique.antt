@@ -4,6 +4,9 @@ use mathlib.Core.Path.{_≡_, sym, _∙_}
 use mathlib.Core.List.{List}
 use Rattle.entities.specs.Table.{noTable, foundAmong, foundIn}
 use Rattle.entities.specs.declared.Entity.{Entity}
+use Rattle.entities.specs.Revisions.{saysOf}
+use Rattle.entities.specs.declared.Revision.{Revision}
+use Rattle.entities.specs.declared.Says.{Says}
 use Rattle.entities.specs.declared.Table.{Table}
 use Rattle.entities.specs.declared.Found.{Found}
 
@@ -20,3 +23,6 @@ find-lent-unique l n id r s p q = p ∙ sym q
 -- the lookups agree on a table whose places are lent
 pub lookups-agree : (t : Table) (id : ℕ) (r s : Found) → r ≡ foundIn t id → s ≡ foundAmong (t .entities) (t .count) id → r ≡ s
 lookups-agree t id r s p q = p ∙ sym q
+
+pub says-of-unique : (v : Revision) (r s : Says) → r ≡ saysOf v → s ≡ saysOf v → r ≡ s
+says-of-unique v r s p q = p ∙ sym q

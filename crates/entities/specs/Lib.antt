@@ -1,1 +1,2 @@
+pub mod Revisions
 pub mod Table

@@ -8,6 +8,7 @@ use Rattle.rules.specs.Pick.{pick}
 use Rattle.rules.specs.First.{First}
 use Rattle.entities.specs.declared.Entity.{Entity}
 use Rattle.entities.specs.declared.Table.{Table}
+use Rattle.entities.specs.declared.Revision.the-variants.{R15}
 use Rattle.entities.specs.declared.Found.{Found}
 use Rattle.entities.specs.declared.Found.the-variants.{At, Nothing}
 
@@ -19,8 +20,9 @@ entitiesMost = 32
 abbrev pub noEntity : Entity
 noEntity = record { id = 0; kind = 0; terminal = 0; offset = 0 }
 
+-- the table of a refused block: all zero, and 1.5
 abbrev pub noTable : Table
-noTable = record { count = 0; entities = replicate entitiesMost noEntity; clock = 0 }
+noTable = record { count = 0; entities = replicate entitiesMost noEntity; clock = 0; revision = R15 }
 
 -- the entity at a place of a list
 abbrev pub entityAt : List Entity → ℕ → Entity

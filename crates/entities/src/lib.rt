@@ -4,6 +4,7 @@ ghost use lib.Dec.{leb, eqb};
 ghost use Rattle.rules.specs.Pick.{pick};
 ghost use Rattle.entities.specs.declared.Found.the-variants.{At, Nothing};
 ghost use Rattle.entities.specs.Table.{foundIn, foundAmong, noTable, Finds};
+ghost use Rattle.entities.specs.Revisions.{saysOf};
 
 // Ours: the most entities of a block, and the places of its table.
 pub const ENTITIES_MOST: usize = 32;
@@ -16,11 +17,33 @@ pub struct Entity {
     pub offset: u16,
 }
 
-// The first `count` places are used. A table is input too: it may hold anything.
+// The revision of the class that a camera keeps to, 1.0, 1.1 or 1.5: there is no fourth.
+pub enum Revision {
+    R10,
+    R11,
+    R15,
+}
+
+// What a revision says where the three differ.
+pub struct Says {
+    // A camera terminal and a processing unit are this long, and longer by the control size.
+    pub camera: usize,
+    pub unit: usize,
+    // The control size is from `least` to `most`.
+    pub least: usize,
+    pub most: usize,
+    // Whether there are encoding units, of subtype 7.
+    pub encoding: bool,
+    // The bytes of a probe block.
+    pub probe: usize,
+}
+
+// The first `count` places are used. A table is input too: it may hold anything, but for a fourth revision.
 pub struct Table {
     pub count: usize,
     pub entities: [Entity; ENTITIES_MOST],
     pub clock: u32,
+    pub revision: Revision,
 }
 
 pub enum Found {
@@ -28,7 +51,39 @@ pub enum Found {
     Nothing,
 }
 
-// The table of no entities, all zero.
+// The one table of what differs.
+pub fn says_of(revision: Revision) -> Says
+    ensures { λ r. ⌜ r ≡ saysOf revision ⌝ }
+{
+    match revision {
+        Revision::R10 => Says {
+            camera: 15,
+            unit: 9,
+            least: 0,
+            most: 32,
+            encoding: false,
+            probe: 26,
+        },
+        Revision::R11 => Says {
+            camera: 15,
+            unit: 10,
+            least: 0,
+            most: 32,
+            encoding: false,
+            probe: 34,
+        },
+        Revision::R15 => Says {
+            camera: 15,
+            unit: 10,
+            least: 3,
+            most: 3,
+            encoding: true,
+            probe: 48,
+        },
+    }
+}
+
+// The table of no entities, all zero; its revision is 1.5.
 pub fn no_table() -> Table
     ensures { λ r. ⌜ r ≡ noTable ⌝ }
 {
@@ -43,6 +98,7 @@ pub fn no_table() -> Table
         count: 0,
         entities,
         clock: 0,
+        revision: Revision::R15,
     }
 }
 

@@ -6,16 +6,16 @@ use mathlib.Core.Path.{_≡_, refl, sym, ap, _∙_}
 use mathlib.Core.Logic.{⊎-elim}
 use Rattle.le.specs.Le.{byte}
 use Rattle.marks.specs.Marks.{marked}
-use Rattle.control.proofs.Walking.{Reading, Turn, Fine, begins, ruleHere, refuses, fine-here, has-sub, has-id, has-place, stays, gains, head-sizes, few-entities, accepts, rejects}
+use Rattle.control.proofs.Walking.{Reading, Turn, Fine, begins, ruleHere, refuses, fine-here, has-sub, has-id, has-place, stays, gains, said-entity, head-sizes, few-entities, accepts, rejects}
 use borrow.Author.Needs.{needs}
 use Rattle.control.proofs.walk.Statement.{statement}
 use Rattle.control.proofs.walk.Tie as tie
 
 abbrev Inv-loop : tie.InvT-loop
-Inv-loop s table₀ marks₀ at₀ table marks at = Reading s table marks at
+Inv-loop s revision table₀ marks₀ at₀ table marks at = Reading s table marks at
 
 abbrev μ-loop : tie.MeasureT-loop
-μ-loop s table₀ marks₀ at₀ table marks at = length s - at
+μ-loop s revision table₀ marks₀ at₀ table marks at = length s - at
 
 -- what is known after the call of `rule_at`, and where it found nothing
 abbrev Ruled : Type 0
@@ -24,14 +24,17 @@ Ruled = tie.After-rule-at Inv-loop μ-loop
 abbrev Passed : Type 0
 Passed = tie.Else1 Inv-loop μ-loop
 
-turn : (a : Ruled) → Turn (a .before .before .before .before .before .before .before .args .s .now) (a .before .before .before .loop .table) (a .before .before .before .loop .marks) (a .before .before .before .loop .at)
-turn a = record { reading = a .before .before .before .loop .inv; small = omega (arith, a .before .before .before .before .before .before .shared-slice-known .given (a .before .before .before .loop .at + 3)); inside = a .before .before .loop-test .taken }
+turn : (a : Ruled) → Turn (a .before .before .before .before .before .before .before .before .args .s .now) (a .before .before .before .loop .table) (a .before .before .before .loop .marks) (a .before .before .before .loop .at)
+turn a = record { reading = a .before .before .before .loop .inv; small = omega (arith, a .before .before .before .before .before .before .before .shared-slice-known .given (a .before .before .before .loop .at + 3)); inside = a .before .before .loop-test .taken }
 
-none : (c : Passed) → ruleHere (c .before .before .before .before .before .before .before .before .args .s .now) (c .before .before .before .before .loop .table) (c .before .before .before .before .loop .marks) (c .before .before .before .before .loop .at) ≡ 0
-none c = sym (c .before .rule-at .ensures) ∙ c .if1 .left
+none : (c : Passed) → ruleHere (c .before .before .before .before .before .before .before .before .before .args .s .now) (c .before .before .before .before .loop .table) (c .before .before .before .before .loop .marks) (c .before .before .before .before .loop .at) ≡ 0
+none c = sym (rw (c .before .before .before .before .before .before .before .revision-of .ensures) at (c .before .rule-at .ensures)) ∙ c .if1 .left
 
-fits : (c : Passed) → Fine (c .before .before .before .before .before .before .before .before .args .s .now) (c .before .before .before .before .loop .at) (marked (c .before .before .before .before .loop .marks) (byte (c .before .before .before .before .before .before .before .before .args .s .now) (c .before .before .before .before .loop .at) 3)) (c .before .before .before .before .loop .table .count)
+fits : (c : Passed) → Fine (c .before .before .before .before .before .before .before .before .before .args .s .now) (c .before .before .before .before .loop .at) (marked (c .before .before .before .before .loop .marks) (byte (c .before .before .before .before .before .before .before .before .before .args .s .now) (c .before .before .before .before .loop .at) 3)) (c .before .before .before .before .loop .table .count)
 fits c = fine-here _ _ _ _ (turn (c .before)) (none c)
+
+revision-of-requires : tie.Need-revision-of-requires Inv-loop μ-loop
+revision-of-requires c κs = let h = head-sizes _ (c .before .pre) in omega arith
 
 no-table-requires : tie.Need-no-table-requires Inv-loop μ-loop
 no-table-requires c κs = search needs
@@ -49,13 +52,16 @@ refused-requires : tie.Need-refused-requires Inv-loop μ-loop
 refused-requires c κs = search needs
 
 returns : tie.Need-returns Inv-loop μ-loop
-returns c = refuses _ (c .before .before .before .before .before .loop .table) _ _ (turn (c .before .before)) _ _ (c .before .before .before .before .before .before .before .before .before .pre) (c .before .before .rule-at .ensures) (c .before .if1 .taken) (c .refused .ensures)
+returns c = refuses _ (c .before .before .before .before .before .loop .table) _ _ (turn (c .before .before)) _ _ (c .before .before .before .before .before .before .before .before .before .before .pre) (rw (c .before .before .before .before .before .before .before .before .revision-of .ensures) at (c .before .before .rule-at .ensures)) (c .before .if1 .taken) (c .refused .ensures)
 
-add-is-entity : tie.Need-add-is-entity Inv-loop μ-loop
-add-is-entity c = search needs
+add-known-as : tie.Need-add-known-as Inv-loop μ-loop
+add-known-as c = search needs
 
-shared-slice-read-is-entity : tie.Need-shared-slice-read-is-entity Inv-loop μ-loop
-shared-slice-read-is-entity c = has-sub _ (c .before .before .before .before .before .loop .table) _ _ (turn (c .before .before)) (none (c .before))
+shared-slice-read-known-as : tie.Need-shared-slice-read-known-as Inv-loop μ-loop
+shared-slice-read-known-as c = has-sub _ (c .before .before .before .before .before .loop .table) _ _ (turn (c .before .before)) (none (c .before))
+
+known-as-requires : tie.Need-known-as-requires Inv-loop μ-loop
+known-as-requires c κs = search needs
 
 is-entity-requires : tie.Need-is-entity-requires Inv-loop μ-loop
 is-entity-requires c κs = search needs
@@ -64,19 +70,19 @@ add-with : tie.Need-add-with Inv-loop μ-loop
 add-with c = search needs
 
 shared-slice-read-with : tie.Need-shared-slice-read-with Inv-loop μ-loop
-shared-slice-read-with c = has-id _ (c .before .before .before .before .before .before .before .before .before .loop .table) _ _ (turn (c .before .before .before .before .before .before)) (none (c .before .before .before .before .before)) (sym (c .before .before .before .is-entity .ensures) ∙ c .before .before .if2 .taken)
+shared-slice-read-with c = has-id _ (c .before .before .before .before .before .before .before .before .before .before .loop .table) _ _ (turn (c .before .before .before .before .before .before .before)) (none (c .before .before .before .before .before .before)) (said-entity (c .before .before .before .before .before .before .before .before .before .before .before .before .before .before .before .args .s .now) (c .before .before .before .before .before .before .before .before .before .before .loop .at) _ _ _ _ (c .before .before .before .before .before .before .before .before .before .before .before .before .before .revision-of .ensures) (c .before .before .before .before .known-as .ensures) (c .before .before .before .is-entity .ensures) (c .before .before .if2 .taken))
 
 with-requires : tie.Need-with-requires Inv-loop μ-loop
 with-requires c κs = search needs
 
 entity-at-requires : tie.Need-entity-at-requires Inv-loop μ-loop
-entity-at-requires c κs = ((let h = head-sizes _ (c .before .before .before .before .before .before .before .before .before .before .before .before .before .before .pre) in omega arith, fits (c .before .before .before .before .before .before) .shaped), (sym (c .before .before .before .before .is-entity .ensures) ∙ c .before .before .before .if2 .taken))
+entity-at-requires c κs = ((let h = head-sizes _ (c .before .before .before .before .before .before .before .before .before .before .before .before .before .before .before .before .pre) in omega arith, fits (c .before .before .before .before .before .before .before) .shaped), (said-entity (c .before .before .before .before .before .before .before .before .before .before .before .before .before .before .before .before .args .s .now) (c .before .before .before .before .before .before .before .before .before .before .before .loop .at) _ _ _ _ (c .before .before .before .before .before .before .before .before .before .before .before .before .before .before .revision-of .ensures) (c .before .before .before .before .before .known-as .ensures) (c .before .before .before .before .is-entity .ensures) (c .before .before .before .if2 .taken)))
 
-mul-t19 : tie.Need-mul-t19 Inv-loop μ-loop
-mul-t19 c = search needs
+mul-t22 : tie.Need-mul-t22 Inv-loop μ-loop
+mul-t22 c = search needs
 
 element-set-from-table : tie.Need-element-set-from-table Inv-loop μ-loop
-element-set-from-table c = has-place _ (c .before .before .before .before .before .before .before .before .before .before .before .loop .table) _ _ (turn (c .before .before .before .before .before .before .before .before)) (none (c .before .before .before .before .before .before .before)) (sym (c .before .before .before .before .before .is-entity .ensures) ∙ c .before .before .before .before .if2 .taken)
+element-set-from-table c = has-place _ (c .before .before .before .before .before .before .before .before .before .before .before .before .loop .table) _ _ (turn (c .before .before .before .before .before .before .before .before .before)) (none (c .before .before .before .before .before .before .before .before)) (said-entity (c .before .before .before .before .before .before .before .before .before .before .before .before .before .before .before .before .before .args .s .now) (c .before .before .before .before .before .before .before .before .before .before .before .before .loop .at) _ _ _ _ (c .before .before .before .before .before .before .before .before .before .before .before .before .before .before .before .revision-of .ensures) (c .before .before .before .before .before .before .known-as .ensures) (c .before .before .before .before .before .is-entity .ensures) (c .before .before .before .before .if2 .taken))
 
 add-table : tie.Need-add-table Inv-loop μ-loop
 add-table c = search needs
@@ -88,18 +94,18 @@ wide-requires : tie.Need-wide-requires Inv-loop μ-loop
 wide-requires c κs = search needs
 
 add-at : tie.Need-add-at Inv-loop μ-loop
-add-at c = let f = fits (c .before .before .before .before .before) .shaped in omega arith
+add-at c = let f = fits (c .before .before .before .before .before .before) .shaped in omega arith
 
 loop-less : tie.Need-loop-less Inv-loop μ-loop
-loop-less c = let f = fits (c .before .before .before .before .before) .shaped in omega arith
+loop-less c = let f = fits (c .before .before .before .before .before .before) .shaped in omega arith
 
 loop-again : tie.Need-loop-again Inv-loop μ-loop
 loop-again c =
-    let t = c .before .before .before .before .before .before .before .before .before .loop .table in
+    let t = c .before .before .before .before .before .before .before .before .before .before .loop .table in
     rw (c .wide .ensures .0)
     (⊎-elim
-    (λ w. rw (w .5, w .6) (gains _ t _ _ (turn (c .before .before .before .before .before .before)) (none (c .before .before .before .before .before)) (sym (c .before .before .before .is-entity .ensures) ∙ w .0 .taken) _ _ refl (ap (set (t .entities) (t .count)) (w .4 .ensures)) (w .3 .ensures)))
-    (λ w. rw (w .1, w .2) (stays _ t _ _ (turn (c .before .before .before .before .before .before)) (none (c .before .before .before .before .before)) (sym (c .before .before .before .is-entity .ensures) ∙ w .0 .left)))
+    (λ w. rw (w .5, w .6) (gains _ t _ _ (turn (c .before .before .before .before .before .before .before)) (none (c .before .before .before .before .before .before)) (said-entity (c .before .before .before .before .before .before .before .before .before .before .before .before .before .before .before .args .s .now) (c .before .before .before .before .before .before .before .before .before .before .loop .at) _ _ _ _ (c .before .before .before .before .before .before .before .before .before .before .before .before .before .revision-of .ensures) (c .before .before .before .before .known-as .ensures) (c .before .before .before .is-entity .ensures) (w .0 .taken)) _ _ refl (ap (set (t .entities) (t .count)) (w .4 .ensures)) (w .3 .ensures)))
+    (λ w. rw (w .1, w .2) (stays _ t _ _ (turn (c .before .before .before .before .before .before .before)) (none (c .before .before .before .before .before .before)) (said-entity (c .before .before .before .before .before .before .before .before .before .before .before .before .before .before .before .args .s .now) (c .before .before .before .before .before .before .before .before .before .before .loop .at) _ _ _ _ (c .before .before .before .before .before .before .before .before .before .before .before .before .before .revision-of .ensures) (c .before .before .before .before .known-as .ensures) (c .before .before .before .is-entity .ensures) (w .0 .left))))
     (c .before .before .if2 .came))
 
 judge-requires : tie.Need-judge-requires Inv-loop μ-loop
@@ -109,7 +115,7 @@ enum-told : tie.Need-enum-told Inv-loop μ-loop
 enum-told c = search needs
 
 le32-requires : tie.Need-le32-requires Inv-loop μ-loop
-le32-requires c κs = let h = head-sizes _ (c .before .before .before .before .before .before .before .before .pre) in omega arith
+le32-requires c κs = let h = head-sizes _ (c .before .before .before .before .before .before .before .before .before .before .pre) in omega arith
 
 enum-known-number : tie.Need-enum-known-number Inv-loop μ-loop
 enum-known-number c = search needs
@@ -118,10 +124,10 @@ refused-requires-2 : tie.Need-refused-requires-2 Inv-loop μ-loop
 refused-requires-2 c κs = search needs
 
 returns-2 : tie.Need-returns-2 Inv-loop μ-loop
-returns-2 c = accepts _ (c .before .before .before .before .before .loop .table) _ _ (c .before .before .before .before .before .loop .inv) (c .before .before .before .before .before .before .before .before .before .pre) (omega arith) _ (c .before .before .before .judge .ensures) _ (c .before .enum-told .given .1) (c .le32 .ensures)
+returns-2 c = accepts _ (c .before .before .before .before .before .before .loop .table) _ _ (c .before .before .before .before .before .before .loop .inv) (c .before .before .before .before .before .before .before .before .before .before .before .pre) (omega arith) _ (c .before .before .before .before .judge .ensures) _ _ (c .before .before .enum-told .given .1) (c .le32 .ensures) (c .before .before .before .before .before .before .before .before .before .revision-of .ensures)
 
 returns-3 : tie.Need-returns-3 Inv-loop μ-loop
-returns-3 c = rejects _ (c .before .before .before .before .before .before .loop .table) _ _ (c .before .before .before .before .before .before .loop .inv) (c .before .before .before .before .before .before .before .before .before .before .pre) (omega arith) _ (c .before .before .before .before .judge .ensures) _ _ _ (c .before .before .number .given .1) (c .refused2 .ensures)
+returns-3 c = rejects _ (c .before .before .before .before .before .before .loop .table) _ _ (c .before .before .before .before .before .before .loop .inv) (c .before .before .before .before .before .before .before .before .before .before .before .pre) (omega arith) _ (c .before .before .before .before .judge .ensures) _ _ _ (c .before .before .number .given .1) (c .refused2 .ensures)
 
 pub walk-spec : {M : Type 1} → statement M
 walk-spec =
@@ -129,20 +135,22 @@ walk-spec =
     (tie.spec
     Inv-loop
     μ-loop
+    revision-of-requires
     no-table-requires
     none-requires
     loop-holds
     rule-at-requires
     refused-requires
     returns
-    add-is-entity
-    shared-slice-read-is-entity
+    add-known-as
+    shared-slice-read-known-as
+    known-as-requires
     is-entity-requires
     add-with
     shared-slice-read-with
     with-requires
     entity-at-requires
-    mul-t19
+    mul-t22
     element-set-from-table
     add-table
     shared-slice-read-wide

@@ -1,7 +1,7 @@
 use Rattle.rules.proofs.Ladder.{rungs}
-use Rattle.blocks.proofs.Right.{sub-inside, len-inside}
-use Rattle.control_rules.specs.Rules.{rows}
-use Rattle.control_rules.proofs.Ladder.{shaped}
+use Rattle.blocks.proofs.Right.{sub-inside}
+use Rattle.control_rules.specs.Rules.{rowsIn}
+use Rattle.control_rules.proofs.Ladder.{placed-long, placed-inside}
 use borrow.Author.Needs.{needs}
 use Rattle.control_rules.proofs.rule_at.Statement.{statement}
 use Rattle.control_rules.proofs.rule_at.Tie as tie
@@ -10,48 +10,31 @@ length-broken-requires : tie.Need-length-broken-requires
 length-broken-requires c κs = search needs
 
 returns : tie.Need-returns
-unfolding rows
+unfolding rowsIn
 returns c = search rungs
 
 type-broken-requires : tie.Need-type-broken-requires
 type-broken-requires c κs = search sub-inside
 
 returns-2 : tie.Need-returns-2
-unfolding rows
+unfolding rowsIn
 returns-2 c = search rungs depth 8
 
-shared-slice-read-wide : tie.Need-shared-slice-read-wide
-shared-slice-read-wide c = search needs
+add-known-as : tie.Need-add-known-as
+add-known-as c = search needs
 
-wide-requires : tie.Need-wide-requires
-wide-requires c κs = search needs
+shared-slice-read-known-as : tie.Need-shared-slice-read-known-as
+shared-slice-read-known-as c = search sub-inside
 
-add-sub : tie.Need-add-sub
-add-sub c = search needs
+known-as-requires : tie.Need-known-as-requires
+known-as-requires c κs = search needs
 
-shared-slice-read-sub : tie.Need-shared-slice-read-sub
-shared-slice-read-sub c = search sub-inside
-
-right-requires : tie.Need-right-requires
-right-requires c κs = search len-inside
+kind-rule-requires : tie.Need-kind-rule-requires
+kind-rule-requires c κs = search (placed-long, placed-inside, needs)
 
 returns-3 : tie.Need-returns-3
-unfolding rows
-returns-3 c = search rungs depth 9
-
-revision-right-requires : tie.Need-revision-right-requires
-revision-right-requires c κs = search shaped
-
-returns-4 : tie.Need-returns-4
-unfolding rows
-returns-4 c = search rungs depth 10
-
-entity-rule-requires : tie.Need-entity-rule-requires
-entity-rule-requires c κs = search shaped
-
-returns-5 : tie.Need-returns-5
-unfolding rows
-returns-5 c = search rungs depth 11
+unfolding rowsIn
+returns-3 c = rw (← c .before .known-as .ensures) (search rungs depth 9)
 
 pub rule-at-spec : {M : Type 1} → statement M
 rule-at-spec =
@@ -61,13 +44,8 @@ rule-at-spec =
     returns
     type-broken-requires
     returns-2
-    shared-slice-read-wide
-    wide-requires
-    add-sub
-    shared-slice-read-sub
-    right-requires
-    returns-3
-    revision-right-requires
-    returns-4
-    entity-rule-requires
-    returns-5)
+    add-known-as
+    shared-slice-read-known-as
+    known-as-requires
+    kind-rule-requires
+    returns-3)

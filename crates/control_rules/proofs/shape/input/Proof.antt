@@ -1,4 +1,4 @@
-use Rattle.control_rules.proofs.Shapes.{input-no, input-plain, input-camera}
+use Rattle.control_rules.proofs.Shapes.{input-no, input-plain, input-camera, camera-long}
 use borrow.Author.Needs.{needs}
 use Rattle.control_rules.proofs.shape.input.Statement.{statement}
 use Rattle.control_rules.proofs.shape.input.Tie as tie
@@ -15,11 +15,14 @@ le16-requires c κs = search needs
 returns-2 : tie.Need-returns-2
 returns-2 c = search input-plain
 
-fixed-requires : tie.Need-fixed-requires
-fixed-requires c κs = search needs
+says-of-requires : tie.Need-says-of-requires
+says-of-requires c κs = search needs
+
+sized-requires : tie.Need-sized-requires
+sized-requires c κs = search (camera-long, needs)
 
 returns-3 : tie.Need-returns-3
 returns-3 c = search input-camera
 
 pub input-spec : {M : Type 1} → statement M
-input-spec = tie.close (tie.spec returns add-le16 le16-requires returns-2 fixed-requires returns-3)
+input-spec = tie.close (tie.spec returns add-le16 le16-requires returns-2 says-of-requires sized-requires returns-3)

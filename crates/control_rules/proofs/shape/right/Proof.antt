@@ -1,5 +1,5 @@
 use Rattle.control_rules.specs.Descriptors.{kindOf, shape}
-use Rattle.control_rules.proofs.Shapes.{kind-unknown}
+use Rattle.control_rules.proofs.Shapes.{kind-unknown, unit-long}
 use borrow.Author.Needs.{needs}
 use Rattle.control_rules.proofs.shape.right.Statement.{statement}
 use Rattle.control_rules.proofs.shape.right.Tie as tie
@@ -13,14 +13,18 @@ input-requires c κs = search needs
 counted-requires-2 : tie.Need-counted-requires-2
 counted-requires-2 c κs = search needs
 
-fixed-requires : tie.Need-fixed-requires
-fixed-requires c κs = search needs
+says-of-requires : tie.Need-says-of-requires
+says-of-requires c κs = search needs
+
+sized-requires : tie.Need-sized-requires
+sized-requires c κs = search (unit-long, needs)
 
 extension-requires : tie.Need-extension-requires
 extension-requires c κs = search needs
 
-fixed-requires-2 : tie.Need-fixed-requires-2
-fixed-requires-2 c κs = search needs
+fixed-requires : tie.Need-fixed-requires
+fixed-requires c κs = search needs
+
 
 returns : tie.Need-returns
 unfolding kindOf shape
@@ -40,7 +44,7 @@ returns-4 c = rw (c .before .match .keys4) (c .counted2 .ensures)
 
 returns-5 : tie.Need-returns-5
 unfolding kindOf shape
-returns-5 c = rw (c .before .match .keys5) (c .fixed .ensures)
+returns-5 c = rw (c .before .before .match .keys5, ← c .before .says-of .ensures) (c .sized .ensures)
 
 returns-6 : tie.Need-returns-6
 unfolding kindOf shape
@@ -48,7 +52,7 @@ returns-6 c = rw (c .before .match .keys6) (c .extension .ensures)
 
 returns-7 : tie.Need-returns-7
 unfolding kindOf shape
-returns-7 c = rw (c .before .match .keys7) (c .fixed2 .ensures)
+returns-7 c = rw (c .before .match .keys7) (c .fixed .ensures)
 
 returns-8 : tie.Need-returns-8
 unfolding kindOf shape
@@ -61,9 +65,10 @@ right-spec =
     counted-requires
     input-requires
     counted-requires-2
-    fixed-requires
+    says-of-requires
+    sized-requires
     extension-requires
-    fixed-requires-2
+    fixed-requires
     returns
     returns-2
     returns-3
