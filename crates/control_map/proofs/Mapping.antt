@@ -12,8 +12,7 @@ use Rattle.rules.specs.Pick.{pick}
 use Rattle.rules.specs.First.{First}
 use Rattle.rules.specs.Walk.{Clean}
 use Rattle.rules.proofs.Padded.{pad-at}
-use Rattle.rules.specs.declared.Verdict.the-variants.{Accepted}
-use Rattle.rules.specs.declared.Verdict.the-variants as verdicts
+use Rattle.rules.specs.declared.Verdict.the-variants.{Accepted, Refused}
 use Rattle.entities.specs.Table.{entitiesMost, noEntity, noTable, entityAt, used, findFrom, foundIn}
 use Rattle.entities.specs.declared.Entity.{Entity}
 use Rattle.entities.specs.declared.Table.{Table}
@@ -28,12 +27,11 @@ use Rattle.control.specs.declared.Control.{Control}
 use Rattle.control.specs.Listed.{Listed}
 use Rattle.control.proofs.ExactlyWhen.{accepted, tables, zero-table}
 use Rattle.control.proofs.Listed.{listed}
-use Rattle.control_map.specs.Answer.{HasControls, AcceptedWith, Mapped, controlsAt, MapIs, MapIs.own, MapIs.given, MapIs.sixteen}
+use Rattle.control_map.specs.Answer.{HasControls, AcceptedWith, Mapped, controlsAt, refusedMap, MapIs, MapIs.own, MapIs.given, MapIs.sixteen}
 use Rattle.control_map.specs.Inner.{placeBy, placeOf, mapBy}
 use Rattle.control_map.specs.declared.Place.{Place}
 use Rattle.control_map.specs.declared.Place.the-variants as places
 use Rattle.control_map.specs.declared.Map.{Map}
-use Rattle.control_map.specs.declared.Map.the-variants.{Refused}
 
 -- ---- an accepted block has clean descriptors, and lists its entities
 pub clean : (s : List ℕ) (l : List Entity) → AcceptedWith s l → Clean (course s)
@@ -42,7 +40,7 @@ clean s l a = accepted s (acceptedWith s l) (a .accepted) .0 refl .descriptors
 pub entities-listed : (s : List ℕ) (l : List Entity) → AcceptedWith s l → Listed s l
 entities-listed s l a = listed s (accepted s (acceptedWith s l) (a .accepted) .0 refl) l (a .entities)
 
--- ---- the place of the controls, computed, is where they stand
+-- ---- the place of the control size, computed, is where it stands
 pub apart : (n : ℕ) → places.Nowhere ≡ places.At n → ⊥
 apart n e = let z : _≡_ {A = ℕ} 0 1 = cc in omega arith
 
@@ -59,12 +57,12 @@ unfolding placeBy pick
 stands header t n e = absurd (apart n e)
 stands input t n e = go (eqb t camera) refl e
   where
-    go : (b : Bool) → eqb t camera ≡ b → pick b (places.At 15) places.Nowhere ≡ places.At n → ControlsAt input t n
-    go true q h = rw (← same-place 15 n h) (camera-terminal t (eqb-true t camera q))
+    go : (b : Bool) → eqb t camera ≡ b → pick b (places.At 14) places.Nowhere ≡ places.At n → ControlsAt input t n
+    go true q h = rw (← same-place 14 n h) (camera-terminal t (eqb-true t camera q))
     go false q h = absurd (apart n h)
 stands output t n e = absurd (apart n e)
 stands selector t n e = absurd (apart n e)
-stands processing t n e = rw (← same-place 8 n e) (processing-unit t)
+stands processing t n e = rw (← same-place 7 n e) (processing-unit t)
 stands extension t n e = absurd (apart n e)
 stands encoding t n e = absurd (apart n e)
 stands unknown t n e = absurd (apart n e)
@@ -76,8 +74,8 @@ pub one-place : (e : Entity) (m n : ℕ) → HasControls e m → HasControls e n
 one-place e m n a b = same-place m n (sym (has-place e m a) ∙ has-place e n b)
 
 -- ---- by the place
-pub by-nowhere : (s : List ℕ) (e : Entity) (p : Place) → p ≡ placeOf e → p ≡ places.Nowhere → Refused 16 0 ≡ mapBy s e (placeOf e)
-by-nowhere s e p q h = ap (mapBy s e) (sym h ∙ q)
+pub by-nowhere : (s : List ℕ) (e : Entity) (p : Place) → p ≡ placeOf e → p ≡ places.Nowhere → (r : Map) → r ≡ refusedMap 16 0 → r ≡ mapBy s e (placeOf e)
+by-nowhere s e p q h r z = z ∙ ap (mapBy s e) (sym h ∙ q)
 
 pub by-at : (s : List ℕ) (e : Entity) (p : Place) (n : ℕ) (r : Map) → p ≡ placeOf e → p ≡ places.At n → r ≡ controlsAt s (e .offset) n → r ≡ mapBy s e (placeOf e)
 by-at s e p n r q h w = w ∙ ap (mapBy s e) (sym h ∙ q)
@@ -115,7 +113,7 @@ module _ (s : List ℕ) (t : Table) (c : ControlIs s (record { verdict = Accepte
     here : findFrom 0 (the-list .0) id ≡ f
     here = rw (← all-used) (sym e)
 
-    pub map-nothing : (r : Map) → f ≡ Nothing → r ≡ Refused 16 0 → MapIs s id r
+    pub map-nothing : (r : Map) → f ≡ Nothing → r ≡ refusedMap 16 0 → MapIs s id r
     map-nothing r n q =
         let l = the-list .0 in
         let w : First (Carries l id) (length l) (finding.placeOf (length l) Nothing) = rw (here, n) at (found-first l id) in
@@ -145,10 +143,10 @@ module _ (s : List ℕ) (t : Table) (c : ControlIs s (record { verdict = Accepte
           go (places.At n) z = given l (the-list .1) i n (record { inside = inside; named = w .here inside; has = stands (kindOf (x .kind)) (x .terminal) n z })
 
 -- ---- by the block's verdict
-pub map-own : (s : List ℕ) (id : ℕ) (c : Control) → ControlIs s c → (k o : ℕ) → c .verdict ≡ verdicts.Refused k o → MapIs s id (Refused k o)
-map-own s id c r k o e =
+pub map-own : (s : List ℕ) (id : ℕ) (c : Control) → ControlIs s c → (k o : ℕ) → c .verdict ≡ Refused k o → (m : Map) → m ≡ refusedMap k o → MapIs s id m
+map-own s id c r k o e m q =
     let t : c .table ≡ noTable = zero-table s r k o e in
-    own k o (rw (← e, ← t) r)
+    rw q (own k o (rw (← e, ← t) r))
 
 pub accepted-table : (s : List ℕ) (c : Control) → ControlIs s c → c .verdict ≡ Accepted → ControlIs s (record { verdict = Accepted; table = c .table })
 accepted-table s c r e = rw (← e) r

@@ -2,22 +2,21 @@
 use Prim.Native.Nat.{ℕ}
 use mathlib.Core.Path.{_≡_, refl, ap}
 use mathlib.Core.List.{List}
-use Rattle.rules.specs.declared.Verdict.the-variants as verdicts
+use Rattle.rules.specs.declared.Verdict.the-variants.{Refused}
 use Rattle.entities.specs.Table.{entityAt}
 use Rattle.entities.specs.declared.Entity.{Entity}
 use Rattle.control.specs.Answer.{refusedBy, acceptedWith, ControlIs}
 use Rattle.control.specs.declared.Control.{Control}
 use Rattle.control.proofs.Unique.{verdict-apart, read-unique}
 use Rattle.control.proofs.ExactlyWhen.{one-list}
-use Rattle.control_map.specs.Answer.{AcceptedWith, Mapped, controlsAt, MapIs, MapIs.own, MapIs.given, MapIs.sixteen}
+use Rattle.control_map.specs.Answer.{AcceptedWith, Mapped, controlsAt, refusedMap, MapIs, MapIs.own, MapIs.given, MapIs.sixteen}
 use Rattle.control_map.specs.declared.Map.{Map}
-use Rattle.control_map.specs.declared.Map.the-variants.{Refused}
 use Rattle.control_map.proofs.Mapping.{clean, mapped-once, one-place}
 
 verdicts-same : (a b : Control) → a ≡ b → a .verdict ≡ b .verdict
 verdicts-same a b e = ap (λ (c : Control). c .verdict) e
 
-same-refusal : (k o j p : ℕ) → verdicts.Refused k o ≡ verdicts.Refused j p → Refused k o ≡ Refused j p
+same-refusal : (k o j p : ℕ) → Refused k o ≡ Refused j p → refusedMap k o ≡ refusedMap j p
 same-refusal k o j p e = let x : k ≡ j = cc in let y : o ≡ p = cc in rw (x, y)
 
 module _ (s : List ℕ) (id : ℕ) where

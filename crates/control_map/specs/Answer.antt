@@ -1,18 +1,21 @@
--- Document 01: the control-map reader takes a block and an ID and gives the three control bytes of that camera terminal or processing unit.
-use Prim.Native.Nat.{ℕ, _+_, _<_}
+-- Documents 01 and 02 (request Four): the control-map reader takes a block and an ID and gives the control bytes of that camera terminal or processing unit, with
+-- their length.
+use Prim.Native.Nat.{ℕ, zero, suc, _+_, _<_}
 use mathlib.Core.Path.{_≡_}
-use mathlib.Core.List.{List}
-use lib.ListN.{length}
+use mathlib.Core.List.{List, [], _∷_, _++_}
+use lib.ListN.{length, getD, replicate}
+use lib.Dec.{leb}
 use Rattle.le.specs.Le.{byte}
+use Rattle.rules.specs.Pick.{pick}
+use Rattle.rules.specs.declared.Verdict.the-variants.{Accepted, Refused}
 use Rattle.entities.specs.Table.{entityAt}
 use Rattle.entities.specs.declared.Entity.{Entity}
 use Rattle.control_rules.specs.Descriptors.{kindOf, ControlsAt}
 use Rattle.control.specs.Answer.{refusedBy, acceptedWith, ControlIs}
 use Rattle.control.specs.Broken.{Entities}
 use Rattle.control_map.specs.declared.Map.{Map}
-use Rattle.control_map.specs.declared.Map.the-variants.{Controls, Refused}
 
--- the entity is a camera terminal or a processing unit, and its controls stand at this place of its descriptor
+-- the entity is a camera terminal or a processing unit, and its control size stands at this place of its descriptor
 abbrev pub HasControls : Entity → ℕ → Type 0
 HasControls e place = ControlsAt (kindOf (e .kind)) (e .terminal) place
 
@@ -21,19 +24,39 @@ pub record AcceptedWith (s : List ℕ) (seen : List Entity) : Type 0 where
   pub entities : Entities s seen
   pub accepted : ControlIs s (acceptedWith s seen)
 
--- the entity at i is a camera terminal or a processing unit, has the ID, and its controls stand at this place
+-- the entity at i is a camera terminal or a processing unit, has the ID, and its control size stands at this place
 pub record Mapped (seen : List Entity) (id i place : ℕ) : Type 0 where
   pub inside : i < length seen
   pub named : entityAt seen i .id ≡ id
   pub has : HasControls (entityAt seen i) place
 
--- the three bytes from a place of the descriptor at o on
+-- ours: the most control bytes
+abbrev pub controlsMost : ℕ
+controlsMost = 32
+
+-- control i of the n that stand from o on; 0 behind them
+unfoldable pub controlByte : List ℕ → ℕ → ℕ → ℕ → ℕ
+controlByte s o n i = pick (leb n i) 0 (getD s (o + i) 0)
+
+-- the first k of them
+unfoldable pub firstControls : List ℕ → ℕ → ℕ → ℕ → List ℕ
+firstControls s o n zero = []
+firstControls s o n (suc k) = firstControls s o n k ++ (controlByte s o n k ∷ [])
+
+abbrev pub controlBytes : List ℕ → ℕ → ℕ → List ℕ
+controlBytes s o n = firstControls s o n controlsMost
+
+-- the control size at a place of the descriptor at o, and the controls behind it
 abbrev pub controlsAt : List ℕ → ℕ → ℕ → Map
-controlsAt s o place = Controls (byte s o place) (byte s o (place + 1)) (byte s o (place + 2))
+controlsAt s o place = record { verdict = Accepted; length = byte s o place; bytes = controlBytes s (o + place + 1) (byte s o place) }
+
+-- refused: no controls
+abbrev pub refusedMap : ℕ → ℕ → Map
+refusedMap k o = record { verdict = Refused k o; length = 0; bytes = replicate controlsMost 0 }
 
 pub data MapIs (s : List ℕ) (id : ℕ) : Map → Type 0 where
   -- the block's own refusal
-  own : (k o : ℕ) → ControlIs s (refusedBy k o) → MapIs s id (Refused k o)
+  own : (k o : ℕ) → ControlIs s (refusedBy k o) → MapIs s id (refusedMap k o)
   given : (seen : List Entity) → AcceptedWith s seen → (i place : ℕ) → Mapped seen id i place → MapIs s id (controlsAt s (entityAt seen i .offset) place)
   -- 16: no camera terminal or processing unit has the ID
-  sixteen : (seen : List Entity) → AcceptedWith s seen → ((i place : ℕ) → Mapped seen id i place → ⊥) → MapIs s id (Refused 16 0)
+  sixteen : (seen : List Entity) → AcceptedWith s seen → ((i place : ℕ) → Mapped seen id i place → ⊥) → MapIs s id (refusedMap 16 0)

@@ -1,5 +1,5 @@
 -- The fields that are read of a descriptor that has its kind's shape lie within it.
-use Prim.Native.Nat.{ℕ, _+_, _-_, _≤_}
+use Prim.Native.Nat.{ℕ, _+_, _≤_}
 use mathlib.Core.Path.{_≡_, sym, _∙_}
 use mathlib.Core.List.{List}
 use mathlib.Core.Bool.{true}
@@ -77,9 +77,9 @@ sources-within extension s o w = omega (arith, eqb-true (lenAt s o) (24 + byte s
 sources-within encoding s o w = omega (arith, fixed-long s o 13 6 (w .right))
 sources-within unknown s o w = omega arith
 
--- the control size n of a camera terminal or a processing unit stands before its controls, is at most 32, and the n controls lie within the descriptor
+-- the controls of a camera terminal or a processing unit lie within its descriptor, and are at most 32
 pub controls-within : {k : Kind} {t n : ℕ} → ControlsAt k t n → (s : List ℕ) (o : ℕ) → Shaped k s o → t ≡ terminalOf k s o
-    → (n + byte s o (n - 1) ≤ lenAt s o) × (byte s o (n - 1) ≤ 32)
+    → (n + 1 + byte s o n ≤ lenAt s o) × (byte s o n ≤ 32)
 unfolding terminalOf
 controls-within (camera-terminal t e) s o w q =
     let z = camera-sized s o w (sym q ∙ e) in

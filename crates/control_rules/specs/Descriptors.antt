@@ -125,10 +125,11 @@ sourcePlace extension = 22
 sourcePlace encoding = 4
 sourcePlace unknown = 0
 
--- ---- controls: a camera terminal's stand at 15, a processing unit's at 8, by the kind and the terminal type. Nothing else has any.
+-- ---- controls: a camera terminal's control size stands at 14, a processing unit's at 7, by the kind and the terminal type, and its controls straight behind
+-- it. Nothing else has any.
 pub data ControlsAt : Kind → ℕ → ℕ → Type 0 where
-  camera-terminal : (t : ℕ) → t ≡ camera → ControlsAt input t 15
-  processing-unit : (t : ℕ) → ControlsAt processing t 8
+  camera-terminal : (t : ℕ) → t ≡ camera → ControlsAt input t 14
+  processing-unit : (t : ℕ) → ControlsAt processing t 7
 
 -- ---- a descriptor that lies in the block and has its kind's length and control size, by the block's revision
 pub record Shaped (k : Kind) (s : List ℕ) (o : ℕ) : Type 0 where

@@ -20,7 +20,7 @@ use Rattle.streaming_rules.specs.declared.Frame.{Frame}
 use Rattle.streaming_rules.proofs.Subtypes.{frame-long}
 use Rattle.streaming.specs.Answer.{streamingOf}
 use Rattle.streaming.specs.declared.Streaming.{Streaming}
-use Rattle.probe.specs.Fields.{probeLength, fieldsOf}
+use Rattle.probe.specs.Fields.{probeSize, fieldsOf}
 use Rattle.probe.specs.Answer.{frameIn, formatMissing, hasNumber, framePlace, frameRows, checkRows, given, checkOf}
 
 pub number-zero : (number count : ℕ) → number ≡ 0 → true ≡ formatMissing number count
@@ -61,28 +61,28 @@ module _ (s : List ℕ) (o : ℕ) (b : List ℕ) (x : ℕ) (i : x ≡ le32At b 4
 
 -- ---- 41, the block's own refusal, and 42 to 46
 module _ (t : Table) (s b : List ℕ) (r : Verdict) where
-  pub check-41 : (length b ≡ probeLength → ⊥) → r ≡ Refused 41 0 → r ≡ checkOf t s b
+  pub check-41 : (length b ≡ probeSize (t .revision) → ⊥) → r ≡ Refused 41 0 → r ≡ checkOf t s b
   unfolding checkOf pick
-  check-41 h q = rw (ne-eqb (length b) probeLength h) q
+  check-41 h q = rw (ne-eqb (length b) (probeSize (t .revision)) h) q
 
-  module _ (l : length b ≡ probeLength) (x : Streaming) (e : x ≡ streamingOf t s) where
+  module _ (l : length b ≡ probeSize (t .revision)) (x : Streaming) (e : x ≡ streamingOf t s) where
     pub check-own : (k o : ℕ) → x .verdict ≡ Refused k o → r ≡ Refused k o → r ≡ checkOf t s b
     unfolding checkOf pick
-    check-own k o h q = rw (eq-eqb (length b) probeLength l, ← e, h) q
+    check-own k o h q = rw (eq-eqb (length b) (probeSize (t .revision)) l, ← e, h) q
 
     module _ (v : x .verdict ≡ Accepted) (m : Bool) (f : m ≡ formatMissing (getD b 2 0) (x .«format_count»)) where
       pub check-42 : m ≡ true → r ≡ Refused 42 0 → r ≡ checkOf t s b
       unfolding checkOf pick checkRows fieldsOf given
-      check-42 h q = rw (eq-eqb (length b) probeLength l, ← e, v, ← f, h) q
+      check-42 h q = rw (eq-eqb (length b) (probeSize (t .revision)) l, ← e, v, ← f, h) q
 
       module _ (g : m ≡ false) (i : ℕ) (p : i ≡ framePlace s (x .frames) (x .«frame_count») (getD b 2 0) (getD b 3 0)) where
         pub check-43 : x .«frame_count» ≤ i → r ≡ Refused 43 0 → r ≡ checkOf t s b
         unfolding checkOf pick checkRows fieldsOf given
-        check-43 h q = rw (eq-eqb (length b) probeLength l, ← e, v, ← f, g, ← p, le-leb (x .«frame_count») i h) q
+        check-43 h q = rw (eq-eqb (length b) (probeSize (t .revision)) l, ← e, v, ← f, g, ← p, le-leb (x .«frame_count») i h) q
 
         pub check-on : i < x .«frame_count» → r ≡ given (firstRow (frameRows s (frameIn (x .frames) i .offset) (fieldsOf b))) → r ≡ checkOf t s b
         unfolding checkOf pick checkRows fieldsOf given
-        check-on h q = rw (eq-eqb (length b) probeLength l, ← e, v, ← f, g, ← p, lt-leb (x .«frame_count») i h) q
+        check-on h q = rw (eq-eqb (length b) (probeSize (t .revision)) l, ← e, v, ← f, g, ← p, lt-leb (x .«frame_count») i h) q
 
 pub number-room : (s : List ℕ) (o : ℕ) → o + frameLengthAt (formatOf (kindAt s o)) s o ≤ length s → o + 3 < length s
 number-room s o h = omega (arith, frame-long (formatOf (kindAt s o)) s o (length s) h)

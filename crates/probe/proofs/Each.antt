@@ -9,7 +9,7 @@ use Rattle.probe.specs.declared.Probe.{Probe}
 
 -- the fields, one by one
 pub fields-are :
-    (s : List ℕ) (f0 f1 f2 f3 f4 f5 f6 f7 f8 f9 f10 : ℕ) →
+    (s : List ℕ) (f0 f1 f2 f3 f4 f5 f6 f7 f8 f9 f10 g30 g31 g32 g33 g34 g35 g36 g37 : ℕ) (l : List ℕ) →
     f0 ≡ le16At s 0 →
     f1 ≡ le32At s 4 →
     f2 ≡ le16At s 8 →
@@ -21,10 +21,19 @@ pub fields-are :
     f8 ≡ le32At s 22 →
     f9 ≡ le32At s 26 →
     f10 ≡ le16At s 38 →
-    _≡_ {A = Probe} (record { hint = f0; format = getD s 2 0; frame = getD s 3 0; interval = f1; «key_rate» = f2; «p_rate» = f3; quality = f4; window = f5; delay = f6; «frame_size» = f7; «payload_size» = f8; clock = f9; framing = getD s 30 0; preferred = getD s 31 0; minimum = getD s 32 0; maximum = getD s 33 0; usage = getD s 34 0; «luma_depth» = getD s 35 0; settings = getD s 36 0; «reference_frames» = getD s 37 0; «rate_modes» = f10; layout = bytesAt s 40 8 }) (fieldsOf s)
+    l ≡ bytesAt s 40 8 →
+    g30 ≡ getD s 30 0 →
+    g31 ≡ getD s 31 0 →
+    g32 ≡ getD s 32 0 →
+    g33 ≡ getD s 33 0 →
+    g34 ≡ getD s 34 0 →
+    g35 ≡ getD s 35 0 →
+    g36 ≡ getD s 36 0 →
+    g37 ≡ getD s 37 0 →
+    _≡_ {A = Probe} (record { hint = f0; format = getD s 2 0; frame = getD s 3 0; interval = f1; «key_rate» = f2; «p_rate» = f3; quality = f4; window = f5; delay = f6; «frame_size» = f7; «payload_size» = f8; clock = f9; framing = g30; preferred = g31; minimum = g32; maximum = g33; usage = g34; «luma_depth» = g35; settings = g36; «reference_frames» = g37; «rate_modes» = f10; layout = l }) (fieldsOf s)
 unfolding fieldsOf
-fields-are s f0 f1 f2 f3 f4 f5 f6 f7 f8 f9 f10 e0 e1 e2 e3 e4 e5 e6 e7 e8 e9 e10 =
-    rw (e0, e1, e2, e3, e4, e5, e6, e7, e8, e9, e10)
+fields-are s f0 f1 f2 f3 f4 f5 f6 f7 f8 f9 f10 g30 g31 g32 g33 g34 g35 g36 g37 l e0 e1 e2 e3 e4 e5 e6 e7 e8 e9 e10 el d30 d31 d32 d33 d34 d35 d36 d37 =
+    rw (e0, e1, e2, e3, e4, e5, e6, e7, e8, e9, e10, el, d30, d31, d32, d33, d34, d35, d36, d37)
 
 -- the bytes, one by one
 pub bytes-are :

@@ -32,7 +32,7 @@ use Rattle.streaming.specs.Answer.{Seen, acceptedWith, refusedBy, streamingOf}
 use Rattle.streaming.specs.declared.Streaming.{Streaming}
 use Rattle.rules.proofs.Places.{Says, first-place}
 use Rattle.streaming.proofs.ExactlyWhen.{Ends, taken, given-back, reads, tables, all-zero}
-use Rattle.probe.specs.Fields.{probeLength, fieldsOf}
+use Rattle.probe.specs.Fields.{probeSize, fieldsOf}
 use Rattle.probe.specs.Answer.{frameIn, formatMissing, hasNumber, framePlace, frameRows, checkRows, given, checkOf}
 use Rattle.probe.specs.Broken.{offsetIn, FrameGiven, IntervalGiven, FrameNamed, checkRules, Read, Yes, No, of-length, of-block, of-rule}
 use Rattle.probe.specs.declared.Probe.{Probe}
@@ -168,7 +168,7 @@ module _ (t : Table) (s b : List ℕ) where
   module _ (a : Seen) (w : Read t s b a) where
     check-is : checkOf t s b ≡ given (firstRow (five s a (fieldsOf b)))
     unfolding checkOf pick acceptedWith
-    check-is = rw (eq-eqb (length b) probeLength (w .whole), tables t s a (w .sound), with-verdict s a) (ap (λ (ws : List Row). given (firstRow ws)) (rows-are s a (fieldsOf b)))
+    check-is = rw (eq-eqb (length b) (probeSize (t .revision)) (w .whole), tables t s a (w .sound), with-verdict s a) (ap (λ (ws : List Row). given (firstRow ws)) (rows-are s a (fieldsOf b)))
 
     read-comes : Comes t s b (given (firstRow (five s a (fieldsOf b))))
     unfolding given
@@ -203,15 +203,15 @@ module _ (t : Table) (s b : List ℕ) where
 
   -- every check comes to one or the other
   comes : Comes t s b (checkOf t s b)
-  comes = at (eqb (length b) probeLength) refl
+  comes = at (eqb (length b) (probeSize (t .revision))) refl
     where
-      ends : length b ≡ probeLength → (x : Streaming) → streamingOf t s ≡ x → Ends t s x → Comes t s b (checkOf t s b)
+      ends : length b ≡ probeSize (t .revision) → (x : Streaming) → streamingOf t s ≡ x → Ends t s x → Comes t s b (checkOf t s b)
       ends l x q (taken a w) = let r : Read t s b a = record { whole = l; sound = w } in rw (check-is a r) (read-comes a r)
       ends l x q (given-back k o w) = rw (no-gives (of-block k o l w)) (objected k o (of-block k o l w))
 
-      at : (c : Bool) → eqb (length b) probeLength ≡ c → Comes t s b (checkOf t s b)
-      at true q = ends (eqb-true (length b) probeLength q) (streamingOf t s) refl (reads t s)
-      at false q = let n = eqb-false (length b) probeLength q in rw (no-gives (of-length n)) (objected 41 0 (of-length n))
+      at : (c : Bool) → eqb (length b) (probeSize (t .revision)) ≡ c → Comes t s b (checkOf t s b)
+      at true q = ends (eqb-true (length b) (probeSize (t .revision)) q) (streamingOf t s) refl (reads t s)
+      at false q = let n = eqb-false (length b) (probeSize (t .revision)) q in rw (no-gives (of-length n)) (objected 41 0 (of-length n))
 
   apart : (k o : ℕ) → Accepted ≡ Refused k o → ⊥
   apart k o e = let z : _≡_ {A = ℕ} 0 1 = cc in omega arith

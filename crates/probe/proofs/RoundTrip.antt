@@ -1,8 +1,8 @@
--- Reading what was written gives the fields back, and writing what was read gives the 48 bytes back. A refused write changes no byte, and no byte
--- past the first 48 ever changes.
+-- Over the revision: reading what was written gives the fields back, with those that the revision lacks as 0, and writing what was read gives the block's bytes
+-- back. A refused write changes no byte, and no byte past the revision's block ever changes.
 use Prim.Native.Nat.{ℕ, zero, suc, _+_, _*_, _/_, _%_, _^_, _≤_, _<_}
 use mathlib.Core.Path.{_≡_, refl, sym, ap, _∙_}
-use mathlib.Core.List.{List, [], _∷_, _++_, append-nil}
+use mathlib.Core.List.{List, [], _∷_, _++_}
 use mathlib.Core.Bool.{Bool, true, false}
 use lib.ListN.{length, getD, take, drop, length-drop}
 use lib.Seq.{drop-cons, take-at, drop-at}
@@ -13,9 +13,12 @@ use native.Mathlib.Nat.{mod-eq-of-lt, div-eq-of-lt, div-add-mod', add-mul-div-ri
 use native.Mathlib.Numerals.{add-one}
 use Rattle.rules.specs.Pick.{pick}
 use Rattle.rules.specs.declared.Verdict.the-variants.{Accepted, Refused}
-use Rattle.probe.specs.Fields.{probeLength, bytesAt, fieldsOf, bytesOf, probeOf, roomVerdict, written, WritesBack, ReadsBack}
+use Rattle.entities.specs.Revisions.{saysOf}
+use Rattle.entities.specs.declared.Revision.{Revision}
+use Rattle.entities.specs.declared.Revision.the-variants.{R10, R11, R15}
+use Rattle.probe.specs.Fields.{probeSize, bytesAt, fieldsOf, bytesOf, keptIn, probeOf, roomVerdict, written, WritesBack, ReadsBack}
 use Rattle.probe.specs.declared.Probe.{Probe}
-use Rattle.probe.proofs.Tests.{bytes-length, read-whole}
+use Rattle.probe.proofs.Tests.{first-length, read-whole}
 
 -- the fields of more than one byte are numbers of their width, and the layout has eight bytes: what the type of a probe says
 pub record Held (p : Probe) : Type 0 where
@@ -88,9 +91,11 @@ pub bytes-all : (s : List ℕ) (n : ℕ) → length s ≡ n → bytesAt s 0 n �
 bytes-all s n e = bytes-drop s 0 n (omega arith)
 
 -- ---- fields to bytes to fields
-pub fields-back : (p : Probe) (rest : List ℕ) → Held p → fieldsOf (bytesOf p ++ rest) ≡ p
-unfolding fieldsOf bytesOf
-fields-back p rest h = rw (two-back (p .hint) (h .hint), four-back (p .interval) (h .interval), two-back (p .«key_rate») (h .«key_rate»), two-back (p .«p_rate») (h .«p_rate»), two-back (p .quality) (h .quality), two-back (p .window) (h .window), two-back (p .delay) (h .delay), four-back (p .«frame_size») (h .«frame_size»), four-back (p .«payload_size») (h .«payload_size»), four-back (p .clock) (h .clock), two-back (p .«rate_modes») (h .«rate_modes»), bytes-all (p .layout) 8 (h .layout))
+pub fields-back : (v : Revision) (p : Probe) → Held p → fieldsOf (take (probeSize v) (bytesOf p)) ≡ keptIn v p
+unfolding saysOf fieldsOf bytesOf keptIn
+fields-back R10 p h = rw (two-back (p .hint) (h .hint), four-back (p .interval) (h .interval), two-back (p .«key_rate») (h .«key_rate»), two-back (p .«p_rate») (h .«p_rate»), two-back (p .quality) (h .quality), two-back (p .window) (h .window), two-back (p .delay) (h .delay), four-back (p .«frame_size») (h .«frame_size»), four-back (p .«payload_size») (h .«payload_size»))
+fields-back R11 p h = rw (two-back (p .hint) (h .hint), four-back (p .interval) (h .interval), two-back (p .«key_rate») (h .«key_rate»), two-back (p .«p_rate») (h .«p_rate»), two-back (p .quality) (h .quality), two-back (p .window) (h .window), two-back (p .delay) (h .delay), four-back (p .«frame_size») (h .«frame_size»), four-back (p .«payload_size») (h .«payload_size»), four-back (p .clock) (h .clock))
+fields-back R15 p h = rw (two-back (p .hint) (h .hint), four-back (p .interval) (h .interval), two-back (p .«key_rate») (h .«key_rate»), two-back (p .«p_rate») (h .«p_rate»), two-back (p .quality) (h .quality), two-back (p .window) (h .window), two-back (p .delay) (h .delay), four-back (p .«frame_size») (h .«frame_size»), four-back (p .«payload_size») (h .«payload_size»), four-back (p .clock) (h .clock), two-back (p .«rate_modes») (h .«rate_modes»), bytes-all (p .layout) 8 (h .layout))
 
 -- ---- bytes to fields to bytes
 pub bytes-back : (s : List ℕ) → Bytes s → bytesOf (fieldsOf s) ≡ bytesAt s 0 48
@@ -102,47 +107,53 @@ bytes-back s h =
     let q26 = four-bytes (getD s 26 0) (getD s 27 0) (getD s 28 0) (getD s 29 0) (h 26) (h 27) (h 28) (h 29) in
     rw (low (getD s 0 0) (getD s 1 0) (h 0), high (getD s 0 0) (getD s 1 0) (h 0) (h 1), q4 .byte-0, q4 .byte-1, q4 .byte-2, q4 .byte-3, low (getD s 8 0) (getD s 9 0) (h 8), high (getD s 8 0) (getD s 9 0) (h 8) (h 9), low (getD s 10 0) (getD s 11 0) (h 10), high (getD s 10 0) (getD s 11 0) (h 10) (h 11), low (getD s 12 0) (getD s 13 0) (h 12), high (getD s 12 0) (getD s 13 0) (h 12) (h 13), low (getD s 14 0) (getD s 15 0) (h 14), high (getD s 14 0) (getD s 15 0) (h 14) (h 15), low (getD s 16 0) (getD s 17 0) (h 16), high (getD s 16 0) (getD s 17 0) (h 16) (h 17), q18 .byte-0, q18 .byte-1, q18 .byte-2, q18 .byte-3, q22 .byte-0, q22 .byte-1, q22 .byte-2, q22 .byte-3, q26 .byte-0, q26 .byte-1, q26 .byte-2, q26 .byte-3, low (getD s 38 0) (getD s 39 0) (h 38), high (getD s 38 0) (getD s 39 0) (h 38) (h 39))
 
-module _ (p : Probe) (room : List ℕ) where
-  whole-is : probeLength ≤ length room → written p room ≡ bytesOf p ++ drop probeLength room
-  unfolding written pick
-  whole-is h = rw (le-ltb (length room) probeLength h)
+-- the first so many of them
+first-bytes : (v : Revision) (s : List ℕ) → take (probeSize v) (bytesAt s 0 48) ≡ bytesAt s 0 (probeSize v)
+unfolding saysOf
+first-bytes R10 s = refl
+first-bytes R11 s = refl
+first-bytes R15 s = refl
 
-  short-is : length room < probeLength → written p room ≡ room
+module _ (v : Revision) (p : Probe) (room : List ℕ) where
+  whole-is : probeSize v ≤ length room → written v p room ≡ take (probeSize v) (bytesOf p) ++ drop (probeSize v) room
   unfolding written pick
-  short-is h = rw (lt-ltb (length room) probeLength h)
+  whole-is h = rw (le-ltb (length room) (probeSize v) h)
+
+  short-is : length room < probeSize v → written v p room ≡ room
+  unfolding written pick
+  short-is h = rw (lt-ltb (length room) (probeSize v) h)
 
   -- a refused write changes no byte
-  pub refused-keeps : (k o : ℕ) → roomVerdict room ≡ Refused k o → written p room ≡ room
+  pub refused-keeps : (k o : ℕ) → roomVerdict v room ≡ Refused k o → written v p room ≡ room
   unfolding roomVerdict pick
-  refused-keeps k o e = go (ltb (length room) probeLength) refl
+  refused-keeps k o e = go (ltb (length room) (probeSize v)) refl
     where
-      go : (b : Bool) → ltb (length room) probeLength ≡ b → written p room ≡ room
-      go true q = short-is (ltb-true (length room) probeLength q)
+      go : (b : Bool) → ltb (length room) (probeSize v) ≡ b → written v p room ≡ room
+      go true q = short-is (ltb-true (length room) (probeSize v) q)
       go false q = let w : Accepted ≡ Refused k o = rw q at e in let z : _≡_ {A = ℕ} 0 1 = cc in absurd (omega arith)
 
-  -- bytes past the first 48 never change
-  pub past-kept : drop probeLength (written p room) ≡ drop probeLength room
-  past-kept = go (ltb (length room) probeLength) refl
+  -- bytes past the revision's block never change
+  pub past-kept : drop (probeSize v) (written v p room) ≡ drop (probeSize v) room
+  past-kept = go (ltb (length room) (probeSize v)) refl
     where
-      go : (b : Bool) → ltb (length room) probeLength ≡ b → drop probeLength (written p room) ≡ drop probeLength room
-      go true q = rw (short-is (ltb-true (length room) probeLength q))
-      go false q = rw (whole-is (ltb-false (length room) probeLength q)) (drop-at (bytesOf p) (drop probeLength room) probeLength (bytes-length p))
+      go : (b : Bool) → ltb (length room) (probeSize v) ≡ b → drop (probeSize v) (written v p room) ≡ drop (probeSize v) room
+      go true q = rw (short-is (ltb-true (length room) (probeSize v) q))
+      go false q = rw (whole-is (ltb-false (length room) (probeSize v) q)) (drop-at (take (probeSize v) (bytesOf p)) (drop (probeSize v) room) (probeSize v) (first-length v p))
 
-  -- reading the first 48 bytes of what was written gives the fields back
-  read-written : Held p → probeLength ≤ length room → probeOf (take probeLength (written p room)) ≡ record { verdict = Accepted; probe = p }
-  read-written h l = rw (whole-is l, take-at (bytesOf p) (drop probeLength room) probeLength (bytes-length p)) (sym (read-whole (bytesOf p) p (bytes-length p) (sym back)))
-    where
-      back : fieldsOf (bytesOf p) ≡ p
-      back = ap fieldsOf (sym (append-nil (bytesOf p))) ∙ fields-back p [] h
+  -- reading what was written gives the fields back
+  read-written : Held p → probeSize v ≤ length room → probeOf v (take (probeSize v) (written v p room)) ≡ record { verdict = Accepted; probe = keptIn v p }
+  read-written h l =
+      rw (whole-is l, take-at (take (probeSize v) (bytesOf p)) (drop (probeSize v) room) (probeSize v) (first-length v p))
+      (sym (read-whole v (take (probeSize v) (bytesOf p)) (keptIn v p) (first-length v p) (sym (fields-back v p h))))
 
 -- ---- what `write` promises of a room that is too short, and of one that is not
-pub short-back : (p : Probe) (room : List ℕ) → length room < probeLength → ReadsBack p room
-short-back p room h l = absurd (omega arith)
+pub short-back : (v : Revision) (p : Probe) (room : List ℕ) → length room < probeSize v → ReadsBack v p room
+short-back v p room h l = absurd (omega arith)
 
-pub whole-back : (p : Probe) (room now : List ℕ) → Held p → probeLength ≤ length room → now ≡ written p room → ReadsBack p now
-whole-back p room now h l e k = rw e (read-written p room h l)
+pub whole-back : (v : Revision) (p : Probe) (room now : List ℕ) → Held p → probeSize v ≤ length room → now ≡ written v p room → ReadsBack v p now
+whole-back v p room now h l e k = rw e (read-written v p room h l)
 
--- ---- what `read` promises: writing what was read gives the 48 bytes back, and leaves the rest
-pub writes-back : (s : List ℕ) (p : Probe) → Bytes s → p ≡ fieldsOf s → WritesBack p s
-writes-back s p b e l room h =
-    rw e (whole-is (fieldsOf s) room h ∙ ap (λ (x : List ℕ). x ++ drop probeLength room) (bytes-back s b ∙ bytes-all s 48 l))
+-- ---- what `read` promises: writing what was read gives the block's bytes back, and leaves the rest
+pub writes-back : (v : Revision) (s : List ℕ) (p : Probe) → Bytes s → p ≡ fieldsOf s → WritesBack v p s
+writes-back v s p b e l room h =
+    rw e (whole-is v (fieldsOf s) room h ∙ ap (λ (x : List ℕ). x ++ drop (probeSize v) room) (ap (take (probeSize v)) (bytes-back s b) ∙ first-bytes v s ∙ bytes-all s (probeSize v) l))

@@ -1,36 +1,56 @@
 -- What the tests of reading and writing say.
-use Prim.Native.Nat.{ℕ, _+_, _≤_, _<_}
-use mathlib.Core.Path.{_≡_, refl, _∙_}
+use Prim.Native.Nat.{ℕ, _≤_, _<_}
+use mathlib.Core.Path.{_≡_, refl}
 use mathlib.Core.List.{List, _++_}
-use lib.ListN.{length, take, drop}
+use lib.ListN.{length, take, drop, length-take}
+use native.Mathlib.Omega.{arith}
 use borrow.Author.Tests.{eq-eqb, ne-eqb, lt-ltb, le-ltb}
 use Rattle.rules.specs.Pick.{pick}
 use Rattle.rules.specs.declared.Verdict.the-variants.{Accepted, Refused}
-use Rattle.probe.specs.Fields.{probeLength, fieldsOf, noFields, bytesOf, probeOf, roomVerdict, written}
+use Rattle.entities.specs.Revisions.{saysOf}
+use Rattle.entities.specs.declared.Revision.{Revision}
+use Rattle.entities.specs.declared.Revision.the-variants.{R10, R11, R15}
+use Rattle.entities.specs.declared.Says.{Says}
+use Rattle.probe.specs.Fields.{probeSize, fieldsOf, noFields, bytesOf, probeOf, roomVerdict, written}
 use Rattle.probe.specs.declared.Probe.{Probe}
 use Rattle.probe.specs.declared.Fields.{Fields}
 
-pub read-whole : (s : List ℕ) (p : Probe) → length s ≡ probeLength → p ≡ fieldsOf s → _≡_ {A = Fields} (record { verdict = Accepted; probe = p }) (probeOf s)
+pub read-whole : (v : Revision) (s : List ℕ) (p : Probe) → length s ≡ probeSize v → p ≡ fieldsOf s → _≡_ {A = Fields} (record { verdict = Accepted; probe = p }) (probeOf v s)
 unfolding probeOf pick
-read-whole s p h e = rw (eq-eqb (length s) probeLength h, e)
+read-whole v s p h e = rw (eq-eqb (length s) (probeSize v) h, e)
 
-pub read-wrong : (s : List ℕ) (p : Probe) → (length s ≡ probeLength → ⊥) → p ≡ noFields → _≡_ {A = Fields} (record { verdict = Refused 41 0; probe = p }) (probeOf s)
+pub read-wrong : (v : Revision) (s : List ℕ) (p : Probe) → (length s ≡ probeSize v → ⊥) → p ≡ noFields → _≡_ {A = Fields} (record { verdict = Refused 41 0; probe = p }) (probeOf v s)
 unfolding probeOf pick
-read-wrong s p h e = rw (ne-eqb (length s) probeLength h, e)
+read-wrong v s p h e = rw (ne-eqb (length s) (probeSize v) h, e)
 
 -- the fields have 48 bytes
 pub bytes-length : (p : Probe) → length (bytesOf p) ≡ 48
 unfolding bytesOf
 bytes-length p = refl
 
-pub write-short : (p : Probe) (room : List ℕ) → length room < probeLength → (Refused 41 0 ≡ roomVerdict room) × (room ≡ written p room)
-unfolding roomVerdict written pick
-write-short p room h = rw (lt-ltb (length room) probeLength h) (refl, refl)
+-- what every revision says of the size
+pub size-least : (v : Revision) → 26 ≤ probeSize v
+unfolding saysOf
+size-least R10 = omega arith
+size-least R11 = omega arith
+size-least R15 = omega arith
 
-pub copied : (p : Probe) (room l src : List ℕ) (n : ℕ) → src ≡ bytesOf p → n ≡ length src → l ≡ take n src ++ drop n room → l ≡ bytesOf p ++ drop probeLength room
-unfolding bytesOf
-copied p room l src n e m h = h ∙ (rw (m, e))
+pub size-most : (v : Revision) → probeSize v ≤ 48
+unfolding saysOf
+size-most R10 = omega arith
+size-most R11 = omega arith
+size-most R15 = omega arith
 
-pub write-whole : (p : Probe) (room l : List ℕ) → probeLength ≤ length room → l ≡ bytesOf p ++ drop probeLength room → (Accepted ≡ roomVerdict room) × (l ≡ written p room)
+pub size-is : (v : Revision) (y : Says) → y ≡ saysOf v → (y .probe ≡ probeSize v) × (26 ≤ y .probe) × (y .probe ≤ 48)
+size-is v y e = rw e (refl, size-least v, size-most v)
+
+pub first-length : (v : Revision) (p : Probe) → length (take (probeSize v) (bytesOf p)) ≡ probeSize v
+first-length v p = simp length-take (omega (arith, size-most v, bytes-length p))
+
+pub write-short : (v : Revision) (p : Probe) (room : List ℕ) → length room < probeSize v → (Refused 41 0 ≡ roomVerdict v room) × (room ≡ written v p room)
 unfolding roomVerdict written pick
-write-whole p room l h e = rw (le-ltb (length room) probeLength h) (refl, e)
+write-short v p room h = rw (lt-ltb (length room) (probeSize v) h) (refl, refl)
+
+pub write-whole : (v : Revision) (p : Probe) (room l : List ℕ) → probeSize v ≤ length room → l ≡ take (probeSize v) (bytesOf p) ++ drop (probeSize v) room → (Accepted ≡ roomVerdict v room) × (l ≡ written v p room)
+unfolding roomVerdict written pick
+write-whole v p room l h e = rw (le-ltb (length room) (probeSize v) h) (refl, e)

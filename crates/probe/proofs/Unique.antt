@@ -4,20 +4,21 @@ use mathlib.Core.Path.{_≡_, sym, _∙_}
 use mathlib.Core.List.{List}
 use Rattle.rules.specs.declared.Verdict.{Verdict}
 use Rattle.entities.specs.declared.Table.{Table}
+use Rattle.entities.specs.declared.Revision.{Revision}
 use Rattle.probe.specs.Fields.{probeOf, roomVerdict, written, WritesBack, ReadsBack}
 use Rattle.probe.specs.Answer.{checkOf}
 use Rattle.probe.specs.declared.Probe.{Probe}
 use Rattle.probe.specs.declared.Fields.{Fields}
 
-pub read-unique : (s : List ℕ) (x y : Fields) → (x ≡ probeOf s) × WritesBack (x .probe) s → (y ≡ probeOf s) × WritesBack (y .probe) s → x ≡ y
-read-unique s x y p q = p .0 ∙ sym (q .0)
+pub read-unique : (u : Revision) (s : List ℕ) (x y : Fields) → (x ≡ probeOf u s) × WritesBack u (x .probe) s → (y ≡ probeOf u s) × WritesBack u (y .probe) s → x ≡ y
+read-unique u s x y p q = p .0 ∙ sym (q .0)
 
 pub write-unique :
-    (p : Probe) (room : List ℕ) (v w : Verdict) (l m : List ℕ) →
-    ((v ≡ roomVerdict room) × (l ≡ written p room)) × ReadsBack p l →
-    ((w ≡ roomVerdict room) × (m ≡ written p room)) × ReadsBack p m →
+    (u : Revision) (p : Probe) (room : List ℕ) (v w : Verdict) (l m : List ℕ) →
+    ((v ≡ roomVerdict u room) × (l ≡ written u p room)) × ReadsBack u p l →
+    ((w ≡ roomVerdict u room) × (m ≡ written u p room)) × ReadsBack u p m →
     (v ≡ w) × (l ≡ m)
-write-unique p room v w l m a b = (a .0 .0 ∙ sym (b .0 .0), a .0 .1 ∙ sym (b .0 .1))
+write-unique u p room v w l m a b = (a .0 .0 ∙ sym (b .0 .0), a .0 .1 ∙ sym (b .0 .1))
 
 pub check-unique : (t : Table) (s b : List ℕ) (x y : Verdict) → x ≡ checkOf t s b → y ≡ checkOf t s b → x ≡ y
 check-unique t s b x y p q = p ∙ sym q

@@ -11,6 +11,7 @@ use Rattle.rules.specs.Verdicts.{_andThen_}
 use Rattle.rules.specs.declared.Verdict.{Verdict}
 use Rattle.rules.specs.declared.Verdict.the-variants.{Accepted, Refused}
 use Rattle.entities.specs.declared.Table.{Table}
+use Rattle.entities.specs.declared.Revision.{Revision}
 use Rattle.sizes.specs.Sizes.{frameSizeBroken, payloadSizeBroken}
 use Rattle.streaming_rules.specs.Descriptors.{noFrame}
 use Rattle.streaming_rules.specs.Rules.{offersAt}
@@ -18,7 +19,7 @@ use Rattle.streaming_rules.specs.declared.Frame.{Frame}
 use Rattle.rules.specs.Place.{firstPlace}
 use Rattle.streaming.specs.Answer.{streamingOf}
 use Rattle.streaming.specs.declared.Streaming.{Streaming}
-use Rattle.probe.specs.Fields.{probeLength, fieldsOf}
+use Rattle.probe.specs.Fields.{probeSize, fieldsOf}
 use Rattle.probe.specs.declared.Probe.{Probe}
 
 -- the frame at place i of the table
@@ -58,10 +59,10 @@ unfoldable pub given : ℕ → Verdict
 given zero = Accepted
 given (suc k) = Refused (suc k) 0
 
--- 41: the probe block has not 48 bytes
-abbrev pub lengthVerdict : List ℕ → Verdict
-lengthVerdict b = pick (eqb (length b) probeLength) Accepted (Refused 41 0)
+-- 41: the probe block has not as many bytes as the revision says
+abbrev pub lengthVerdict : Revision → List ℕ → Verdict
+lengthVerdict v b = pick (eqb (length b) (probeSize v)) Accepted (Refused 41 0)
 
--- 41, then the streaming block's own refusal, then 42 to 46
+-- 41 by the table's revision, then the streaming block's own refusal, then 42 to 46
 unfoldable pub checkOf : Table → List ℕ → List ℕ → Verdict
-checkOf t s b = lengthVerdict b andThen streamingOf t s .verdict andThen given (firstRow (checkRows s (streamingOf t s) (fieldsOf b)))
+checkOf t s b = lengthVerdict (t .revision) b andThen streamingOf t s .verdict andThen given (firstRow (checkRows s (streamingOf t s) (fieldsOf b)))

@@ -12,7 +12,7 @@ use Rattle.sizes.specs.Sizes.{frameMost, payloadLeast, payloadMost}
 use Rattle.streaming_rules.specs.Descriptors.{noFrame, kindAt, formatOf, kAt, intervalsAt}
 use Rattle.streaming.specs.Answer.{Seen}
 use Rattle.streaming.specs.Broken.{Sound, FirstBroken}
-use Rattle.probe.specs.Fields.{probeLength, fieldsOf}
+use Rattle.probe.specs.Fields.{probeSize, fieldsOf}
 use Rattle.probe.specs.declared.Probe.{Probe}
 
 -- 42: the format is one of the block's
@@ -45,9 +45,9 @@ checkRules s a p =
     ∷ rule 46 ((payloadLeast ≤ p .«payload_size») × (p .«payload_size» ≤ payloadMost))
     ∷ []
 
--- the probe block has 48 bytes, and no rule of the streaming block is broken
+-- the probe block has as many bytes as the table's revision says, and no rule of the streaming block is broken
 pub record Read (t : Table) (s b : List ℕ) (a : Seen) : Type 0 where
-  pub whole : length b ≡ probeLength
+  pub whole : length b ≡ probeSize (t .revision)
   pub sound : Sound t s a
 
 -- every one of 41, the block's own rules and 42 to 46 is kept
@@ -58,6 +58,6 @@ pub record Yes (t : Table) (s b : List ℕ) : Type 0 where
 
 -- the first that is not
 pub data No (t : Table) (s b : List ℕ) : ℕ → ℕ → Type 0 where
-  of-length : (length b ≡ probeLength → ⊥) → No t s b 41 0
-  of-block : (k o : ℕ) → length b ≡ probeLength → FirstBroken t s k o → No t s b k o
+  of-length : (length b ≡ probeSize (t .revision) → ⊥) → No t s b 41 0
+  of-block : (k o : ℕ) → length b ≡ probeSize (t .revision) → FirstBroken t s k o → No t s b k o
   of-rule : (a : Seen) → Read t s b a → (k : ℕ) → FirstFails (checkRules s a (fieldsOf b)) k → No t s b k 0

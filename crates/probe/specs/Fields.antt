@@ -1,4 +1,4 @@
--- The 48 bytes of a probe block, field by field, and what reading and writing them does.
+-- The bytes of a probe block, field by field, and what reading and writing them does. A block of an older revision has the first of the 48.
 use Prim.Native.Nat.{ℕ, zero, suc, _+_, _/_, _%_, _≤_}
 use mathlib.Core.Path.{_≡_}
 use mathlib.Core.List.{List, [], _∷_, _++_}
@@ -8,11 +8,15 @@ use Rattle.le.specs.Le.{le16At, le32At}
 use Rattle.rules.specs.Pick.{pick}
 use Rattle.rules.specs.declared.Verdict.{Verdict}
 use Rattle.rules.specs.declared.Verdict.the-variants.{Accepted, Refused}
+use Rattle.entities.specs.Revisions.{saysOf}
+use Rattle.entities.specs.declared.Revision.{Revision}
+use Rattle.entities.specs.declared.Revision.the-variants.{R10, R11, R15}
 use Rattle.probe.specs.declared.Probe.{Probe}
 use Rattle.probe.specs.declared.Fields.{Fields}
 
-abbrev pub probeLength : ℕ
-probeLength = 48
+-- 26, 34 or 48
+abbrev pub probeSize : Revision → ℕ
+probeSize v = saysOf v .probe
 
 -- the n bytes from o on
 abbrev pub bytesAt : List ℕ → ℕ → ℕ → List ℕ
@@ -26,7 +30,7 @@ two x = x % 256 ∷ x / 256 % 256 ∷ []
 abbrev pub four : ℕ → List ℕ
 four x = x % 256 ∷ x / 256 % 256 ∷ x / 65536 % 256 ∷ x / 16777216 % 256 ∷ []
 
--- where each field stands
+-- where each field stands; what stands past the end reads as 0
 unfoldable pub fieldsOf : List ℕ → Probe
 fieldsOf s =
     record {
@@ -97,24 +101,76 @@ noFields =
       layout = replicate 8 0;
     }
 
--- reading: 41 unless there are exactly 48 bytes
-unfoldable pub probeOf : List ℕ → Fields
-probeOf s =
-    pick (eqb (length s) probeLength) (record { verdict = Accepted; probe = fieldsOf s }) (record { verdict = Refused 41 0; probe = noFields })
+-- the fields that the revision has; the others are 0
+unfoldable pub keptIn : Revision → Probe → Probe
+keptIn R10 p = record {
+  hint = p .hint;
+  format = p .format;
+  frame = p .frame;
+  interval = p .interval;
+  «key_rate» = p .«key_rate»;
+  «p_rate» = p .«p_rate»;
+  quality = p .quality;
+  window = p .window;
+  delay = p .delay;
+  «frame_size» = p .«frame_size»;
+  «payload_size» = p .«payload_size»;
+  clock = 0;
+  framing = 0;
+  preferred = 0;
+  minimum = 0;
+  maximum = 0;
+  usage = 0;
+  «luma_depth» = 0;
+  settings = 0;
+  «reference_frames» = 0;
+  «rate_modes» = 0;
+  layout = replicate 8 0;
+}
+keptIn R11 p = record {
+  hint = p .hint;
+  format = p .format;
+  frame = p .frame;
+  interval = p .interval;
+  «key_rate» = p .«key_rate»;
+  «p_rate» = p .«p_rate»;
+  quality = p .quality;
+  window = p .window;
+  delay = p .delay;
+  «frame_size» = p .«frame_size»;
+  «payload_size» = p .«payload_size»;
+  clock = p .clock;
+  framing = p .framing;
+  preferred = p .preferred;
+  minimum = p .minimum;
+  maximum = p .maximum;
+  usage = 0;
+  «luma_depth» = 0;
+  settings = 0;
+  «reference_frames» = 0;
+  «rate_modes» = 0;
+  layout = replicate 8 0;
+}
+keptIn R15 p = p
 
--- writing: 41 where there is room for under 48 bytes, and then no byte changes; else the first 48
-unfoldable pub roomVerdict : List ℕ → Verdict
-roomVerdict room = pick (ltb (length room) probeLength) (Refused 41 0) Accepted
+-- reading: 41 unless there are exactly as many bytes as the revision says
+unfoldable pub probeOf : Revision → List ℕ → Fields
+probeOf v s =
+    pick (eqb (length s) (probeSize v)) (record { verdict = Accepted; probe = fieldsOf s }) (record { verdict = Refused 41 0; probe = noFields })
 
-unfoldable pub written : Probe → List ℕ → List ℕ
-written p room = pick (ltb (length room) probeLength) room (bytesOf p ++ drop probeLength room)
+-- writing: 41 where there is room for fewer bytes than the revision says, and then no byte changes; else the first so many, and no other
+unfoldable pub roomVerdict : Revision → List ℕ → Verdict
+roomVerdict v room = pick (ltb (length room) (probeSize v)) (Refused 41 0) Accepted
 
--- THE ROUND TRIP. Every field is a number of its type and every byte is under 256, so that these hold of all that is read and written: they stand in the
--- promises of `read` and `write`, where the types tell it.
--- writing what was read gives the 48 bytes back, and leaves the rest
-abbrev pub WritesBack : Probe → List ℕ → Type 0
-WritesBack p s = length s ≡ probeLength → (room : List ℕ) → probeLength ≤ length room → written p room ≡ s ++ drop probeLength room
+unfoldable pub written : Revision → Probe → List ℕ → List ℕ
+written v p room = pick (ltb (length room) (probeSize v)) room (take (probeSize v) (bytesOf p) ++ drop (probeSize v) room)
 
--- reading the first 48 bytes of what was written gives the fields back
-abbrev pub ReadsBack : Probe → List ℕ → Type 0
-ReadsBack p room = probeLength ≤ length room → probeOf (take probeLength room) ≡ record { verdict = Accepted; probe = p }
+-- THE ROUND TRIP, over the revision. Every field is a number of its type and every byte is under 256, so that these hold of all that is read and written: they
+-- stand in the promises of `read` and `write`, where the types tell it.
+-- writing what was read gives the block's bytes back, and leaves the rest
+abbrev pub WritesBack : Revision → Probe → List ℕ → Type 0
+WritesBack v p s = length s ≡ probeSize v → (room : List ℕ) → probeSize v ≤ length room → written v p room ≡ s ++ drop (probeSize v) room
+
+-- reading what was written gives the fields back, with those that the revision lacks as 0
+abbrev pub ReadsBack : Revision → Probe → List ℕ → Type 0
+ReadsBack v p room = probeSize v ≤ length room → probeOf v (take (probeSize v) room) ≡ record { verdict = Accepted; probe = keptIn v p }

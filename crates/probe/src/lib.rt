@@ -1,15 +1,18 @@
-// The probe and commit block of 48 bytes: reading, writing, and checking it against a streaming block (41 to 46).
+// The probe and commit block of 26, 34 or 48 bytes, by the revision: reading, writing, and checking it against a streaming block (41 to 46).
 ghost use mathlib.Core.Path.{_≡_};
 ghost use Prim.Native.Nat.{_+_, _/_, _%_, _≤_, _<_};
 ghost use lib.ListN.{length};
-ghost use Rattle.probe.specs.Fields.{fieldsOf, bytesOf, noFields, probeOf, roomVerdict, written, WritesBack, ReadsBack};
+ghost use Rattle.probe.specs.Fields.{probeSize, bytesAt, fieldsOf, bytesOf, noFields, probeOf, roomVerdict, written, WritesBack, ReadsBack};
+ghost use Rattle.le.specs.Le.{le16At, le32At};
 ghost use Rattle.rules.specs.Numbered.{firstRow};
 ghost use Rattle.streaming_rules.specs.Descriptors.{kindAt, formatOf, frameLengthAt};
 ghost use Rattle.probe.specs.Answer.{formatMissing, hasNumber, frameRows, given, checkOf};
+use entities::Revision;
 use entities::Table;
 use rules::Verdict;
 use streaming_rules::Frame;
 
+// The bytes of the longest block, that of revision 1.5.
 pub const LENGTH: usize = 48;
 
 // The fields as they come. preferred, minimum and maximum are versions.
@@ -44,9 +47,31 @@ pub struct Fields {
     pub probe: Probe,
 }
 
-// The fields of 48 bytes.
+// The bytes of a revision's block.
+fn size_of(revision: Revision) -> usize
+    ensures { λ r. ⌜ (r ≡ probeSize revision) × (26 ≤ r) × (r ≤ 48) ⌝ }
+{
+    entities::says_of(revision).probe
+}
+
+// Numbers at a place that a shorter block lacks: 0 there.
+fn late16(s: &[u8], at: usize) -> u16
+    requires { ⌜ at < 48 ⌝ }
+    ensures { λ r. ⌜ r ≡ le16At (now (s .entry)) at ⌝ }
+{
+    le::join16(le::byte_at(s, at), le::byte_at(s, at + 1))
+}
+
+fn late32(s: &[u8], at: usize) -> u32
+    requires { ⌜ at + 2 < 48 ⌝ }
+    ensures { λ r. ⌜ r ≡ le32At (now (s .entry)) at ⌝ }
+{
+    le::join32(late16(s, at), late16(s, at + 2))
+}
+
+// The fields of a block; those that it lacks are 0.
 fn fields_of(s: &[u8]) -> Probe
-    requires { ⌜ length (now s) ≡ 48 ⌝ }
+    requires { ⌜ 26 ≤ length (now s) ⌝ }
     ensures { λ r. ⌜ r ≡ fieldsOf (now (s .entry)) ⌝ }
 {
     let hint = le::le16(s, 0);
@@ -58,9 +83,9 @@ fn fields_of(s: &[u8]) -> Probe
     let delay = le::le16(s, 16);
     let frame_size = le::le32(s, 18);
     let payload_size = le::le32(s, 22);
-    let clock = le::le32(s, 26);
-    let rate_modes = le::le16(s, 38);
-    let layout = [s[40], s[41], s[42], s[43], s[44], s[45], s[46], s[47]];
+    let clock = late32(s, 26);
+    let rate_modes = late16(s, 38);
+    let layout = late_layout(s);
     Probe {
         hint,
         format: s[2],
@@ -74,17 +99,32 @@ fn fields_of(s: &[u8]) -> Probe
         frame_size,
         payload_size,
         clock,
-        framing: s[30],
-        preferred: s[31],
-        minimum: s[32],
-        maximum: s[33],
-        usage: s[34],
-        luma_depth: s[35],
-        settings: s[36],
-        reference_frames: s[37],
+        framing: le::byte_at(s, 30),
+        preferred: le::byte_at(s, 31),
+        minimum: le::byte_at(s, 32),
+        maximum: le::byte_at(s, 33),
+        usage: le::byte_at(s, 34),
+        luma_depth: le::byte_at(s, 35),
+        settings: le::byte_at(s, 36),
+        reference_frames: le::byte_at(s, 37),
         rate_modes,
         layout,
     }
+}
+
+fn late_layout(s: &[u8]) -> [u8; 8]
+    ensures { λ r. ⌜ r ≡ bytesAt (now (s .entry)) 40 8 ⌝ }
+{
+    [
+        le::byte_at(s, 40),
+        le::byte_at(s, 41),
+        le::byte_at(s, 42),
+        le::byte_at(s, 43),
+        le::byte_at(s, 44),
+        le::byte_at(s, 45),
+        le::byte_at(s, 46),
+        le::byte_at(s, 47),
+    ]
 }
 
 fn no_fields() -> Probe
@@ -117,11 +157,11 @@ fn no_fields() -> Probe
     }
 }
 
-// Reads a probe block: 41 unless it has exactly 48 bytes.
-pub fn read(block: &[u8]) -> Fields
-    ensures { λ r. ⌜ (r ≡ probeOf (now (block .entry))) × WritesBack (r .probe) (now (block .entry)) ⌝ }
+// Reads a probe block: 41 unless it has exactly the revision's bytes.
+pub fn read(block: &[u8], revision: Revision) -> Fields
+    ensures { λ r. ⌜ (r ≡ probeOf revision (now (block .entry))) × WritesBack revision (r .probe) (now (block .entry)) ⌝ }
 {
-    if block.len() == LENGTH {
+    if block.len() == size_of(revision) {
         let probe = fields_of(block);
         return Fields {
             verdict: Verdict::Accepted,
@@ -231,19 +271,20 @@ fn bytes_of(p: Probe) -> [u8; LENGTH]
     ]
 }
 
-// Writes the first 48 bytes of the room and no other; 41 where it has under 48 bytes, and then no byte changes.
-pub fn write(p: Probe, room: &mut [u8]) -> Verdict
-    ensures { λ r. ⌜ (r ≡ roomVerdict (now (room .entry))) × (now (room .exit) ≡ written p (now (room .entry))) ⌝ }
-    ensures { λ r. ⌜ ReadsBack p (now (room .exit)) ⌝ }
+// Writes the first bytes of the room, as many as the revision's block has, and no other; 41 where it has fewer, and then no byte changes.
+pub fn write(p: Probe, room: &mut [u8], revision: Revision) -> Verdict
+    ensures { λ r. ⌜ (r ≡ roomVerdict revision (now (room .entry))) × (now (room .exit) ≡ written revision p (now (room .entry))) ⌝ }
+    ensures { λ r. ⌜ ReadsBack revision p (now (room .exit)) ⌝ }
 {
-    if room.len() < LENGTH {
+    let size = size_of(revision);
+    if room.len() < size {
         return Verdict::Refused {
             number: 41,
             offset: 0,
         };
     }
     let block = bytes_of(p);
-    bytes::copy(&block, room);
+    bytes::copy(&block[..size], room);
     Verdict::Accepted
 }
 
@@ -271,7 +312,7 @@ fn has_number(block: &[u8], format: u8, number: u8, f: Frame) -> bool
 
 // 44 to 46, with the frame whose descriptor stands at `at`.
 fn check_frame(block: &[u8], at: usize, probe: &[u8]) -> Verdict
-    requires { ⌜ (at + frameLengthAt (formatOf (kindAt (now block) at)) (now block) at ≤ length (now block)) × (length (now probe) ≡ 48) ⌝ }
+    requires { ⌜ (at + frameLengthAt (formatOf (kindAt (now block) at)) (now block) at ≤ length (now block)) × (26 ≤ length (now probe)) ⌝ }
     ensures { λ r. ⌜ r ≡ given (firstRow (frameRows (now (block .entry)) at (fieldsOf (now (probe .entry))))) ⌝ }
 {
     let offered = streaming_rules::offers_at(block, at, le::le32(probe, 4));
@@ -299,7 +340,7 @@ fn refused(number: u8) -> Verdict
 pub fn check(table: Table, block: &[u8], probe: &[u8]) -> Verdict
     ensures { λ r. ⌜ r ≡ checkOf table (now (block .entry)) (now (probe .entry)) ⌝ }
 {
-    if probe.len() != LENGTH {
+    if probe.len() != size_of(table.revision) {
         return refused(41);
     }
     let a = streaming::read(table, block);

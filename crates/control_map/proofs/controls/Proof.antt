@@ -15,13 +15,16 @@ find-controls-requires c κs = accepted-table _ _ (c .before .before .before .re
 enum-known-verdict : tie.Need-enum-known-verdict
 enum-known-verdict c = search needs
 
+refused-requires : tie.Need-refused-requires
+refused-requires c κs = search needs
+
 returns : tie.Need-returns
 returns c = search needs
 
 returns-2 : tie.Need-returns-2
-returns-2 c = map-own _ _ _ (c .before .before .before .before .read .ensures) _ _ (c .before .verdict .given .1)
+returns-2 c = map-own _ _ _ (c .before .before .before .before .before .read .ensures) _ _ (c .before .before .verdict .given .1) _ (c .refused .ensures)
 
 pub controls-spec : {M : Type 1} → statement M
 controls-spec =
     tie.close
-    (tie.spec read-requires enum-told find-controls-requires enum-known-verdict returns returns-2)
+    (tie.spec read-requires enum-told find-controls-requires enum-known-verdict refused-requires returns returns-2)

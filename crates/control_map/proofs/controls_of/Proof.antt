@@ -9,6 +9,9 @@ controls-place-requires c κs = search needs
 enum-told : tie.Need-enum-told
 enum-told c = search needs
 
+refused-requires : tie.Need-refused-requires
+refused-requires c κs = search needs
+
 enum-known-place : tie.Need-enum-known-place
 enum-known-place c = search needs
 
@@ -16,7 +19,7 @@ controls-at-requires : tie.Need-controls-at-requires
 controls-at-requires c κs = search needs
 
 returns : tie.Need-returns
-returns c = by-nowhere _ _ _ (c .before .before .controls-place .ensures) (c .enum-told .given .1)
+returns c = by-nowhere _ _ _ (c .before .before .before .controls-place .ensures) (c .before .enum-told .given .1) _ (c .refused .ensures)
 
 returns-2 : tie.Need-returns-2
 returns-2 c = by-at _ _ _ _ _ (c .before .before .before .before .controls-place .ensures) (c .before .before .place .given .1) (c .controls-at .ensures)
@@ -27,6 +30,7 @@ controls-of-spec =
     (tie.spec
     controls-place-requires
     enum-told
+    refused-requires
     enum-known-place
     controls-at-requires
     returns

@@ -1,5 +1,4 @@
 use native.Mathlib.Omega.{arith}
-use mathlib.Core.Path.{refl}
 use Rattle.entities.proofs.Finding.{length-of}
 use Rattle.control_map.proofs.Mapping.{in-table, map-nothing, map-at}
 use borrow.Author.Needs.{needs}
@@ -11,6 +10,9 @@ find-among-requires c κs = search needs
 
 enum-told : tie.Need-enum-told
 enum-told c = search needs
+
+refused-requires : tie.Need-refused-requires
+refused-requires c κs = search needs
 
 enum-known-i : tie.Need-enum-known-i
 enum-known-i c = search needs
@@ -25,7 +27,7 @@ controls-of-requires : tie.Need-controls-of-requires
 controls-of-requires c κs = search needs
 
 returns : tie.Need-returns
-returns c = map-nothing _ _ (c .before .before .before .before .before .pre) _ _ (c .before .before .find-among .ensures) _ (c .enum-told .given .1) refl
+returns c = map-nothing _ _ (c .before .before .before .before .before .before .pre) _ _ (c .before .before .before .find-among .ensures) _ (c .before .enum-told .given .1) (c .refused .ensures)
 
 returns-2 : tie.Need-returns-2
 returns-2 c = map-at _ _ (c .before .before .before .before .before .before .before .before .pre) _ _ (c .before .before .before .before .before .find-among .ensures) _ (c .before .before .before .i .given .1) _ (c .controls-of .ensures)
@@ -36,6 +38,7 @@ find-controls-spec =
     (tie.spec
     find-among-requires
     enum-told
+    refused-requires
     enum-known-i
     mul-e
     element-copy-out-e

@@ -16,11 +16,14 @@ Inv-loop block probe a format number n i₀ i = Seeking (λ j. hasNumber block f
 abbrev μ-loop : tie.MeasureT-loop
 μ-loop block probe a format number n i₀ i = n - i
 
+size-of-requires : tie.Need-size-of-requires Inv-loop μ-loop
+size-of-requires c κs = search needs
+
 refused-requires : tie.Need-refused-requires Inv-loop μ-loop
 refused-requires c κs = search needs
 
 returns : tie.Need-returns Inv-loop μ-loop
-returns c = check-41 _ _ _ _ (c .before .if1 .taken) (c .refused .ensures)
+returns c = check-41 _ _ _ _ (λ e. c .before .if1 .taken (e ∙ sym (c .before .before .size-of .ensures .0))) (c .refused .ensures)
 
 read-requires : tie.Need-read-requires Inv-loop μ-loop
 read-requires c κs = search needs
@@ -29,7 +32,7 @@ enum-known-verdict : tie.Need-enum-known-verdict Inv-loop μ-loop
 enum-known-verdict c = search needs
 
 returns-2 : tie.Need-returns-2 Inv-loop μ-loop
-returns-2 c = check-own _ _ _ _ (c .before .before .before .before .if1 .left) _ (c .before .before .before .read .ensures) _ _ (c .before .verdict .given .1) refl
+returns-2 c = check-own _ _ _ _ (c .before .before .before .before .if1 .left ∙ c .before .before .before .before .before .size-of .ensures .0) _ (c .before .before .before .read .ensures) _ _ (c .before .verdict .given .1) refl
 
 enum-told : tie.Need-enum-told Inv-loop μ-loop
 enum-told c = search needs
@@ -44,7 +47,7 @@ refused-requires-2 : tie.Need-refused-requires-2 Inv-loop μ-loop
 refused-requires-2 c κs = search needs
 
 returns-3 : tie.Need-returns-3 Inv-loop μ-loop
-returns-3 c = check-42 _ _ _ _ (c .before .before .before .before .before .before .before .if1 .left) _ (c .before .before .before .before .before .before .read .ensures) (c .before .before .before .before .enum-told .given .1) _ (c .before .before .format-missing .ensures) (c .before .if2 .taken) (c .refused2 .ensures)
+returns-3 c = check-42 _ _ _ _ (c .before .before .before .before .before .before .before .if1 .left ∙ c .before .before .before .before .before .before .before .before .size-of .ensures .0) _ (c .before .before .before .before .before .before .read .ensures) (c .before .before .before .before .enum-told .given .1) _ (c .before .before .format-missing .ensures) (c .before .if2 .taken) (c .refused2 .ensures)
 
 shared-slice-read-number : tie.Need-shared-slice-read-number Inv-loop μ-loop
 shared-slice-read-number c = search needs
@@ -59,16 +62,16 @@ element-copy-out-f : tie.Need-element-copy-out-f Inv-loop μ-loop
 element-copy-out-f c = let w = c .before .loop .inv .1 .few in let t = c .loop-test .taken in omega arith
 
 has-number-requires : tie.Need-has-number-requires Inv-loop μ-loop
-has-number-requires c κs = number-room (now (c .before .before .before .before .before .before .before .before .before .before .before .before .before .args .block)) _ (c .before .before .loop .inv .1 .inside _ (c .before .loop-test .taken))
+has-number-requires c κs = number-room (now (c .before .before .before .before .before .before .before .before .before .before .before .before .before .before .args .block)) _ (c .before .before .loop .inv .1 .inside _ (c .before .loop-test .taken))
 
 cast-at : tie.Need-cast-at Inv-loop μ-loop
 cast-at c = search needs
 
 check-frame-requires : tie.Need-check-frame-requires Inv-loop μ-loop
-check-frame-requires c κs = (c .before .before .before .before .before .loop .inv .1 .inside _ (c .before .before .before .before .loop-test .taken), c .before .before .before .before .before .before .before .before .before .before .before .before .before .if1 .left)
+check-frame-requires c κs = (c .before .before .before .before .before .loop .inv .1 .inside _ (c .before .before .before .before .loop-test .taken), (let l = c .before .before .before .before .before .before .before .before .before .before .before .before .before .if1 .left in let h = c .before .before .before .before .before .before .before .before .before .before .before .before .before .before .size-of .ensures .1 .0 in omega arith))
 
 returns-4 : tie.Need-returns-4 Inv-loop μ-loop
-returns-4 c = check-on _ _ _ _ (c .before .before .before .before .before .before .before .before .before .before .before .before .before .before .if1 .left) _ (c .before .before .before .before .before .before .before .before .before .before .before .before .before .read .ensures) (c .before .before .before .before .before .before .before .before .before .before .before .enum-told .given .1) _ (c .before .before .before .before .before .before .before .before .before .format-missing .ensures) (c .before .before .before .before .before .before .before .before .if2 .left) _ (found-here _ _ _ (c .before .before .before .before .before .before .loop .inv .0) (c .before .before .before .before .before .loop-test .taken) (sym (c .before .before .before .has-number .ensures) ∙ c .before .before .if3 .taken)) (c .before .before .before .before .before .loop-test .taken) (c .check-frame .ensures)
+returns-4 c = check-on _ _ _ _ (c .before .before .before .before .before .before .before .before .before .before .before .before .before .before .if1 .left ∙ c .before .before .before .before .before .before .before .before .before .before .before .before .before .before .before .size-of .ensures .0) _ (c .before .before .before .before .before .before .before .before .before .before .before .before .before .read .ensures) (c .before .before .before .before .before .before .before .before .before .before .before .enum-told .given .1) _ (c .before .before .before .before .before .before .before .before .before .format-missing .ensures) (c .before .before .before .before .before .before .before .before .if2 .left) _ (found-here _ _ _ (c .before .before .before .before .before .before .loop .inv .0) (c .before .before .before .before .before .loop-test .taken) (sym (c .before .before .before .has-number .ensures) ∙ c .before .before .if3 .taken)) (c .before .before .before .before .before .loop-test .taken) (c .check-frame .ensures)
 
 add-i : tie.Need-add-i Inv-loop μ-loop
 add-i c = search needs
@@ -83,7 +86,7 @@ refused-requires-3 : tie.Need-refused-requires-3 Inv-loop μ-loop
 refused-requires-3 c κs = search needs
 
 returns-5 : tie.Need-returns-5 Inv-loop μ-loop
-returns-5 c = check-43 _ _ _ _ (c .before .before .before .before .before .before .before .before .before .before .if1 .left) _ (c .before .before .before .before .before .before .before .before .before .read .ensures) (c .before .before .before .before .before .before .before .enum-told .given .1) _ (c .before .before .before .before .before .format-missing .ensures) (c .before .before .before .before .if2 .left) _ (none-here _ _ _ (c .before .before .loop .inv .0) (c .before .loop-test .left)) (omega arith) (c .refused3 .ensures)
+returns-5 c = check-43 _ _ _ _ (c .before .before .before .before .before .before .before .before .before .before .if1 .left ∙ c .before .before .before .before .before .before .before .before .before .before .before .size-of .ensures .0) _ (c .before .before .before .before .before .before .before .before .before .read .ensures) (c .before .before .before .before .before .before .before .enum-told .given .1) _ (c .before .before .before .before .before .format-missing .ensures) (c .before .before .before .before .if2 .left) _ (none-here _ _ _ (c .before .before .loop .inv .0) (c .before .loop-test .left)) (omega arith) (c .refused3 .ensures)
 
 pub check-spec : {M : Type 1} → statement M
 check-spec =
@@ -91,6 +94,7 @@ check-spec =
     (tie.spec
     Inv-loop
     μ-loop
+    size-of-requires
     refused-requires
     returns
     read-requires
