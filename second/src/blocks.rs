@@ -1,5 +1,7 @@
 //! Builds blocks, descriptor by descriptor.
 
+use crate::control::Revision;
+
 /// A descriptor: its length byte is set from what it holds.
 pub fn descriptor(subtype: u8, rest: &[u8]) -> Vec<u8> {
     let mut d = vec![(rest.len() + 3) as u8, 0x24, subtype];
@@ -18,9 +20,14 @@ pub fn total(block: &mut [u8], at: usize) {
 pub const CONTROL_TOTAL: usize = 5;
 pub const STREAMING_TOTAL: usize = 4;
 
-/// A control block of these descriptors after a header.
+/// A control block of these descriptors after a header, of revision 1.5.
 pub fn control(clock: u32, interfaces: &[u8], descriptors: &[Vec<u8>]) -> Vec<u8> {
-    let mut rest = vec![0x50, 0x01, 0, 0];
+    control_of(Revision::New15, clock, interfaces, descriptors)
+}
+
+pub fn control_of(revision: Revision, clock: u32, interfaces: &[u8], descriptors: &[Vec<u8>]) -> Vec<u8> {
+    let mut rest = revision.bcd().to_vec();
+    rest.extend([0, 0]);
     rest.extend(clock.to_le_bytes());
     rest.push(interfaces.len() as u8);
     rest.extend(interfaces);
@@ -31,7 +38,11 @@ pub fn control(clock: u32, interfaces: &[u8], descriptors: &[Vec<u8>]) -> Vec<u8
 }
 
 pub fn camera(id: u8, controls: [u8; 3]) -> Vec<u8> {
-    let mut rest = vec![id, 0x01, 0x02, 0, 0, 0, 0, 0, 0, 0, 0, 3];
+    camera_of(id, &controls)
+}
+
+pub fn camera_of(id: u8, controls: &[u8]) -> Vec<u8> {
+    let mut rest = vec![id, 0x01, 0x02, 0, 0, 0, 0, 0, 0, 0, 0, controls.len() as u8];
     rest.extend(controls);
     descriptor(2, &rest)
 }
@@ -56,9 +67,13 @@ pub fn selector(id: u8, sources: &[u8]) -> Vec<u8> {
 }
 
 pub fn processing(id: u8, source: u8, controls: [u8; 3]) -> Vec<u8> {
-    let mut rest = vec![id, source, 0, 0, 3];
+    processing_of(Revision::New15, id, source, &controls)
+}
+
+pub fn processing_of(revision: Revision, id: u8, source: u8, controls: &[u8]) -> Vec<u8> {
+    let mut rest = vec![id, source, 0, 0, controls.len() as u8];
     rest.extend(controls);
-    rest.extend([0, 0]);
+    rest.extend(vec![0; revision.behind()]);
     descriptor(5, &rest)
 }
 

@@ -4,9 +4,10 @@
 //!   C control    part block
 //!   M map        part block, byte ID
 //!   S streaming  part control block, part streaming block: the table of a refused control block is used all the same
-//!   H hostile    byte count, 32 entities (byte ID, byte kind, two bytes type, two bytes offset), part streaming block
+//!   H hostile    byte count, byte revision, 32 entities (byte ID, byte kind, two bytes type, two bytes offset), part streaming block
 //!   P check      part control block, part streaming block, part probe block
-//!   W write      part probe block, part room
+//!   W write      byte revision, part probe block, part room
+//!   A revision is 0 for 1.0, 1 for 1.1 and 2 for 1.5.
 //!   T calls      four bytes frame size, four bytes payload size, part buffer, four bytes number of calls, and each call:
 //!                byte 0 and part transfer, byte 1 (lost), byte 2 (close)
 //!   F forged     session record, part buffer, part transfer
@@ -14,7 +15,7 @@
 //! bytes, the last stamp. A stamp: byte present and four bytes. The phase: byte 0 fresh; 1 under way and byte FID, byte fault (0 none,
 //! 1 gap to 6 empty), eight bytes data so far, eight bytes fill, the stamp, byte still; 2 past a frame and byte FID.
 
-use crate::control;
+use crate::control::{self, Revision};
 use crate::frames::Call;
 use crate::session::{self, Phase, Record};
 use crate::streaming::{self, Place, Table};
@@ -26,9 +27,9 @@ pub enum Case {
     Control(Vec<u8>),
     Map(Vec<u8>, u8),
     Streaming(Vec<u8>, Vec<u8>),
-    Hostile(u8, Vec<Place>, Vec<u8>),
+    Hostile(u8, Revision, Vec<Place>, Vec<u8>),
     Check(Vec<u8>, Vec<u8>, Vec<u8>),
-    Write(Vec<u8>, Vec<u8>),
+    Write(Revision, Vec<u8>, Vec<u8>),
     Calls { frame: u32, payload: u32, buffer: Vec<u8>, calls: Vec<Call> },
     Forged(Record, Vec<u8>, Vec<u8>),
 }
@@ -101,8 +102,8 @@ impl Case {
                 part(&mut out, control);
                 part(&mut out, block);
             }
-            Case::Hostile(count, places, block) => {
-                out.push(*count);
+            Case::Hostile(count, revision, places, block) => {
+                out.extend([*count, *revision as u8]);
                 for p in places {
                     out.extend([p.id, p.kind]);
                     out.extend(p.terminal.to_le_bytes());
@@ -115,7 +116,8 @@ impl Case {
                 part(&mut out, block);
                 part(&mut out, probe);
             }
-            Case::Write(probe, room) => {
+            Case::Write(revision, probe, room) => {
+                out.push(*revision as u8);
                 part(&mut out, probe);
                 part(&mut out, room);
             }
@@ -149,13 +151,15 @@ impl Case {
         match self {
             Case::Control(block) => control_answer(block),
             Case::Map(block, id) => match control::map(block, *id) {
-                Ok([a, b, c]) => format!("controls {a} {b} {c}\n"),
+                Ok(bytes) => controls(&bytes),
                 Err(r) => format!("map refused {} at {}\n", r.number, r.offset),
             },
             Case::Streaming(control, block) => streaming_answer(&table(control), block),
-            Case::Hostile(count, places, block) => streaming_answer(&Table { count: *count as usize, places: places.clone() }, block),
+            Case::Hostile(count, revision, places, block) => {
+                streaming_answer(&Table { revision: *revision, count: *count as usize, places: places.clone() }, block)
+            }
             Case::Check(control, block, probe) => verdict("check", &streaming::check(&table(control), block, probe)),
-            Case::Write(probe, room) => write_answer(probe, room),
+            Case::Write(revision, probe, room) => write_answer(*revision, probe, room),
             Case::Calls { frame, payload, buffer, calls } => session::calls(*frame, *payload, buffer, calls),
             Case::Forged(r, buffer, transfer) => session::forged(r, buffer, transfer),
         }
@@ -169,10 +173,17 @@ fn verdict<T>(name: &str, v: &Result<T, Refusal>) -> String {
     }
 }
 
-/// The entity table of a control block; none where it is refused.
+/// The line of a unit's controls.
+pub fn controls(bytes: &[u8]) -> String {
+    let numbers: String = bytes.iter().map(|b| format!(" {b}")).collect();
+    format!("controls{numbers}\n")
+}
+
+/// The entity table of a control block; none, and 1.5, where it is refused.
 pub fn table(block: &[u8]) -> Table {
-    let entities = control::read(block).map_or(vec![], |c| c.entities);
+    let (revision, entities) = control::read(block).map_or((Revision::New15, vec![]), |c| (c.revision, c.entities));
     Table {
+        revision,
         count: entities.len(),
         places: entities.iter().map(|e| Place { id: e.id, kind: e.kind, terminal: e.terminal, offset: e.offset as u16 }).collect(),
     }
@@ -204,8 +215,8 @@ fn streaming_answer(table: &Table, block: &[u8]) -> String {
     out + "rest zero\n"
 }
 
-fn write_answer(probe: &[u8], room: &[u8]) -> String {
-    let read = streaming::fields(probe);
+fn write_answer(revision: Revision, probe: &[u8], room: &[u8]) -> String {
+    let read = streaming::fields(revision, probe);
     let mut out = verdict("probe", &read);
     let fields = read.unwrap_or(vec![0; 29]);
     out += "fields";
@@ -214,7 +225,7 @@ fn write_answer(probe: &[u8], room: &[u8]) -> String {
     }
     out += "\n";
     let mut room = room.to_vec();
-    out += &verdict("write", &streaming::write(&fields, &mut room));
+    out += &verdict("write", &streaming::write(revision, &fields, &mut room));
     writeln!(out, "room {}", session::hex(&room)).unwrap();
     out
 }

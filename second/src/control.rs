@@ -1,4 +1,5 @@
-//! The VideoControl block, read from document 01's table: each descriptor is split off first, then held to its rules.
+//! The VideoControl block, read from document 01's table and, for older cameras, document 02's request Four: each descriptor is split off first, then held to
+//! its rules.
 
 use crate::Refusal;
 
@@ -9,12 +10,75 @@ pub struct Entity {
     pub terminal: u16,
     pub offset: usize,
     pub sources: Vec<u8>,
-    /// Where this entity's three control bytes stand in the block, if the document gives it a map.
-    pub map: Option<usize>,
+    /// This entity's control bytes, if the document gives it a map.
+    pub map: Option<Vec<u8>>,
+}
+
+#[derive(Clone, Copy, Debug, PartialEq)]
+pub enum Revision {
+    Old10,
+    Old11,
+    New15,
+}
+
+impl Revision {
+    pub const ALL: [Revision; 3] = [Revision::Old10, Revision::Old11, Revision::New15];
+
+    fn of(bcd: u16) -> Option<Revision> {
+        match bcd {
+            0x0100 => Some(Revision::Old10),
+            0x0110 => Some(Revision::Old11),
+            0x0150 => Some(Revision::New15),
+            _ => None,
+        }
+    }
+
+    pub fn bcd(self) -> [u8; 2] {
+        match self {
+            Revision::Old10 => [0x00, 0x01],
+            Revision::Old11 => [0x10, 0x01],
+            Revision::New15 => [0x50, 0x01],
+        }
+    }
+
+    pub fn name(self) -> &'static str {
+        match self {
+            Revision::Old10 => "1.0",
+            Revision::Old11 => "1.1",
+            Revision::New15 => "1.5",
+        }
+    }
+
+    /// The bytes of a probe block.
+    pub fn probe(self) -> usize {
+        match self {
+            Revision::Old10 => 26,
+            Revision::Old11 => 34,
+            Revision::New15 => 48,
+        }
+    }
+
+    /// The bytes of a processing unit behind its controls.
+    pub fn behind(self) -> usize {
+        if self == Revision::Old10 {
+            1
+        } else {
+            2
+        }
+    }
+
+    fn allows(self, size: usize) -> bool {
+        if self == Revision::New15 {
+            size == 3
+        } else {
+            size <= 32
+        }
+    }
 }
 
 #[derive(Clone, Debug, PartialEq)]
 pub struct Control {
+    pub revision: Revision,
     pub clock: u32,
     pub entities: Vec<Entity>,
 }
@@ -24,13 +88,13 @@ fn two(d: &[u8], at: usize) -> Option<u16> {
 }
 
 /// Length and control size as the table has them, and what the descriptor says. `None`: number 7.
-fn shape(d: &[u8], offset: usize) -> Option<Shape> {
+fn shape(d: &[u8], offset: usize, revision: Revision) -> Option<Shape> {
     let n = d.len();
     let byte = |k: usize| d.get(k).copied();
     match d[2] {
         1 => {
             let count = byte(11)? as usize;
-            (n == 12 + count).then_some(Shape::Header(two(d, 3)?))
+            (n == 12 + count).then_some(Shape::Header)
         }
         2 => {
             if n < 8 {
@@ -38,13 +102,15 @@ fn shape(d: &[u8], offset: usize) -> Option<Shape> {
             }
             let kind = two(d, 4)?;
             let camera = kind == 0x0201;
-            if camera && (n != 18 || byte(14)? != 3) {
-                return None;
+            let mut map = None;
+            if camera {
+                let size = byte(14)? as usize;
+                if !revision.allows(size) || n != 15 + size {
+                    return None;
+                }
+                map = Some(d[15..].to_vec());
             }
-            Some(Shape::Entity(
-                Entity { id: d[3], kind: 2, terminal: kind, offset, sources: vec![], map: camera.then_some(offset + 15) },
-                None,
-            ))
+            Some(Shape::Entity(Entity { id: d[3], kind: 2, terminal: kind, offset, sources: vec![], map }, None))
         }
         3 => {
             if n < 9 {
@@ -60,10 +126,11 @@ fn shape(d: &[u8], offset: usize) -> Option<Shape> {
             Some(Shape::Entity(Entity { id: d[3], kind: 4, terminal: 0, offset, sources: d[5..5 + p].to_vec(), map: None }, Some(p)))
         }
         5 => {
-            if n != 13 || byte(7)? != 3 {
+            let size = byte(7)? as usize;
+            if !revision.allows(size) || n != 8 + size + revision.behind() {
                 return None;
             }
-            Some(Shape::Entity(Entity { id: d[3], kind: 5, terminal: 0, offset, sources: vec![d[4]], map: Some(offset + 8) }, None))
+            Some(Shape::Entity(Entity { id: d[3], kind: 5, terminal: 0, offset, sources: vec![d[4]], map: Some(d[8..8 + size].to_vec()) }, None))
         }
         6 => {
             let p = byte(21)? as usize;
@@ -73,7 +140,7 @@ fn shape(d: &[u8], offset: usize) -> Option<Shape> {
             }
             Some(Shape::Entity(Entity { id: d[3], kind: 6, terminal: 0, offset, sources: d[22..22 + p].to_vec(), map: None }, Some(p)))
         }
-        7 => {
+        7 if revision == Revision::New15 => {
             if n != 13 || byte(6)? != 3 {
                 return None;
             }
@@ -84,7 +151,7 @@ fn shape(d: &[u8], offset: usize) -> Option<Shape> {
 }
 
 enum Shape {
-    Header(u16),
+    Header,
     Entity(Entity, Option<usize>),
     Unknown,
 }
@@ -103,6 +170,9 @@ pub fn read(block: &[u8]) -> Result<Control, Refusal> {
     if two(block, 5) != Some(block.len() as u16) {
         return whole(4);
     }
+    // What is no revision is refused at the header, before anything is read by it.
+    let named = Revision::of(two(block, 3).unwrap());
+    let revision = named.unwrap_or(Revision::New15);
     let mut entities: Vec<Entity> = Vec::new();
     let mut at = 0;
     while at < block.len() {
@@ -115,10 +185,10 @@ pub fn read(block: &[u8]) -> Result<Control, Refusal> {
         if d[1] != 0x24 || (d[2] == 1 && at != 0) {
             return no(6);
         }
-        match shape(d, at) {
+        match shape(d, at, revision) {
             None => return no(7),
-            Some(Shape::Header(revision)) => {
-                if revision != 0x0150 {
+            Some(Shape::Header) => {
+                if named.is_none() {
                     return no(8);
                 }
             }
@@ -145,7 +215,7 @@ pub fn read(block: &[u8]) -> Result<Control, Refusal> {
     }
     sources(&entities)?;
     let clock = u32::from_le_bytes([block[7], block[8], block[9], block[10]]);
-    Ok(Control { clock, entities })
+    Ok(Control { revision, clock, entities })
 }
 
 /// Numbers 13 to 15, each over all entities in block order before the next.
@@ -178,13 +248,7 @@ fn sources(entities: &[Entity]) -> Result<(), Refusal> {
 }
 
 /// The control-map reader.
-pub fn map(block: &[u8], id: u8) -> Result<[u8; 3], Refusal> {
+pub fn map(block: &[u8], id: u8) -> Result<Vec<u8>, Refusal> {
     let control = read(block)?;
-    control
-        .entities
-        .iter()
-        .find(|e| e.id == id)
-        .and_then(|e| e.map)
-        .map(|at| [block[at], block[at + 1], block[at + 2]])
-        .ok_or(Refusal { number: 16, offset: 0 })
+    control.entities.into_iter().find(|e| e.id == id).and_then(|e| e.map).ok_or(Refusal { number: 16, offset: 0 })
 }

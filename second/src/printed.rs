@@ -1,6 +1,6 @@
 //! What the ledger program and `describe` print, and their status: from document 01, and the words from docs/NUMBERS.md.
 
-use crate::cases::table;
+use crate::cases::{controls, table};
 use crate::control;
 use crate::frames::{judge, ledger, Call};
 use crate::streaming;
@@ -46,7 +46,7 @@ impl Words {
 
     pub fn control(&self, block: &[u8]) -> Printed {
         self.told(control::read(block).map(|c| {
-            let mut out = format!("accepted\nclock {}\n", c.clock);
+            let mut out = format!("accepted\nrevision {}\nclock {}\n", c.revision.name(), c.clock);
             for e in &c.entities {
                 writeln!(out, "entity {} {} {} {}", e.id, e.kind, e.terminal, e.offset).unwrap();
             }
@@ -58,7 +58,7 @@ impl Words {
     pub fn map(&self, block: &[u8], id: &str) -> Printed {
         let digits = !id.is_empty() && id.bytes().all(|b| b.is_ascii_digit());
         match id.parse::<u8>() {
-            Ok(id) if digits => self.told(control::map(block, id).map(|[a, b, c]| format!("controls {a} {b} {c}\n"))),
+            Ok(id) if digits => self.told(control::map(block, id).map(|bytes| controls(&bytes))),
             _ => Printed { text: String::new(), status: 2 },
         }
     }
@@ -79,7 +79,7 @@ impl Words {
 
     pub fn probe(&self, control: &[u8], block: &[u8], probe: &[u8]) -> Printed {
         let checked = control::read(control).and_then(|_| streaming::check(&table(control), block, probe));
-        self.told(checked.and_then(|()| streaming::fields(probe)).map(|all| {
+        self.told(checked.and_then(|()| streaming::fields(table(control).revision, probe)).map(|all| {
             let (fields, layout) = all.split_at(FIELDS.len());
             let mut out = String::from("accepted\n");
             for (name, n) in FIELDS.iter().zip(fields) {

@@ -1,7 +1,7 @@
 //! Runs the launcher on fresh files, and compares what each program prints, and its status, with what the second reader says.
 
 use crate::blocks::{CONTROL_TOTAL, STREAMING_TOTAL};
-use crate::cases::Case;
+use crate::cases::{table, Case};
 use crate::frames::Call;
 use crate::printed::{self, Printed, Words, RECORD};
 use crate::random::{self, Random};
@@ -123,7 +123,7 @@ fn run(r: &mut Random, said: &Words) -> Run {
         _ => {
             let control = random::linked_control(r);
             let (block, offered) = if r.once_in(6) { random::maybe_damaged_streaming(r) } else { random::streaming(r) };
-            let probe = random::probe(r, &offered);
+            let probe = random::probe(r, table(&control).revision, &offered);
             let wanted = said.probe(&control, &block, &probe);
             describe(
                 &["probe", "control", "streaming", "probe"],

@@ -1,7 +1,8 @@
 //! Random cases: well-formed ones, and the same with damage.
 
 use crate::blocks::{self, CONTROL_TOTAL, STREAMING_TOTAL};
-use crate::cases::Case;
+use crate::cases::{table, Case};
+use crate::control::Revision;
 use crate::frames::Call;
 use crate::session::{Phase, Record};
 use crate::streaming::Place;
@@ -130,6 +131,14 @@ pub fn control(r: &mut Random) -> Vec<u8> {
     if r.once_in(3) {
         r.shuffle(&mut ids);
     }
+    let revision = if r.once_in(2) { Revision::New15 } else { r.pick(&Revision::ALL) };
+    // Now and then a control size that another revision has.
+    let size = |r: &mut Random| match r.below(12) {
+        0 => r.pick(&[0, 3, 31, 32, 33, 64]),
+        1 => r.below(40),
+        _ if revision == Revision::New15 => 3,
+        _ => r.below(6),
+    };
     let wild = r.once_in(4);
     let mut made: Vec<u8> = Vec::new();
     let mut all: Vec<Vec<u8>> = Vec::new();
@@ -158,8 +167,9 @@ pub fn control(r: &mut Random) -> Vec<u8> {
                 blocks::output(id, terminal, from)
             }
             1 | 2 if r.once_in(2) => {
-                let controls = [r.byte(), r.byte(), r.byte()];
-                blocks::camera(id, controls)
+                let k = size(r);
+                let controls = r.bytes(k);
+                blocks::camera_of(id, &controls)
             }
             1 | 2 => {
                 let k = r.below(5);
@@ -171,8 +181,10 @@ pub fn control(r: &mut Random) -> Vec<u8> {
                 blocks::selector(id, &sources)
             }
             5 => {
-                let controls = [r.byte(), r.byte(), r.byte()];
-                blocks::processing(id, source(r), controls)
+                let k = size(r);
+                let controls = r.bytes(k);
+                let of = if r.once_in(20) { r.pick(&Revision::ALL) } else { revision };
+                blocks::processing_of(of, id, source(r), &controls)
             }
             6 => {
                 let sources: Vec<u8> = (0..pins(r)).map(|_| source(r)).collect();
@@ -180,9 +192,10 @@ pub fn control(r: &mut Random) -> Vec<u8> {
                 let controls = r.bytes(k);
                 blocks::extension(id, &sources, &controls)
             }
+            // An older camera has none, and the number is unknown there: seldom a source.
             _ => blocks::encoding(id, source(r)),
         };
-        if kind != 0 && kind != 3 {
+        if kind != 0 && kind != 3 && (kind != 7 || revision == Revision::New15 || r.once_in(10)) {
             made.push(id);
         }
         all.push(d);
@@ -195,7 +208,7 @@ pub fn control(r: &mut Random) -> Vec<u8> {
     }
     let k = r.below(4);
     let interfaces = r.bytes(k);
-    blocks::control(r.next() as u32, &interfaces, &all)
+    blocks::control_of(revision, r.next() as u32, &interfaces, &all)
 }
 
 pub fn maybe_damaged_control(r: &mut Random) -> Vec<u8> {
@@ -368,7 +381,7 @@ fn hostile(r: &mut Random) -> Case {
     if r.once_in(2) {
         places[r.below(32)] = Place { id: 9, kind: 3, terminal: 0x0101, offset: 0 };
     }
-    Case::Hostile(count as u8, places, block)
+    Case::Hostile(count as u8, r.pick(&Revision::ALL), places, block)
 }
 
 fn size_near(r: &mut Random, edges: &[u32]) -> u32 {
@@ -379,13 +392,14 @@ fn size_near(r: &mut Random, edges: &[u32]) -> u32 {
     }
 }
 
-pub fn probe(r: &mut Random, offered: &[u32]) -> Vec<u8> {
+pub fn probe(r: &mut Random, revision: Revision, offered: &[u32]) -> Vec<u8> {
     let format = if r.once_in(5) { r.below(11) } else { 1 + r.below(2) } as u8;
     let frame = if r.once_in(5) { r.below(70) } else { 1 + r.below(2) } as u8;
     let interval = if r.once_in(6) { interval(r) } else { r.pick(offered) };
     let frame_size = size_near(r, &[0, 1, 16_777_216]);
     let payload_size = size_near(r, &[0, 2, 65_536]);
     let mut p = blocks::probe(format, frame, interval, frame_size, payload_size);
+    p.truncate(if r.once_in(10) { r.pick(&[26, 34, 48]) } else { revision.probe() });
     if r.once_in(10) {
         let n = r.below(64);
         p.resize(n, 0x77);
@@ -394,9 +408,10 @@ pub fn probe(r: &mut Random, offered: &[u32]) -> Vec<u8> {
 }
 
 fn write(r: &mut Random) -> Case {
-    let n = if r.once_in(4) { r.below(65) } else { 48 };
-    let m = if r.once_in(4) { r.below(65) } else { 48 + r.below(17) };
-    Case::Write(r.bytes(n), r.bytes(m))
+    let revision = r.pick(&Revision::ALL);
+    let n = if r.once_in(4) { r.below(65) } else { revision.probe() };
+    let m = if r.once_in(4) { r.below(65) } else { revision.probe() + r.below(17) };
+    Case::Write(revision, r.bytes(n), r.bytes(m))
 }
 
 /// A list of calls on one session: frames of a few transfers, with every fault now and then.
@@ -611,7 +626,7 @@ pub fn case(r: &mut Random, most: usize) -> Case {
         7..=8 => {
             let control = linked_control(r);
             let (block, offered) = if r.once_in(6) { maybe_damaged_streaming(r) } else { streaming(r) };
-            let probe = probe(r, &offered);
+            let probe = probe(r, table(&control).revision, &offered);
             Case::Check(control, block, probe)
         }
         9 => write(r),

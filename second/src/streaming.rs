@@ -1,5 +1,6 @@
 //! The VideoStreaming block and the probe block, from document 01's text.
 
+use crate::control::Revision;
 use crate::Refusal;
 
 /// A place of an entity table. A table is input too: it may hold anything, and say any count.
@@ -12,6 +13,7 @@ pub struct Place {
 }
 
 pub struct Table {
+    pub revision: Revision,
     pub count: usize,
     pub places: Vec<Place>,
 }
@@ -248,11 +250,13 @@ pub fn read(table: &Table, block: &[u8]) -> Result<Streaming, Refusal> {
 /// The widths of the 21 fields before the layout, in the order of the 48 bytes.
 const WIDTHS: [usize; 21] = [2, 1, 1, 4, 2, 2, 2, 2, 2, 4, 4, 4, 1, 1, 1, 1, 1, 1, 1, 1, 2];
 
-/// All fields of a probe block, and the eight bytes of its layout.
-pub fn fields(probe: &[u8]) -> Result<Vec<u32>, Refusal> {
-    if probe.len() != 48 {
+/// All fields of a probe block, and the eight bytes of its layout. What an older block lacks is 0.
+pub fn fields(revision: Revision, probe: &[u8]) -> Result<Vec<u32>, Refusal> {
+    if probe.len() != revision.probe() {
         return Err(Refusal { number: 41, offset: 0 });
     }
+    let mut probe = probe.to_vec();
+    probe.resize(48, 0);
     let mut at = 0;
     let mut all = Vec::new();
     for width in WIDTHS.into_iter().chain([1; 8]) {
@@ -262,13 +266,16 @@ pub fn fields(probe: &[u8]) -> Result<Vec<u32>, Refusal> {
     Ok(all)
 }
 
-/// Writes fields into a room: its first 48 bytes, or nothing.
-pub fn write(fields: &[u32], room: &mut [u8]) -> Result<(), Refusal> {
-    if room.len() < 48 {
+/// Writes fields into a room: its first bytes, as many as the revision says, or nothing.
+pub fn write(revision: Revision, fields: &[u32], room: &mut [u8]) -> Result<(), Refusal> {
+    if room.len() < revision.probe() {
         return Err(Refusal { number: 41, offset: 0 });
     }
     let mut at = 0;
     for (&n, width) in fields.iter().zip(WIDTHS.into_iter().chain([1; 8])) {
+        if at == revision.probe() {
+            break;
+        }
         room[at..at + width].copy_from_slice(&n.to_le_bytes()[..width]);
         at += width;
     }
@@ -288,7 +295,7 @@ pub fn sizes(frame: u64, payload: u64) -> Result<(), Refusal> {
 
 pub fn check(table: &Table, block: &[u8], probe: &[u8]) -> Result<(), Refusal> {
     let no = |number| Err(Refusal { number, offset: 0 });
-    if probe.len() != 48 {
+    if probe.len() != table.revision.probe() {
         return no(41);
     }
     let s = read(table, block)?;

@@ -5,6 +5,7 @@ use cases::print;
 use control_map::Map;
 use entities::Entity;
 use entities::Table;
+use rules::Verdict;
 use streaming::Streaming;
 use streaming_rules::Format;
 use streaming_rules::Frame;
@@ -64,14 +65,21 @@ pub fn map() -> bool {
         return false;
     }
     let id = input::byte();
-    match control_map::controls(&block[..n], id) {
-        Map::Controls(a, b, c) => lines::controls(a, b, c),
-        Map::Refused { number, offset } => {
+    let map = control_map::controls(&block[..n], id);
+    let verdict = map.verdict;
+    match verdict {
+        Verdict::Accepted => given(map),
+        Verdict::Refused { number, offset } => {
             print::text(b"map ");
             lines::refused(number, offset);
         }
     }
     true
+}
+
+fn given(map: Map) {
+    let bytes = map.bytes;
+    lines::controls(bytes, map.length as usize);
 }
 
 pub fn streaming() -> bool {
@@ -191,14 +199,20 @@ pub fn hostile() -> bool {
 }
 
 fn forged_table() -> Table {
+    let count = input::byte() as usize;
+    let revision = lines::revision_of(input::byte());
     let mut table = entities::no_table();
-    table.count = input::byte() as usize;
     let mut i: usize = 0;
     while i < 32 {
         table.entities[i] = forged_entity();
         i += 1;
     }
-    table
+    Table {
+        count,
+        entities: table.entities,
+        clock: 0,
+        revision,
+    }
 }
 
 fn forged_entity() -> Entity {

@@ -1,6 +1,8 @@
 // The lines of an answer. Those of entities, formats, frames, controls and refusals are those that `describe` prints.
 use block_lines::LINE_MOST;
 use cases::print;
+use control_map::CONTROLS_MOST;
+use entities::Revision;
 use entities::Table;
 use rules::Verdict;
 use streaming_rules::FORMATS_MOST;
@@ -29,10 +31,19 @@ pub fn entities(t: Table) {
     print::front(&buf, n);
 }
 
-pub fn controls(a: u8, b: u8, c: u8) {
-    let mut buf = [0u8; LINE_MOST];
-    let n = block_lines::controls(&mut buf, 0, a, b, c);
+pub fn controls(all: [u8; CONTROLS_MOST], count: usize) {
+    let mut buf = [0u8; LINE_MOST * 33];
+    let n = block_lines::controls(&mut buf, 0, all, count);
     print::front(&buf, n);
+}
+
+// 0 is 1.0, 1 is 1.1, and anything else 1.5.
+pub fn revision_of(x: u8) -> Revision {
+    match x {
+        0 => Revision::R10,
+        1 => Revision::R11,
+        _ => Revision::R15,
+    }
 }
 
 pub fn formats(all: [Format; FORMATS_MOST], count: usize) {

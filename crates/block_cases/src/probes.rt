@@ -2,6 +2,7 @@
 use crate::lines;
 use cases::input;
 use cases::print;
+use entities::Revision;
 use probe::Probe;
 
 pub fn check() -> bool {
@@ -31,6 +32,7 @@ pub fn check() -> bool {
 
 // Reads the block, prints its fields, and writes them into the room.
 pub fn write() -> bool {
+    let revision = lines::revision_of(input::byte());
     let mut block = [0u8; 64];
     let part = input::part(&mut block);
     let n = part.count;
@@ -43,17 +45,17 @@ pub fn write() -> bool {
     if !second.fine {
         return false;
     }
-    let read = probe::read(&block[..n]);
+    let read = probe::read(&block[..n], revision);
     let verdict = read.verdict;
     let p = read.probe;
     lines::verdict(b"probe ", verdict);
     fields(p);
-    written(p, &mut room[..m]);
+    written(p, &mut room[..m], revision);
     true
 }
 
-fn written(p: Probe, room: &mut [u8]) {
-    lines::verdict(b"write ", probe::write(p, room));
+fn written(p: Probe, room: &mut [u8], revision: Revision) {
+    lines::verdict(b"write ", probe::write(p, room, revision));
     print::hex(b"room", room);
 }
 

@@ -1,7 +1,10 @@
--- One thing, one line: what is printed of an entity, a format, a frame, a unit's controls and a refusal.
+-- One thing, one line: what is printed of an entity, a format, a frame, a unit's controls, a revision and a refusal.
 use mathlib.Core.List.{List, [], _∷_, _++_}
 use Prim.Native.Nat.{ℕ}
+use lib.ListN.{take}
 use Rattle.entities.specs.declared.Entity.{Entity}
+use Rattle.entities.specs.declared.Revision.{Revision}
+use Rattle.entities.specs.declared.Revision.the-variants.{R10, R11, R15}
 use Rattle.streaming_rules.specs.declared.Format.{Format}
 use Rattle.streaming_rules.specs.declared.Frame.{Frame}
 use Rattle.text.specs.Text.{bytes, number, line}
@@ -18,9 +21,15 @@ formatLine f = line (bytes "format") (f .kind ∷ f .guid ∷ f .bits ∷ f .fra
 abbrev pub frameLine : Frame → List ℕ
 frameLine f = line (bytes "frame") (f .format ∷ f .width ∷ f .height ∷ f .size ∷ f .interval ∷ f .k ∷ f .offset ∷ [])
 
--- the three control bytes, the first first
-abbrev pub controlsLine : ℕ → ℕ → ℕ → List ℕ
-controlsLine a b c = line (bytes "controls") (a ∷ b ∷ c ∷ [])
+-- the first n control bytes, the first first
+abbrev pub controlsLine : ℕ → List ℕ → List ℕ
+controlsLine n l = line (bytes "controls") (take n l)
+
+-- the revision
+abbrev pub revisionLine : Revision → List ℕ
+revisionLine R10 = bytes "revision 1.0\n"
+revisionLine R11 = bytes "revision 1.1\n"
+revisionLine R15 = bytes "revision 1.5\n"
 
 -- the rule's number, and the place that breaks it
 abbrev pub refusedLine : ℕ → ℕ → List ℕ

@@ -3,12 +3,14 @@ ghost use Prim.Native.Nat.{_+_, _*_, _≤_};
 ghost use mathlib.Core.List.{[], _∷_, _++_};
 ghost use lib.ListN.{length, take};
 ghost use Rattle.text.specs.Put.{Put};
-ghost use Rattle.text.specs.Text.{texts, line as Text·line};
+ghost use Rattle.text.specs.Text.{number, texts, line as Text·line};
 ghost use Rattle.entities.specs.Table.{entitiesMost, used};
-ghost use Rattle.block_lines.specs.Lines.{lineMost, entityLine, formatLine, frameLine, controlsLine, refusedLine};
+ghost use Rattle.block_lines.specs.Lines.{lineMost, entityLine, formatLine, frameLine, controlsLine, revisionLine, refusedLine};
 ghost use Rattle.block_lines.specs.Fields.{choiceText, ratesText, timesText, sizesText, versionsText, limitsText, settingsText, layoutText, frontText, backText, fieldsText};
+use control_map::CONTROLS_MOST;
 use entities::ENTITIES_MOST;
 use entities::Entity;
+use entities::Revision;
 use entities::Table;
 use probe::Probe;
 use streaming_rules::FORMATS_MOST;
@@ -127,14 +129,45 @@ pub fn frame(buf: &mut [u8], at: usize, f: Frame) -> usize
     text::line(buf, at, b"frame", &ns)
 }
 
-// Inner: the line of three control bytes.
-pub fn controls(buf: &mut [u8], at: usize, a: u8, b: u8, c: u8) -> usize
+// Inner: the line of the first n control bytes.
+pub fn controls(buf: &mut [u8], at: usize, all: [u8; CONTROLS_MOST], n: usize) -> usize
+    requires { ⌜ at + lineMost * 33 ≤ length (now buf) ⌝ }
+    ensures { λ r. ⌜ Put (now (buf .entry)) at (controlsLine n all) r (now (buf .exit)) ⌝ }
+{
+    let named = text::put(buf, at, b"controls");
+    let counted = numbers(buf, named, all, n);
+    text::put(buf, counted, b"\n")
+}
+
+fn numbers(buf: &mut [u8], start: usize, all: [u8; CONTROLS_MOST], n: usize) -> usize
+    requires { ⌜ start + lineMost * 32 ≤ length (now buf) ⌝ }
+    ensures { λ r. ⌜ Put (now (buf .entry)) start (texts number (take n all)) r (now (buf .exit)) ⌝ }
+    ensures { λ r. ⌜ r ≤ start + lineMost * 32 ⌝ }
+{
+    let mut at = start;
+    let mut i: usize = 0;
+    while i < CONTROLS_MOST {
+        if n <= i {
+            return at;
+        }
+        let x = all[i];
+        at = text::number(buf, at, x as u64);
+        i += 1;
+    }
+    at
+}
+
+// Inner: the line of a revision.
+pub fn revision(buf: &mut [u8], at: usize, v: Revision) -> usize
     requires { ⌜ at + lineMost ≤ length (now buf) ⌝ }
-    ensures { λ r. ⌜ Put (now (buf .entry)) at (controlsLine a b c) r (now (buf .exit)) ⌝ }
+    ensures { λ r. ⌜ Put (now (buf .entry)) at (revisionLine v) r (now (buf .exit)) ⌝ }
     ensures { λ r. ⌜ r ≤ at + lineMost ⌝ }
 {
-    let ns = [a as u64, b as u64, c as u64];
-    text::line(buf, at, b"controls", &ns)
+    match v {
+        Revision::R10 => text::put(buf, at, b"revision 1.0\n"),
+        Revision::R11 => text::put(buf, at, b"revision 1.1\n"),
+        Revision::R15 => text::put(buf, at, b"revision 1.5\n"),
+    }
 }
 
 // Inner: a refusal's line.

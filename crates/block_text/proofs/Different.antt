@@ -9,22 +9,27 @@ use Rattle.rules.specs.declared.Verdict.the-variants.{Accepted, Refused}
 use Rattle.entities.specs.declared.Entity.{Entity}
 use Rattle.entities.specs.declared.Table.{Table}
 use Rattle.entities.specs.Table.{used}
+use Rattle.entities.specs.declared.Revision.{Revision}
+use Rattle.entities.specs.declared.Revision.the-variants.{R10, R11, R15}
 use Rattle.control_map.specs.declared.Map.{Map}
-use Rattle.control_map.specs.declared.Map.the-variants.{Controls, Refused as MapRefused}
 use Rattle.streaming_rules.specs.declared.Format.{Format}
 use Rattle.streaming_rules.specs.declared.Frame.{Frame}
 use Rattle.streaming.specs.declared.Streaming.{Streaming}
 use Rattle.probe.specs.declared.Probe.{Probe}
-use Rattle.text.specs.Text.{bytes, number, line, texts}
-use Rattle.text.proofs.Different.{number-split, line-split, texts-different}
+use Rattle.text.specs.Text.{bytes, number, numbers, line, texts}
+use Rattle.text.proofs.Different.{Low, number-split, line-split, texts-different}
 use Rattle.words.specs.Words.{wordsOf}
-use Rattle.block_lines.specs.Lines.{entityLine, formatLine, frameLine, acceptedLine}
+use Rattle.block_lines.specs.Lines.{entityLine, formatLine, frameLine, controlsLine, revisionLine, acceptedLine}
 use Rattle.block_lines.specs.Fields.{fieldsText}
 use Rattle.block_lines.proofs.Different.{entity-split, format-split, frame-split, fields-different}
-use Rattle.block_text.specs.Answers.{refusedText, toldBy, tableText, controlBy, mapText, listedText, streamingBy, probeText}
+use Rattle.block_text.specs.Answers.{refusedText, toldBy, tableText, controlBy, mapBy, listedText, streamingBy, probeText}
 
 abbrev first : List ℕ → ℕ
 first l = getD l 0 0
+
+-- the last digit of a revision's line
+abbrev digit : List ℕ → ℕ
+digit l = getD l 11 0
 
 -- ---- a refusal's text tells its number and its offset
 refused-split : (j l n m : ℕ) → refusedText j n ≡ refusedText l m → (j ≡ l) × (n ≡ m)
@@ -40,41 +45,72 @@ refused-split j l n m e =
 not-accepted : (k o : ℕ) → Refused k o ≡ Accepted → ⊥
 not-accepted k o p = let z : _≡_ {A = ℕ} 0 1 = cc in omega arith
 
--- an accepted text begins with a, and a refusal with r
-told-different : (v w : Verdict) (a b : List ℕ) → first a ≡ 97 → first b ≡ 97 → toldBy v a ≡ toldBy w b → (v ≡ w) × (v ≡ Accepted → a ≡ b)
-told-different Accepted Accepted a b h k e = (refl, λ p. e)
-told-different Accepted (Refused l m) a b h k e = let z : _≡_ {A = ℕ} 97 114 = sym h ∙ ap first e in absurd (omega arith)
-told-different (Refused j n) Accepted a b h k e = let z : _≡_ {A = ℕ} 114 97 = ap first e ∙ k in absurd (omega arith)
-told-different (Refused j n) (Refused l m) a b h k e = let s = refused-split j l n m e in (rw (s .0, s .1), λ p. absurd (not-accepted j n p))
+-- an accepted text begins otherwise than a refusal, which begins with r
+told-different : (x : ℕ) (v w : Verdict) (a b : List ℕ) → (x ≡ 114 → ⊥) → first a ≡ x → first b ≡ x → toldBy v a ≡ toldBy w b → (v ≡ w) × (v ≡ Accepted → a ≡ b)
+told-different x Accepted Accepted a b n h k e = (refl, λ p. e)
+told-different x Accepted (Refused l m) a b n h k e = absurd (n (sym h ∙ ap first e))
+told-different x (Refused j i) Accepted a b n h k e = absurd (n (sym (ap first e ∙ k)))
+told-different x (Refused j i) (Refused l m) a b n h k e = let s = refused-split j l i m e in (rw (s .0, s .1), λ p. absurd (not-accepted j i p))
 
 -- ---- A CONTROL BLOCK
+-- a revision's line tells it
+revision-split : (v w : Revision) (s t : List ℕ) → revisionLine v ++ s ≡ revisionLine w ++ t → (v ≡ w) × (s ≡ t)
+revision-split R10 R10 s t e = (refl, append-cancel-left (revisionLine R10) s t e)
+revision-split R10 R11 s t e = let z : _≡_ {A = ℕ} 48 49 = ap digit e in absurd (omega arith)
+revision-split R10 R15 s t e = let z : _≡_ {A = ℕ} 48 53 = ap digit e in absurd (omega arith)
+revision-split R11 R10 s t e = let z : _≡_ {A = ℕ} 49 48 = ap digit e in absurd (omega arith)
+revision-split R11 R11 s t e = (refl, append-cancel-left (revisionLine R11) s t e)
+revision-split R11 R15 s t e = let z : _≡_ {A = ℕ} 49 53 = ap digit e in absurd (omega arith)
+revision-split R15 R10 s t e = let z : _≡_ {A = ℕ} 53 48 = ap digit e in absurd (omega arith)
+revision-split R15 R11 s t e = let z : _≡_ {A = ℕ} 53 49 = ap digit e in absurd (omega arith)
+revision-split R15 R15 s t e = (refl, append-cancel-left (revisionLine R15) s t e)
+
 -- what an accepted control block shows
 pub record SameTable (t u : Table) : Type 0 where
+  pub revision : t .revision ≡ u .revision
   pub clock : t .clock ≡ u .clock
   pub entities : used t ≡ used u
 
+abbrev clocked : Table → List ℕ
+clocked t = line (bytes "clock") (t .clock ∷ []) ++ texts entityLine (used t)
+
 table-different : (t u : Table) → tableText t ≡ tableText u → SameTable t u
 table-different t u e =
-    let a : line (bytes "clock") (t .clock ∷ []) ++ texts entityLine (used t) ≡ line (bytes "clock") (u .clock ∷ []) ++ texts entityLine (used u)
-    = append-cancel-left acceptedLine (line (bytes "clock") (t .clock ∷ []) ++ texts entityLine (used t)) (line (bytes "clock") (u .clock ∷ []) ++ texts entityLine (used u)) e in
-    let c = line-split (bytes "clock") (t .clock ∷ []) (u .clock ∷ []) (texts entityLine (used t)) (texts entityLine (used u)) refl a in
+    let a = revision-split (t .revision) (u .revision) (clocked t) (clocked u) (append-cancel-left acceptedLine (revisionLine (t .revision) ++ clocked t) (revisionLine (u .revision) ++ clocked u) e) in
+    let c = line-split (bytes "clock") (t .clock ∷ []) (u .clock ∷ []) (texts entityLine (used t)) (texts entityLine (used u)) refl (a .1) in
     let ends : (x : Entity) (v : List ℕ) → entityLine x ++ v ≡ [] → ⊥ = λ x v q. let z : _≡_ {A = ℕ} 101 0 = ap first q in omega arith in
     let l = texts-different entityLine entity-split (used t) (used u) [] [] ends ends (ap (λ (r : List ℕ). r ++ []) (c .1)) in
-    record { clock = ap first (c .0); entities = l .0 }
+    record { revision = a .0; clock = ap first (c .0); entities = l .0 }
 
 pub control-different : (v w : Verdict) (t u : Table) → controlBy v t ≡ controlBy w u → (v ≡ w) × (v ≡ Accepted → SameTable t u)
 control-different v w t u e =
-    let h = told-different v w (tableText t) (tableText u) refl refl e in
+    let h = told-different 97 v w (tableText t) (tableText u) (λ z. omega arith) refl refl e in
     (h .0, λ p. table-different t u (h .1 p))
 
--- ---- A UNIT'S CONTROLS
-pub map-different : (m n : Map) → mapText m ≡ mapText n → m ≡ n
-map-different (Controls a b c) (Controls d g f) e =
-    let w = line-split (bytes "controls") (a ∷ b ∷ c ∷ []) (d ∷ g ∷ f ∷ []) [] [] refl (ap (λ (r : List ℕ). r ++ []) e) in
-    ap (λ (l : List ℕ). Controls (getD l 0 0) (getD l 1 0) (getD l 2 0)) (w .0)
-map-different (Controls a b c) (MapRefused l m) e = let z : _≡_ {A = ℕ} 99 114 = ap first e in absurd (omega arith)
-map-different (MapRefused j n) (Controls d g f) e = let z : _≡_ {A = ℕ} 114 99 = ap first e in absurd (omega arith)
-map-different (MapRefused j n) (MapRefused l m) e = let s = refused-split j l n m e in rw (s .0, s .1)
+-- ---- A UNIT'S CONTROLS: as many as there are
+abbrev pub controlsOf : Map → List ℕ
+controlsOf m = take (m .length) (m .bytes)
+
+low-numbers : (l r : List ℕ) → Low (numbers l ++ (10 ∷ r))
+low-numbers [] r = omega arith
+low-numbers (x ∷ l) r = omega arith
+
+numbers-different : (l m : List ℕ) → numbers l ++ (10 ∷ []) ≡ numbers m ++ (10 ∷ []) → l ≡ m
+numbers-different [] [] e = refl
+numbers-different [] (y ∷ m) e = let z : _≡_ {A = ℕ} 10 32 = ap first e in absurd (omega arith)
+numbers-different (x ∷ l) [] e = let z : _≡_ {A = ℕ} 32 10 = ap first e in absurd (omega arith)
+numbers-different (x ∷ l) (y ∷ m) e =
+    let r : number x ++ (numbers l ++ (10 ∷ [])) ≡ number y ++ (numbers m ++ (10 ∷ [])) = sym (append-assoc (number x) (numbers l) (10 ∷ [])) ∙ (e ∙ append-assoc (number y) (numbers m) (10 ∷ [])) in
+    let k = number-split x y (numbers l ++ (10 ∷ [])) (numbers m ++ (10 ∷ [])) (low-numbers l []) (low-numbers m []) r in
+    rw (k .0, numbers-different l m (k .1))
+
+controls-different : (m n : Map) → controlsLine (m .length) (m .bytes) ≡ controlsLine (n .length) (n .bytes) → controlsOf m ≡ controlsOf n
+controls-different m n e = numbers-different (controlsOf m) (controlsOf n) (append-cancel-left (bytes "controls") (numbers (controlsOf m) ++ (10 ∷ [])) (numbers (controlsOf n) ++ (10 ∷ [])) e)
+
+pub map-different : (v w : Verdict) (m n : Map) → mapBy v m ≡ mapBy w n → (v ≡ w) × (v ≡ Accepted → controlsOf m ≡ controlsOf n)
+map-different v w m n e =
+    let h = told-different 99 v w (controlsLine (m .length) (m .bytes)) (controlsLine (n .length) (n .bytes)) (λ z. omega arith) refl refl e in
+    (h .0, λ p. controls-different m n (h .1 p))
 
 -- ---- A STREAMING BLOCK
 abbrev pub formatsOf : Streaming → List Format
@@ -116,11 +152,11 @@ listed-different s t e =
 
 pub streaming-different : (v w : Verdict) (s t : Streaming) → streamingBy v s ≡ streamingBy w t → (v ≡ w) × (v ≡ Accepted → SameListing s t)
 streaming-different v w s t e =
-    let h = told-different v w (listedText s) (listedText t) refl refl e in
+    let h = told-different 97 v w (listedText s) (listedText t) (λ z. omega arith) refl refl e in
     (h .0, λ p. listed-different s t (h .1 p))
 
 -- ---- A PROBE BLOCK: its layout has eight numbers
 pub probe-different : (v w : Verdict) (p q : Probe) → length (p .layout) ≡ 8 → length (q .layout) ≡ 8 → probeText v p ≡ probeText w q → (v ≡ w) × (v ≡ Accepted → p ≡ q)
 probe-different v w p q h k e =
-    let t = told-different v w (acceptedLine ++ fieldsText p) (acceptedLine ++ fieldsText q) refl refl e in
+    let t = told-different 97 v w (acceptedLine ++ fieldsText p) (acceptedLine ++ fieldsText q) (λ z. omega arith) refl refl e in
     (t .0, λ a. fields-different p q h k (append-cancel-left acceptedLine (fieldsText p) (fieldsText q) (t .1 a)))

@@ -9,12 +9,11 @@ use Rattle.rules.specs.declared.Verdict.the-variants.{Accepted, Refused}
 use Rattle.entities.specs.declared.Table.{Table}
 use Rattle.control.specs.declared.Control.{Control}
 use Rattle.control_map.specs.declared.Map.{Map}
-use Rattle.control_map.specs.declared.Map.the-variants.{Controls, Refused as MapRefused}
 use Rattle.streaming.specs.declared.Streaming.{Streaming}
 use Rattle.probe.specs.declared.Probe.{Probe}
 use Rattle.text.specs.Written.{answerOf, bufferOf}
 use Rattle.text.proofs.Whole.{text-unique}
-use Rattle.block_text.specs.Answers.{room, controlBy, controlText, mapText, streamingBy, streamingText, probeText}
+use Rattle.block_text.specs.Answers.{room, controlBy, controlText, mapBy, mapText, streamingBy, streamingText, probeText}
 
 -- what the promise says of an answer and a buffer, for any text
 abbrev pub Promised : List ℕ → List ℕ → ℕ → List ℕ → Type 0
@@ -40,9 +39,9 @@ pub some-control : (v : Verdict) (t : Table) → 0 < length (controlBy v t)
 some-control Accepted t = omega arith
 some-control (Refused k o) t = omega arith
 
-pub some-map : (m : Map) → 0 < length (mapText m)
-some-map (Controls a b c) = omega arith
-some-map (MapRefused k o) = omega arith
+pub some-map : (v : Verdict) (m : Map) → 0 < length (mapBy v m)
+some-map Accepted m = omega arith
+some-map (Refused k o) m = omega arith
 
 pub some-streaming : (v : Verdict) (s : Streaming) → 0 < length (streamingBy v s)
 some-streaming Accepted s = omega arith

@@ -9,11 +9,10 @@ use Rattle.entities.specs.declared.Table.{Table}
 use Rattle.entities.specs.Table.{used}
 use Rattle.control.specs.declared.Control.{Control}
 use Rattle.control_map.specs.declared.Map.{Map}
-use Rattle.control_map.specs.declared.Map.the-variants.{Controls, Refused as MapRefused}
 use Rattle.streaming.specs.declared.Streaming.{Streaming}
 use Rattle.probe.specs.declared.Probe.{Probe}
 use Rattle.text.specs.Text.{bytes, line, texts}
-use Rattle.block_lines.specs.Lines.{entityLine, formatLine, frameLine, controlsLine, refusedLine, acceptedLine, lineMost}
+use Rattle.block_lines.specs.Lines.{entityLine, formatLine, frameLine, controlsLine, revisionLine, refusedLine, acceptedLine, lineMost}
 use Rattle.block_lines.specs.Fields.{fieldsText}
 use Rattle.words.specs.Words.{wordsOf}
 
@@ -23,8 +22,7 @@ isAccepted Accepted = true
 isAccepted (Refused k o) = false
 
 abbrev pub isGiven : Map → Bool
-isGiven (Controls a b c) = true
-isGiven (MapRefused k o) = false
+isGiven m = isAccepted (m .verdict)
 
 -- the rule's number and the place that breaks it; below, what is wrong. (A number that is not in the table of words has no second line)
 abbrev pub refusedText : ℕ → ℕ → List ℕ
@@ -35,9 +33,9 @@ abbrev pub toldBy : Verdict → List ℕ → List ℕ
 toldBy Accepted t = t
 toldBy (Refused k o) t = refusedText k o
 
--- the clock frequency, and the used places of the entity table
+-- the revision, the clock frequency, and the used places of the entity table
 abbrev pub tableText : Table → List ℕ
-tableText t = acceptedLine ++ (line (bytes "clock") (t .clock ∷ []) ++ texts entityLine (used t))
+tableText t = acceptedLine ++ (revisionLine (t .revision) ++ (line (bytes "clock") (t .clock ∷ []) ++ texts entityLine (used t)))
 
 abbrev pub controlBy : Verdict → Table → List ℕ
 controlBy v t = toldBy v (tableText t)
@@ -45,9 +43,12 @@ controlBy v t = toldBy v (tableText t)
 abbrev pub controlText : Control → List ℕ
 controlText c = controlBy (c .verdict) (c .table)
 
+-- as many controls as there are
+abbrev pub mapBy : Verdict → Map → List ℕ
+mapBy v m = toldBy v (controlsLine (m .length) (m .bytes))
+
 abbrev pub mapText : Map → List ℕ
-mapText (Controls a b c) = controlsLine a b c
-mapText (MapRefused k o) = refusedText k o
+mapText m = mapBy (m .verdict) m
 
 -- the endpoint, the link, the used formats, the used frames
 abbrev pub listedText : Streaming → List ℕ

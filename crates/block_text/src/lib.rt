@@ -6,6 +6,7 @@ ghost use Rattle.io.specs.Counts.{Counts};
 ghost use Rattle.text.specs.Put.{Put};
 ghost use Rattle.text.specs.Written.{answerOf, bufferOf};
 ghost use Rattle.rules.specs.declared.Verdict.the-variants.{Accepted};
+ghost use Rattle.block_lines.specs.Lines.{controlsLine};
 ghost use Rattle.block_text.specs.Answers.{room, refusedText, tableText, controlBy, controlText, mapText, listedText, streamingText, probeText, isAccepted, isGiven};
 use block_lines::LINE_MOST;
 use control::Control;
@@ -83,8 +84,10 @@ fn table(buf: &mut [u8], t: Table) -> usize
     ensures { λ r. ⌜ Put (now (buf .entry)) 0 (tableText t) r (now (buf .exit)) ⌝ }
 {
     let told = text::put(buf, 0, b"accepted\n");
+    let v = t.revision;
+    let revised = block_lines::revision(buf, told, v);
     let clock = [t.clock as u64];
-    let at = text::line(buf, told, b"clock", &clock);
+    let at = text::line(buf, revised, b"clock", &clock);
     block_lines::entities(buf, at, t)
 }
 
@@ -92,10 +95,19 @@ fn mapped(buf: &mut [u8], m: Map) -> usize
     requires { ⌜ room ≤ length (now buf) ⌝ }
     ensures { λ r. ⌜ Put (now (buf .entry)) 0 (mapText m) r (now (buf .exit)) ⌝ }
 {
-    match m {
-        Map::Controls(a, b, c) => block_lines::controls(buf, 0, a, b, c),
-        Map::Refused { number, offset } => refused(buf, number, offset),
+    let verdict = m.verdict;
+    match verdict {
+        Verdict::Accepted => given(buf, m),
+        Verdict::Refused { number, offset } => refused(buf, number, offset),
     }
+}
+
+fn given(buf: &mut [u8], m: Map) -> usize
+    requires { ⌜ room ≤ length (now buf) ⌝ }
+    ensures { λ r. ⌜ Put (now (buf .entry)) 0 (controlsLine (m .length) (m .bytes)) r (now (buf .exit)) ⌝ }
+{
+    let bytes = m.bytes;
+    block_lines::controls(buf, 0, bytes, m.length as usize)
 }
 
 fn streaming_read(buf: &mut [u8], s: Streaming) -> usize
@@ -165,8 +177,6 @@ pub fn is_accepted(v: Verdict) -> bool
 pub fn is_given(m: Map) -> bool
     ensures { λ r. ⌜ r ≡ isGiven m ⌝ }
 {
-    match m {
-        Map::Controls(_, _, _) => true,
-        Map::Refused { .. } => false,
-    }
+    let verdict = m.verdict;
+    is_accepted(verdict)
 }

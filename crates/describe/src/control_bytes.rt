@@ -1,4 +1,4 @@
-// `describe map FILE ID`: the three control bytes of a camera terminal or a processing unit, or the refusal.
+// `describe map FILE ID`: the control bytes of a camera terminal or a processing unit, as many as it has, or the refusal.
 ghost use mathlib.Core.Path.{_≡_};
 ghost use Rattle.describe.specs.Id.{idOf};
 use console::files;

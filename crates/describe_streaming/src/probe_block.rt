@@ -22,7 +22,8 @@ pub fn describe() {
     }
     let table = known.table;
     let verdict = probe::check(table, &block[..n], &bytes[..m]);
-    let read = probe::read(&bytes[..m]);
+    let revision = table.revision;
+    let read = probe::read(&bytes[..m], revision);
     let p = read.probe;
     let mut text = [0u8; block_text::ROOM];
     let k = block_text::probe(&mut text, verdict, p);

@@ -1,8 +1,9 @@
 -- What the tests of reading and writing say.
 use Prim.Native.Nat.{ℕ, _≤_, _<_}
-use mathlib.Core.Path.{_≡_, refl}
+use mathlib.Core.Path.{_≡_, refl, _∙_}
 use mathlib.Core.List.{List, _++_}
 use lib.ListN.{length, take, drop, length-take}
+use lib.Seq.{take-all}
 use native.Mathlib.Omega.{arith}
 use borrow.Author.Tests.{eq-eqb, ne-eqb, lt-ltb, le-ltb}
 use Rattle.rules.specs.Pick.{pick}
@@ -50,6 +51,20 @@ first-length v p = simp length-take (omega (arith, size-most v, bytes-length p))
 pub write-short : (v : Revision) (p : Probe) (room : List ℕ) → length room < probeSize v → (Refused 41 0 ≡ roomVerdict v room) × (room ≡ written v p room)
 unfolding roomVerdict written pick
 write-short v p room h = rw (lt-ltb (length room) (probeSize v) h) (refl, refl)
+
+-- what is copied: the first so many of the fields' bytes
+pub prefix-length : (p : Probe) (l : List ℕ) (n : ℕ) → l ≡ bytesOf p → n ≤ 48 → n ≡ length (take n l)
+prefix-length p l n e h = rw e (simp length-take (omega (arith, bytes-length p)))
+
+pub prefix-fits : (p : Probe) (l : List ℕ) (n m : ℕ) → l ≡ bytesOf p → n ≤ 48 → n ≤ m → length (take n l) ≤ m
+prefix-fits p l n m e h k = let q = prefix-length p l n e h in omega arith
+
+pub copied : (v : Revision) (p : Probe) (room l block : List ℕ) (size n : ℕ) → block ≡ bytesOf p → size ≡ probeSize v → n ≡ length (take size block) → l ≡ take n (take size block) ++ drop n room
+    → l ≡ take (probeSize v) (bytesOf p) ++ drop (probeSize v) room
+copied v p room l block size n e z m h =
+    let k : n ≡ probeSize v = m ∙ (rw (e, z) (first-length v p)) in
+    let q : take (probeSize v) (take (probeSize v) (bytesOf p)) ≡ take (probeSize v) (bytesOf p) = take-all (probeSize v) (take (probeSize v) (bytesOf p)) (omega (arith, first-length v p)) in
+    h ∙ (rw (k, e, z, q))
 
 pub write-whole : (v : Revision) (p : Probe) (room l : List ℕ) → probeSize v ≤ length room → l ≡ take (probeSize v) (bytesOf p) ++ drop (probeSize v) room → (Accepted ≡ roomVerdict v room) × (l ≡ written v p room)
 unfolding roomVerdict written pick

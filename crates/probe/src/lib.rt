@@ -340,7 +340,8 @@ fn refused(number: u8) -> Verdict
 pub fn check(table: Table, block: &[u8], probe: &[u8]) -> Verdict
     ensures { λ r. ⌜ r ≡ checkOf table (now (block .entry)) (now (probe .entry)) ⌝ }
 {
-    if probe.len() != size_of(table.revision) {
+    let revision = table.revision;
+    if probe.len() != size_of(revision) {
         return refused(41);
     }
     let a = streaming::read(table, block);

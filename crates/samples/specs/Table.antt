@@ -5,6 +5,7 @@ use mathlib.Core.List.{List, [], _∷_, _++_, map}
 use lib.ListN.{replicate}
 use Rattle.rules.specs.declared.Verdict.the-variants.{Accepted}
 use Rattle.entities.specs.Table.{noTable}
+use Rattle.entities.specs.declared.Revision.the-variants.{R15}
 use Rattle.control.specs.Answer.{ControlIs, refusedBy}
 use Rattle.sizes.specs.declared.Opening.{Opening}
 use Rattle.frames.specs.declared.Fate.{Fate}
@@ -49,7 +50,7 @@ printed = 1 ∷ 3 ∷ 1 ∷ 2 ∷ 0 ∷ 0 ∷ 0 ∷ 0 ∷ 0 ∷ 0 ∷ 1 ∷ 1 �
 
 pub record Samples : Type 0 where
   -- 0C 24 01 50 01 0C 00 00 6C DC 02 00: accepted, no entities, 48,000,000 Hz
-  pub header-alone : ControlIs (header 0x0C) (record { verdict = Accepted; table = record { count = 0; entities = noTable .entities; clock = 48_000_000 } })
+  pub header-alone : ControlIs (header 0x0C) (record { verdict = Accepted; table = record { count = 0; entities = noTable .entities; clock = 48_000_000; revision = R15 } })
   -- byte 5 as 0x13, then 07 24 04 05 01 05 00: 15 at 12; source 06 instead: 13 at 12
   pub names-itself : ControlIs (header 0x13 ++ selector 0x05) (refusedBy 15 12)
   pub names-nothing : ControlIs (header 0x13 ++ selector 0x06) (refusedBy 13 12)

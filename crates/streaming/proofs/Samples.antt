@@ -8,6 +8,7 @@ use Rattle.rules.specs.Walk.{walkFrom, walk}
 use Rattle.rules.specs.declared.Verdict.the-variants.{Accepted, Refused}
 use Rattle.entities.specs.Table.{noEntity, findFrom}
 use Rattle.entities.specs.declared.Table.{Table}
+use Rattle.entities.specs.declared.Revision.the-variants.{R15}
 use Rattle.intervals.specs.Intervals.{listAt, rises, among, offered}
 use Rattle.pictures.specs.Pictures.{bitsOf, untrue}
 use Rattle.streaming_rules.specs.Descriptors.{kindOf, layoutOf, shape, guidEnd, sameBytes, sortOf, formatAt, frameAt}
@@ -18,7 +19,7 @@ use Rattle.streaming.specs.Answer.{isOutput, linkedAt, countUnder, after
 
 -- one entity: the output terminal 3, of type 0x0101
 table : Table
-table = record { count = 1; entities = record { id = 3; kind = 3; terminal = 0x0101; offset = 12 } ∷ replicate 31 noEntity; clock = 0 }
+table = record { count = 1; entities = record { id = 3; kind = 3; terminal = 0x0101; offset = 12 } ∷ replicate 31 noEntity; clock = 0; revision = R15 }
 
 header : ℕ → ℕ → ℕ → List ℕ
 header total p link = 0x0D ∷ 0x24 ∷ 0x01 ∷ p ∷ total ∷ 0x00 ∷ 0x81 ∷ 0x00 ∷ link ∷ 0x00 ∷ 0x00 ∷ 0x00 ∷ 0x00 ∷ []

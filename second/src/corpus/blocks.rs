@@ -3,11 +3,13 @@
 use super::{filler, with, CLOCK};
 use crate::blocks::*;
 use crate::cases::Case;
+use crate::control::Revision;
 
 pub fn all() -> Vec<Case> {
     let mut blocks = control_heads();
     blocks.extend(control_descriptors());
     blocks.extend(control_sources());
+    blocks.extend(older());
     let mut all: Vec<Case> = blocks.into_iter().map(Case::Control).collect();
     all.extend(maps());
     all
@@ -129,6 +131,56 @@ fn control_descriptors() -> Vec<Vec<u8>> {
     all
 }
 
+/// The three revisions: lengths and control sizes around the right ones, by each for each; and subtype 7.
+fn older() -> Vec<Vec<u8>> {
+    let mut all = Vec::new();
+    for revision in Revision::ALL {
+        let whole = |d: &[Vec<u8>]| control_of(revision, CLOCK, &[1], d);
+        all.push(whole(&[]));
+        for size in [0, 1, 2, 3, 4, 31, 32, 33, 200] {
+            let controls: Vec<u8> = (0..size).collect();
+            let eye = camera_of(1, &controls);
+            all.push(whole(&[eye.clone()]));
+            for of in Revision::ALL {
+                all.push(whole(&[camera_of(1, &[1, 2, 3]), processing_of(of, 2, 1, &controls)]));
+            }
+            // A byte longer or shorter, the size as it was; and a size that reaches past the descriptor.
+            for d in [eye, processing_of(revision, 2, 2, &controls)] {
+                for n in [d.len() - 1, d.len() + 1] {
+                    let mut other = d.clone();
+                    other.resize(n, 0);
+                    other[0] = n as u8;
+                    all.push(whole(&[other.clone(), descriptor(0x30, &[9; 40])]));
+                }
+            }
+        }
+        // Camera terminals that end before their control size.
+        for n in 8..15 {
+            let mut short = camera_of(1, &[])[..n].to_vec();
+            short[0] = n as u8;
+            all.push(whole(&[short, descriptor(0x30, &[0; 20])]));
+        }
+        // 7: an encoding unit, or unknown: of any length, with an ID that is 0 or was used, and as a source.
+        let eye = camera_of(1, &[1, 2, 3]);
+        all.push(whole(&[eye.clone(), encoding(2, 1), output(3, 0x0101, 2)]));
+        all.push(whole(&[eye.clone(), encoding(2, 1), output(3, 0x0101, 1)]));
+        all.push(whole(&[eye.clone(), encoding(1, 99)]));
+        all.push(whole(&[eye.clone(), encoding(0, 1)]));
+        all.push(whole(&[eye.clone(), encoding(2, 2)]));
+        for rest in [vec![], vec![1], vec![0; 9], vec![3; 200]] {
+            all.push(whole(&[eye.clone(), descriptor(7, &rest)]));
+        }
+        let mut full: Vec<Vec<u8>> = (1..=32).map(|id| input(id, 0x0401, &[])).collect();
+        full.push(encoding(40, 1));
+        all.push(whole(&full));
+    }
+    for bcd in [0x0000u16, 0x00FF, 0x0101, 0x010F, 0x0111, 0x014F, 0x0151, 0x0200, 0x1001, 0xFFFF] {
+        let [low, high] = bcd.to_le_bytes();
+        all.push(with(&with(&control(CLOCK, &[], &[encoding(2, 1)]), 3, low), 4, high));
+    }
+    all
+}
+
 /// 13 to 15.
 fn control_sources() -> Vec<Vec<u8>> {
     let whole = |d: &[Vec<u8>]| control(CLOCK, &[], d);
@@ -194,6 +246,14 @@ fn maps() -> Vec<Case> {
         ],
     );
     let mut all: Vec<Case> = (0..=9).chain([254, 255]).map(|id| Case::Map(block.clone(), id)).collect();
+    for revision in Revision::ALL {
+        for size in [0, 1, 3, 31, 32, 33] {
+            let controls: Vec<u8> = (101..101 + size).collect();
+            let units = [camera_of(1, &controls), processing_of(revision, 2, 1, &controls), encoding(3, 2)];
+            let block = control_of(revision, CLOCK, &[], &units);
+            all.extend((0..=4).map(|id| Case::Map(block.clone(), id)));
+        }
+    }
     all.push(Case::Map(with(&block, 5, 0), 1));
     all.push(Case::Map(with(&block, 3, 0), 99));
     all.push(Case::Map(vec![], 1));

@@ -3,6 +3,7 @@
 use super::{filler, with, CLOCK};
 use crate::blocks::*;
 use crate::cases::Case;
+use crate::control::Revision;
 use crate::streaming::Place;
 
 pub fn all() -> Vec<Case> {
@@ -329,15 +330,15 @@ fn hostile_tables() -> Vec<Case> {
     let none = || Place { id: 0, kind: 0, terminal: 0, offset: 0 };
     let block = |link| streaming(1, 0x81, link, 0, &[mjpeg(1, 1, 1), picture(7, 1)]);
     let mut all = Vec::new();
-    for count in [0, 1, 31, 32, 33, 40] {
-        all.push(Case::Hostile(count, (0..32).map(|_| output(9)).collect(), block(9)));
-        all.push(Case::Hostile(count, (1..=32).map(output).collect(), block(32)));
-        all.push(Case::Hostile(count, (0..32).map(|_| none()).collect(), block(0)));
-        all.push(Case::Hostile(count, (0..32).map(|i| if i == 0 { output(0) } else { none() }).collect(), block(0)));
+    for (count, revision) in [0, 1, 31, 32, 33, 40].into_iter().zip(Revision::ALL.into_iter().cycle()) {
+        all.push(Case::Hostile(count, revision, (0..32).map(|_| output(9)).collect(), block(9)));
+        all.push(Case::Hostile(count, revision, (1..=32).map(output).collect(), block(32)));
+        all.push(Case::Hostile(count, revision, (0..32).map(|_| none()).collect(), block(0)));
+        all.push(Case::Hostile(count, revision, (0..32).map(|i| if i == 0 { output(0) } else { none() }).collect(), block(0)));
         // The first used place decides, even where a later one would do.
-        all.push(Case::Hostile(count, (0..32).map(|i| if i == 0 { other(9) } else { output(9) }).collect(), block(9)));
-        all.push(Case::Hostile(count, (0..32).map(|i| if i == 31 { output(9) } else { other(1) }).collect(), block(9)));
-        all.push(Case::Hostile(count, (0..32).map(|_| output(9)).collect(), vec![]));
+        all.push(Case::Hostile(count, revision, (0..32).map(|i| if i == 0 { other(9) } else { output(9) }).collect(), block(9)));
+        all.push(Case::Hostile(count, revision, (0..32).map(|i| if i == 31 { output(9) } else { other(1) }).collect(), block(9)));
+        all.push(Case::Hostile(count, revision, (0..32).map(|_| output(9)).collect(), vec![]));
     }
     all
 }
@@ -380,9 +381,20 @@ fn probes() -> Vec<Case> {
     all.push(Case::Check(table_block(), with(&block, 6, 0), probe(9, 9, 0, 0, 0)));
     all.push(Case::Check(vec![], block.clone(), probe(1, 1, 10, 5, 5)));
     all.push(Case::Check(table_block(), streaming(0, 0x81, 9, 0, &[]), probe(1, 1, 10, 5, 5)));
-    for n in [0, 47, 48, 49, 64] {
-        for m in [0, 47, 48, 49, 64] {
-            all.push(Case::Write((1..=n).collect(), vec![0xCC; m]));
+    for revision in Revision::ALL {
+        for n in [0, 25, 26, 27, 33, 34, 35, 47, 48, 49, 64] {
+            for m in [0, 25, 26, 27, 33, 34, 35, 47, 48, 49, 64] {
+                all.push(Case::Write(revision, (1..=n).collect(), vec![0xCC; m]));
+            }
+        }
+        // 41 by the control block's revision; the fields that are asked of stand in the first 26 bytes.
+        let old = control_of(revision, 1, &[], &[input(1, 0x0401, &[]), output(9, 0x0101, 1)]);
+        for n in [0, 25, 26, 27, 33, 34, 35, 47, 48, 49] {
+            for asked in [probe(1, 1, 10, 5, 5), probe(1, 1, 9, 5, 5), probe(9, 1, 10, 5, 5), probe(1, 1, 10, 5, 1)] {
+                let mut p = asked.clone();
+                p.resize(n, 0);
+                all.push(Case::Check(old.clone(), block.clone(), p));
+            }
         }
     }
     all

@@ -68,7 +68,7 @@ cast-at : tie.Need-cast-at Inv-loop μ-loop
 cast-at c = search needs
 
 check-frame-requires : tie.Need-check-frame-requires Inv-loop μ-loop
-check-frame-requires c κs = (c .before .before .before .before .before .loop .inv .1 .inside _ (c .before .before .before .before .loop-test .taken), (let l = c .before .before .before .before .before .before .before .before .before .before .before .before .before .if1 .left in let h = c .before .before .before .before .before .before .before .before .before .before .before .before .before .before .size-of .ensures .1 .0 in omega arith))
+check-frame-requires c κs = (c .before .before .before .before .before .loop .inv .1 .inside _ (c .before .before .before .before .loop-test .taken), (let l = c .before .before .before .before .before .before .before .before .before .before .before .before .before .if1 .left in let h = c .before .before .before .before .before .before .before .before .before .before .before .before .before .before .size-of .ensures .1 in omega arith))
 
 returns-4 : tie.Need-returns-4 Inv-loop μ-loop
 returns-4 c = check-on _ _ _ _ (c .before .before .before .before .before .before .before .before .before .before .before .before .before .before .if1 .left ∙ c .before .before .before .before .before .before .before .before .before .before .before .before .before .before .before .size-of .ensures .0) _ (c .before .before .before .before .before .before .before .before .before .before .before .before .before .read .ensures) (c .before .before .before .before .before .before .before .before .before .before .before .enum-told .given .1) _ (c .before .before .before .before .before .before .before .before .before .format-missing .ensures) (c .before .before .before .before .before .before .before .before .if2 .left) _ (found-here _ _ _ (c .before .before .before .before .before .before .loop .inv .0) (c .before .before .before .before .before .loop-test .taken) (sym (c .before .before .before .has-number .ensures) ∙ c .before .before .if3 .taken)) (c .before .before .before .before .before .loop-test .taken) (c .check-frame .ensures)
