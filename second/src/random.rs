@@ -225,10 +225,13 @@ pub fn linked_control(r: &mut Random) -> Vec<u8> {
         return maybe_damaged_control(r);
     }
     let terminal = if r.once_in(20) { 0x0301 } else { 0x0101 };
-    let controls = [r.byte(), r.byte(), r.byte()];
-    let mut all = vec![blocks::camera(1, controls), blocks::processing(2, 1, controls), blocks::output(9, terminal, 2)];
+    let revision = r.pick(&Revision::ALL);
+    let k = if revision == Revision::New15 { 3 } else { r.below(33) };
+    let controls = r.bytes(k);
+    let unit = blocks::processing_of(revision, 2, 1, &controls);
+    let mut all = vec![blocks::camera_of(1, &controls), unit, blocks::output(9, terminal, 2)];
     r.shuffle(&mut all);
-    blocks::control(27_000_000, &[1], &all)
+    blocks::control_of(revision, 27_000_000, &[1], &all)
 }
 
 fn interval(r: &mut Random) -> u32 {

@@ -23,11 +23,11 @@ same-length c = search needs
 returns : tie.Need-returns Inv-loop μ-loop
 returns c = all-used number 0 _ 32 _ _ (c .if1 .taken) (c .before .before .loop .inv)
 
-mul-x : tie.Need-mul-x Inv-loop μ-loop
-mul-x c = search needs
+array-read-x : tie.Need-array-read-x Inv-loop μ-loop
+array-read-x c = search needs
 
-array-copy-out-x : tie.Need-array-copy-out-x Inv-loop μ-loop
-array-copy-out-x c = search needs
+cast-number : tie.Need-cast-number Inv-loop μ-loop
+cast-number c = search needs
 
 number-requires : tie.Need-number-requires Inv-loop μ-loop
 number-requires c κs = search needs
@@ -41,8 +41,8 @@ loop-less c = search needs
 loop-again : tie.Need-loop-again Inv-loop μ-loop
 loop-again c =
     let printed = c .before .before .number in
-    let l = c .before .before .before .before .before .before .before in
-    one-more number 0 _ 32 _ (l .loop .i) (omega arith) (omega arith) (l .loop .inv) (printed .ensures .0) (printed .ensures .1)
+    let l = c .before .before .before .before .before .before in
+    one-more number 0 _ 32 _ (l .loop .i) (omega arith) (omega arith) (l .loop .inv) (printed .ensures .0) (let b = printed .ensures .1 in omega arith)
 
 same-length-2 : tie.Need-same-length-2 Inv-loop μ-loop
 same-length-2 c = search needs
@@ -59,8 +59,8 @@ numbers-spec =
     loop-holds
     same-length
     returns
-    mul-x
-    array-copy-out-x
+    array-read-x
+    cast-number
     number-requires
     add-i
     loop-less
