@@ -24,7 +24,7 @@ table =
     says 5 "a control descriptor is shorter than 3 bytes or runs past the end" ∷
     says 6 "a control descriptor is not of type 0x24, or a second header comes" ∷
     says 7 "a control descriptor has not the length or the control size of its kind" ∷
-    says 8 "the camera's revision is not 1.5" ∷
+    says 8 "the camera's revision is not 1.0, 1.1 or 1.5" ∷
     says 9 "a terminal or unit has ID 0" ∷
     says 10 "two terminals or units have the same ID" ∷
     says 11 "there are more than 32 terminals and units" ∷
@@ -54,7 +54,7 @@ table =
     says 38 "the input header gives another number of formats" ∷
     says 39 "a frame's width, height, bits or buffer size cannot be true" ∷
     says 40 "a frame-based format's flag or its frame's bytes per line are wrong" ∷
-    says 41 "the probe block has not 48 bytes" ∷
+    says 41 "the probe block has not its revision's number of bytes" ∷
     says 42 "the probe block asks for a format that the camera has not" ∷
     says 43 "the probe block asks for a frame that its format has not" ∷
     says 44 "the probe block asks for an interval that its frame does not offer" ∷

@@ -18,7 +18,7 @@ const WIDTHS: [u8; PAST] = [
     66,
     67,
     72,
-    33,
+    45,
     28,
     40,
     43,
@@ -51,7 +51,7 @@ const WIDTHS: [u8; PAST] = [
     49,
     60,
     68,
-    33,
+    55,
     58,
     57,
     67,
@@ -86,7 +86,7 @@ the control header gives another total length than the block has\n.......\
 a control descriptor is shorter than 3 bytes or runs past the end\n......\
 a control descriptor is not of type 0x24, or a second header comes\n.....\
 a control descriptor has not the length or the control size of its kind\n\
-the camera's revision is not 1.5\n.......................................\
+the camera's revision is not 1.0, 1.1 or 1.5\n...........................\
 a terminal or unit has ID 0\n............................................\
 two terminals or units have the same ID\n................................\
 there are more than 32 terminals and units\n.............................\
@@ -119,7 +119,7 @@ a format's default frame is none of its frames\n.........................\
 the input header gives another number of formats\n.......................\
 a frame's width, height, bits or buffer size cannot be true\n............\
 a frame-based format's flag or its frame's bytes per line are wrong\n....\
-the probe block has not 48 bytes\n.......................................\
+the probe block has not its revision's number of bytes\n.................\
 the probe block asks for a format that the camera has not\n..............\
 the probe block asks for a frame that its format has not\n...............\
 the probe block asks for an interval that its frame does not offer\n.....\
