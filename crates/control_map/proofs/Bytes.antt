@@ -31,7 +31,7 @@ module _ (s : List ℕ) (o n : ℕ) where
   filled-more l i x w h e =
       let c = controls-length s o n i in
       let g : set (pad controlsMost 0 (firstControls s o n i)) (length (firstControls s o n i)) (controlByte s o n i) ≡ pad controlsMost 0 (firstControls s o n i ++ (controlByte s o n i ∷ [])) =
-          pad-set controlsMost 0 (firstControls s o n i) (controlByte s o n i) (rw c h) in
+      pad-set controlsMost 0 (firstControls s o n i) (controlByte s o n i) (rw c h) in
       record { few = omega arith; filled = rw (add-one i, e, w .filled) (ap (λ (k : ℕ). set (pad controlsMost 0 (firstControls s o n i)) k (controlByte s o n i)) (sym c) ∙ g) }
 
   pub filled-all : (l : List ℕ) (i : ℕ) → Filling s o n l i → controlsMost ≤ i → l ≡ controlBytes s o n

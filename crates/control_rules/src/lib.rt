@@ -27,7 +27,9 @@ const PINS_MOST: u8 = 16;
 
 // bcdUVC of the three revisions.
 const REVISION_10: u16 = 0x0100;
+
 const REVISION_11: u16 = 0x0110;
+
 const REVISION_15: u16 = 0x0150;
 // The terminal type of a camera.
 pub const CAMERA: u16 = 0x0201;

@@ -2,7 +2,7 @@
 use Prim.Native.Nat.{ℕ, _+_, _<_}
 use mathlib.Core.Path.{_≡_, refl, sym, ap, _∙_}
 use mathlib.Core.List.{List, []}
-use mathlib.Core.Bool.{Bool, true, false, not, _||_, true≢false}
+use mathlib.Core.Bool.{Bool, true, false, _||_}
 use lib.ListN.{length, getD}
 use lib.Dec.{eqb}
 use borrow.Author.Tests.{eqb-true, not-false}
@@ -162,15 +162,17 @@ module _ (s : List ℕ) (c : Control) (r : ControlIs s c) (a : c .verdict ≡ Ac
   pub shows : (v : Revision) × Shows v s c
   shows =
       let t = lists s r a in
-      let z : c .table .revision ≡ revisionOf s = table-is (t .0) (t .2) in
-      (revisionOf s, record {
-        bytes = bcd-is (le16At s 3) (known-revision s sound);
-        table = z;
-        entities = entities-by;
-        map = λ id m q h. map-by s id m q h;
-        probe-long = λ b p h. says-yes (c .table) b p .0 h .read .whole ∙ ap (λ (v : Revision). saysOf v .probe) z;
-        probe-41 = λ b p n. sym (check-41 (c .table) b p (Refused 41 0) (λ e. n (e ∙ ap (λ (v : Revision). saysOf v .probe) z)) refl);
-      })
+      let z : c .table .revision ≡ revisionOf s = table-is (t .0) (t .2) in (
+        revisionOf s,
+        record {
+          bytes = bcd-is (le16At s 3) (known-revision s sound);
+          table = z;
+          entities = entities-by;
+          map = λ id m q h. map-by s id m q h;
+          probe-long = λ b p h. says-yes (c .table) b p .0 h .read .whole ∙ ap (λ (v : Revision). saysOf v .probe) z;
+          probe-41 = λ b p n. sym (check-41 (c .table) b p (Refused 41 0) (λ e. n (e ∙ ap (λ (v : Revision). saysOf v .probe) z)) refl);
+        },
+      )
 
   -- and it has no other
   pub shows-one : (v w : Revision) → Shows v s c → Shows w s c → v ≡ w

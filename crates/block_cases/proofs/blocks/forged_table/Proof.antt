@@ -4,19 +4,25 @@ use Rattle.block_cases.proofs.blocks.forged_table.Statement.{statement}
 use Rattle.block_cases.proofs.blocks.forged_table.Tie as tie
 
 abbrev Inv-loop : tie.InvT-loop
-Inv-loop table₀ i₀ table i = i ≤ 32
+Inv-loop count revision table₀ i₀ table i = i ≤ 32
 
 abbrev μ-loop : tie.MeasureT-loop
-μ-loop table₀ i₀ table i = 32 - i
-
-no-table-requires : tie.Need-no-table-requires Inv-loop μ-loop
-no-table-requires c κs = search needs
+μ-loop count revision table₀ i₀ table i = 32 - i
 
 byte-requires : tie.Need-byte-requires Inv-loop μ-loop
 byte-requires c κs = search needs
 
-cast-table : tie.Need-cast-table Inv-loop μ-loop
-cast-table c = search needs
+cast-count : tie.Need-cast-count Inv-loop μ-loop
+cast-count c = search needs
+
+byte-requires-2 : tie.Need-byte-requires-2 Inv-loop μ-loop
+byte-requires-2 c κs = search needs
+
+revision-of-requires : tie.Need-revision-of-requires Inv-loop μ-loop
+revision-of-requires c κs = search needs
+
+no-table-requires : tie.Need-no-table-requires Inv-loop μ-loop
+no-table-requires c κs = search needs
 
 loop-holds : tie.Need-loop-holds Inv-loop μ-loop
 loop-holds c = search needs
@@ -24,8 +30,8 @@ loop-holds c = search needs
 forged-entity-requires : tie.Need-forged-entity-requires Inv-loop μ-loop
 forged-entity-requires c κs = search needs
 
-mul-t8 : tie.Need-mul-t8 Inv-loop μ-loop
-mul-t8 c = search needs
+mul-t9 : tie.Need-mul-t9 Inv-loop μ-loop
+mul-t9 c = search needs
 
 element-set-from-table : tie.Need-element-set-from-table Inv-loop μ-loop
 element-set-from-table c = search needs
@@ -48,12 +54,14 @@ forged-table-spec =
     (tie.spec
     Inv-loop
     μ-loop
-    no-table-requires
     byte-requires
-    cast-table
+    cast-count
+    byte-requires-2
+    revision-of-requires
+    no-table-requires
     loop-holds
     forged-entity-requires
-    mul-t8
+    mul-t9
     element-set-from-table
     add-i
     loop-less

@@ -25,7 +25,6 @@ extension-requires c κs = search needs
 fixed-requires : tie.Need-fixed-requires
 fixed-requires c κs = search needs
 
-
 returns : tie.Need-returns
 unfolding kindOf shape
 returns c = rw (c .before .match .keys1) (c .counted .ensures)
