@@ -30,7 +30,7 @@ pub record Mapped (seen : List Entity) (id i place : ℕ) : Type 0 where
   pub named : entityAt seen i .id ≡ id
   pub has : HasControls (entityAt seen i) place
 
--- ours: the most control bytes
+-- document 02: the control size is at most 32
 abbrev pub controlsMost : ℕ
 controlsMost = 32
 
