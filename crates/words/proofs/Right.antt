@@ -1,4 +1,4 @@
--- What the code's tables say of each number below 47: tests that antt computes. From 47 on there are no words.
+-- What the code's tables say of each number: tests that antt computes. From `beyond` on there are no words.
 use mathlib.Core.Path.{_≡_, refl}
 use mathlib.Core.Bool.{Bool, true}
 use mathlib.Core.List.{List, [], _∷_}
@@ -9,8 +9,11 @@ use lib.Dec.{T, eqb, eqb→eq, ltb, ltb→lt, leb, leb→le}
 use lib.ListN.{length, take, drop, getD}
 use Rattle.text.specs.Put.{Put}
 use Rattle.text.proofs.Computed.{both, both-left, both-right, every, below, equal, equal→eq}
-use Rattle.text.proofs.Texts.{none}
 use Rattle.words.specs.Words.{Entry, table, wordsIn, wordsOf}
+
+-- above every number of the table
+abbrev pub beyond : ℕ
+beyond = 47
 
 -- the code's widths: how long the lines of k numbers are, from n on
 abbrev widthsFrom : ℕ → ℕ → List ℕ
@@ -18,45 +21,51 @@ widthsFrom zero n = []
 widthsFrom (suc k) n = length (wordsOf n) ∷ widthsFrom k (suc n)
 
 abbrev pub widths : List ℕ
-widths = widthsFrom 47 0
+widths = widthsFrom beyond 0
 
-most : (n : ℕ) → n < 47 → length (wordsOf n) ≤ 72
+most : (n : ℕ) → n < beyond → length (wordsOf n) ≤ 72
 unfolding wordsOf
-most n h = leb→le (length (wordsOf n)) 72 (below (λ i. leb (length (wordsOf i)) 72) 47 tt n h)
+most n h = leb→le (length (wordsOf n)) 72 (below (λ i. leb (length (wordsOf i)) 72) beyond tt n h)
 
-pub width-right : (n : ℕ) → n < 47 → (getD widths n 0 ≡ length (wordsOf n)) × (getD widths n 0 ≤ 72)
+pub width-right : (n : ℕ) → n < beyond → (getD widths n 0 ≡ length (wordsOf n)) × (getD widths n 0 ≤ 72)
 unfolding wordsOf
 width-right n h =
-    let e : getD widths n 0 ≡ length (wordsOf n) = eqb→eq (getD widths n 0) (length (wordsOf n)) (below (λ i. eqb (getD widths i 0) (length (wordsOf i))) 47 tt n h) in
+    let e : getD widths n 0 ≡ length (wordsOf n) = eqb→eq (getD widths n 0) (length (wordsOf n)) (below (λ i. eqb (getD widths i 0) (length (wordsOf i))) beyond tt n h) in
     (e, omega (arith, most n h))
 
--- each line of 72 bytes begins with its number's words
-abbrev pub linesRight : List ℕ → Bool
-linesRight lines = every (λ n. equal (take (length (wordsOf n)) (drop (72 * n) lines)) (wordsOf n)) 47
+-- a group's text, from its first number on: each line of 72 bytes begins with its number's words
+abbrev beginsWith : ℕ → List ℕ → ℕ → Bool
+beginsWith first lines i = equal (take (length (wordsOf (first + i))) (drop (72 * i) lines)) (wordsOf (first + i))
 
-pub line-right : (lines : List ℕ) (n w : ℕ) {old new : List ℕ} {at r : ℕ} → n < 47 → w ≡ length (wordsOf n)
-    → Put old at (take (72 * n + w - 72 * n) (drop (72 * n) lines)) r new → T (linesRight lines) → Put old at (wordsOf n) r new
-line-right lines n w h e p t =
-    let size : 72 * n + w - 72 * n ≡ length (wordsOf n) = omega arith in
-    let part : take (72 * n + w - 72 * n) (drop (72 * n) lines) ≡ wordsOf n
-    = rw size (equal→eq (take (length (wordsOf n)) (drop (72 * n) lines)) (wordsOf n) (below (λ i. equal (take (length (wordsOf i)) (drop (72 * i) lines)) (wordsOf i)) 47 t n h)) in
+abbrev pub linesRight : ℕ → ℕ → List ℕ → Bool
+linesRight first many lines = every (beginsWith first lines) many
+
+line-at : (first many : ℕ) (lines : List ℕ) (n : ℕ) → first ≤ n → n < first + many → T (linesRight first many lines)
+    → take (length (wordsOf n)) (drop (72 * (n - first)) lines) ≡ wordsOf n
+line-at first many lines n l h t =
+    let e : first + (n - first) ≡ n = omega arith in
+    let b : T (beginsWith first lines (n - first)) = below (beginsWith first lines) many t (n - first) (omega arith) in
+    let c : T (equal (take (length (wordsOf n)) (drop (72 * (n - first)) lines)) (wordsOf n)) = rw e at b in
+    equal→eq (take (length (wordsOf n)) (drop (72 * (n - first)) lines)) (wordsOf n) c
+
+pub line-right : (first many : ℕ) (lines : List ℕ) (n w : ℕ) {old new : List ℕ} {at r : ℕ} → first ≤ n → n < first + many → w ≡ length (wordsOf n)
+    → Put old at (take (72 * (n - first) + w - 72 * (n - first)) (drop (72 * (n - first)) lines)) r new → T (linesRight first many lines) → Put old at (wordsOf n) r new
+line-right first many lines n w l h e p t =
+    let size : 72 * (n - first) + w - 72 * (n - first) ≡ length (wordsOf n) = omega arith in
+    let part : take (72 * (n - first) + w - 72 * (n - first)) (drop (72 * (n - first)) lines) ≡ wordsOf n = rw size (line-at first many lines n l h t) in
     rw part at p
 
--- every number of the table is below 47
+-- every number of the table is below it
 abbrev lowIn : List Entry → Bool
 lowIn [] = true
-lowIn (e ∷ es) = both (ltb (e .number) 47) (lowIn es)
+lowIn (e ∷ es) = both (ltb (e .number) beyond) (lowIn es)
 
-past-in : (es : List Entry) (n : ℕ) → T (lowIn es) → 47 ≤ n → wordsIn es n ≡ []
+past-in : (es : List Entry) (n : ℕ) → T (lowIn es) → beyond ≤ n → wordsIn es n ≡ []
 past-in [] n t h = refl
 past-in (e ∷ es) n t h =
-    let low : e .number < 47 = ltb→lt (e .number) 47 (both-left (ltb (e .number) 47) (lowIn es) t) in
-    rw (ne-eqb (e .number) n (λ q. omega arith)) (past-in es n (both-right (ltb (e .number) 47) (lowIn es) t) h)
+    let low : e .number < beyond = ltb→lt (e .number) beyond (both-left (ltb (e .number) beyond) (lowIn es) t) in
+    rw (ne-eqb (e .number) n (λ q. omega arith)) (past-in es n (both-right (ltb (e .number) beyond) (lowIn es) t) h)
 
-pub past : (n : ℕ) → 47 ≤ n → wordsOf n ≡ []
+pub past : (n : ℕ) → beyond ≤ n → wordsOf n ≡ []
 unfolding wordsOf
 past n h = past-in table n tt h
-
--- nothing is put
-pub none-past : (n : ℕ) (old : List ℕ) (at : ℕ) → 47 ≤ n → at ≤ length old → Put old at (wordsOf n) at old
-none-past n old at h k = rw (past n h) (none old at k)

@@ -66,19 +66,16 @@ fn width(n: usize) -> u8
     WIDTHS[n]
 }
 
-// Inner: a number's line of words, of at most 72 bytes; nothing of a number that has none.
-pub fn put(buf: &mut [u8], at: usize, number: u8) -> usize
-    requires { ⌜ at + 72 ≤ length (now buf) ⌝ }
-    ensures { λ r. ⌜ Put (now (buf .entry)) at (wordsOf number) r (now (buf .exit)) ⌝ }
+// The words of each group lie by themselves: a text lies on the stack where it is used.
+// A line of 72 bytes for each number of a group, in order: its words, their end, and dots.
+
+// The line of 1 to 16: the control block and the map reader.
+fn control(buf: &mut [u8], at: usize, n: usize) -> usize
+    requires { ⌜ (at + 72 ≤ length (now buf)) × (1 ≤ n) × (n ≤ 16) ⌝ }
+    ensures { λ r. ⌜ Put (now (buf .entry)) at (wordsOf n) r (now (buf .exit)) ⌝ }
     ensures { λ r. ⌜ r ≤ at + 72 ⌝ }
 {
-    let n = number as usize;
-    if PAST <= n {
-        return at;
-    }
-    // A line of 72 bytes for each number, from 0 on: its words, their end, and dots.
     let lines: &[u8] = b"\
-........................................................................\
 the control block has under 12 bytes\n...................................\
 the control block has over 4,096 bytes\n.................................\
 the control block does not start with a VideoControl header\n............\
@@ -95,9 +92,19 @@ a source names nothing\n.................................................\
 a source names an output terminal\n......................................\
 a chain of sources returns to its start\n................................\
 no camera terminal or processing unit has this ID\n......................\
-........................................................................\
-........................................................................\
-........................................................................\
+";
+    let from = 72 * (n - 1);
+    let to = from + width(n) as usize;
+    text::put(buf, at, &lines[from..to])
+}
+
+// The line of 20 to 40: the streaming block.
+fn streaming(buf: &mut [u8], at: usize, n: usize) -> usize
+    requires { ⌜ (at + 72 ≤ length (now buf)) × (20 ≤ n) × (n ≤ 40) ⌝ }
+    ensures { λ r. ⌜ Put (now (buf .entry)) at (wordsOf n) r (now (buf .exit)) ⌝ }
+    ensures { λ r. ⌜ r ≤ at + 72 ⌝ }
+{
+    let lines: &[u8] = b"\
 the entity table says more than 32\n.....................................\
 the streaming block has under 13 bytes\n.................................\
 the streaming block has over 16,384 bytes\n..............................\
@@ -119,6 +126,19 @@ a format's default frame is none of its frames\n.........................\
 the input header gives another number of formats\n.......................\
 a frame's width, height, bits or buffer size cannot be true\n............\
 a frame-based format's flag or its frame's bytes per line are wrong\n....\
+";
+    let from = 72 * (n - 20);
+    let to = from + width(n) as usize;
+    text::put(buf, at, &lines[from..to])
+}
+
+// The line of 41 to 46: the probe block.
+fn probe(buf: &mut [u8], at: usize, n: usize) -> usize
+    requires { ⌜ (at + 72 ≤ length (now buf)) × (41 ≤ n) × (n ≤ 46) ⌝ }
+    ensures { λ r. ⌜ Put (now (buf .entry)) at (wordsOf n) r (now (buf .exit)) ⌝ }
+    ensures { λ r. ⌜ r ≤ at + 72 ⌝ }
+{
+    let lines: &[u8] = b"\
 the probe block has not its revision's number of bytes\n.................\
 the probe block asks for a format that the camera has not\n..............\
 the probe block asks for a frame that its format has not\n...............\
@@ -126,7 +146,22 @@ the probe block asks for an interval that its frame does not offer\n.....\
 the frame size is 0 or over 16,777,216\n.................................\
 the payload size is under 2 or over 65,536\n.............................\
 ";
-    let from = 72 * n;
+    let from = 72 * (n - 41);
     let to = from + width(n) as usize;
     text::put(buf, at, &lines[from..to])
+}
+
+// Inner: a number's line of words, of at most 72 bytes; nothing of a number that has none.
+pub fn put(buf: &mut [u8], at: usize, number: u8) -> usize
+    requires { ⌜ at + 72 ≤ length (now buf) ⌝ }
+    ensures { λ r. ⌜ Put (now (buf .entry)) at (wordsOf number) r (now (buf .exit)) ⌝ }
+    ensures { λ r. ⌜ r ≤ at + 72 ⌝ }
+{
+    let n = number as usize;
+    match n {
+        1..=16 => control(buf, at, n),
+        20..=40 => streaming(buf, at, n),
+        41..=46 => probe(buf, at, n),
+        _ => at,
+    }
 }

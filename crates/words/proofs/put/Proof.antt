@@ -1,62 +1,58 @@
 use borrow.Author.Needs.{needs}
 use native.Mathlib.Omega.{arith}
-use Rattle.words.specs.Words.{wordsOf}
-use Rattle.words.proofs.Right.{line-right, none-past}
+use Rattle.words.proofs.Different.{none-other}
 use Rattle.words.proofs.put.Statement.{statement}
 use Rattle.words.proofs.put.Tie as tie
 
-returns : tie.Need-returns
-returns c = (none-past _ _ _ (omega arith) (omega arith), search needs)
+control-requires : tie.Need-control-requires
+control-requires c κs = search needs
 
-slice-aggregate-lines : tie.Need-slice-aggregate-lines
-slice-aggregate-lines c = search needs
+streaming-requires : tie.Need-streaming-requires
+streaming-requires c κs = search needs
 
-mul-from : tie.Need-mul-from
-mul-from c = search needs
-
-width-requires : tie.Need-width-requires
-width-requires c κs = search needs
-
-cast-to : tie.Need-cast-to
-cast-to c = search needs
-
-add-to : tie.Need-add-to
-add-to c = search needs
-
-sub-put : tie.Need-sub-put
-sub-put c = search needs
-
-part-put-start : tie.Need-part-put-start
-part-put-start c = search needs
-
-part-put-end : tie.Need-part-put-end
-part-put-end c = search needs
-
-put-requires : tie.Need-put-requires
-put-requires c κs = search needs
+probe-requires : tie.Need-probe-requires
+probe-requires c κs = search needs
 
 same-length : tie.Need-same-length
 same-length c = search needs
 
+returns : tie.Need-returns
+returns c = search needs
+
+same-length-2 : tie.Need-same-length-2
+same-length-2 c = search needs
+
 returns-2 : tie.Need-returns-2
-unfolding wordsOf
-returns-2 c =
-    let w = c .before .before .before .before .before .width in
-    (line-right _ _ (w .result) (omega arith) (w .ensures .0) (c .before .before .put .ensures) tt, omega (arith, w .ensures .1))
+returns-2 c = search needs
+
+same-length-3 : tie.Need-same-length-3
+same-length-3 c = search needs
+
+returns-3 : tie.Need-returns-3
+returns-3 c = search needs
+
+returns-4 : tie.Need-returns-4
+returns-4 c = (none-other _ _ _ (omega arith) (λ a b. omega arith) (λ a b. omega arith), omega arith)
+
+returns-5 : tie.Need-returns-5
+returns-5 c = (none-other _ _ _ (omega arith) (λ a b. omega arith) (λ a b. omega arith), omega arith)
+
+returns-6 : tie.Need-returns-6
+returns-6 c = (none-other _ _ _ (omega arith) (λ a b. omega arith) (λ a b. omega arith), omega arith)
 
 pub put-spec : {M : Type 1} → statement M
 put-spec =
     tie.close
     (tie.spec
-    returns
-    slice-aggregate-lines
-    mul-from
-    width-requires
-    cast-to
-    add-to
-    sub-put
-    part-put-start
-    part-put-end
-    put-requires
+    control-requires
+    streaming-requires
+    probe-requires
     same-length
-    returns-2)
+    returns
+    same-length-2
+    returns-2
+    same-length-3
+    returns-3
+    returns-4
+    returns-5
+    returns-6)
