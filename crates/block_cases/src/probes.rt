@@ -26,7 +26,10 @@ pub fn check() -> bool {
     if !third.fine {
         return false;
     }
-    lines::verdict(b"check ", probe::check(table, &streaming[..m], &probe[..k]));
+    lines::verdict(
+        b"check ",
+        probe_check::check(table, &streaming[..m], &probe[..k]),
+    );
     true
 }
 

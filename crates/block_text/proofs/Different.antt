@@ -20,8 +20,9 @@ use Rattle.text.specs.Text.{bytes, number, numbers, line, texts}
 use Rattle.text.proofs.Different.{Low, number-split, line-split, texts-different}
 use Rattle.words.specs.Words.{wordsOf}
 use Rattle.block_lines.specs.Lines.{entityLine, formatLine, frameLine, controlsLine, revisionLine, acceptedLine}
-use Rattle.block_lines.specs.Fields.{fieldsText}
-use Rattle.block_lines.proofs.Different.{entity-split, format-split, frame-split, fields-different}
+use Rattle.probe_lines.specs.Fields.{fieldsText}
+use Rattle.block_lines.proofs.Different.{entity-split, format-split, frame-split}
+use Rattle.probe_lines.proofs.Different.{fields-different}
 use Rattle.block_text.specs.Answers.{refusedText, toldBy, tableText, controlBy, mapBy, listedText, streamingBy, probeText}
 
 abbrev first : List ℕ → ℕ

@@ -13,7 +13,7 @@ use Rattle.streaming.specs.declared.Streaming.{Streaming}
 use Rattle.probe.specs.declared.Probe.{Probe}
 use Rattle.text.specs.Text.{bytes, line, texts}
 use Rattle.block_lines.specs.Lines.{entityLine, formatLine, frameLine, controlsLine, revisionLine, refusedLine, acceptedLine, lineMost}
-use Rattle.block_lines.specs.Fields.{fieldsText}
+use Rattle.probe_lines.specs.Fields.{fieldsText}
 use Rattle.words.specs.Words.{wordsOf}
 
 -- whether an answer is one, and no refusal: what the status tells

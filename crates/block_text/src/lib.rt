@@ -151,7 +151,7 @@ fn offered(buf: &mut [u8], p: Probe) -> usize
     ensures { λ r. ⌜ Put (now (buf .entry)) 0 (probeText Accepted p) r (now (buf .exit)) ⌝ }
 {
     let told = text::put(buf, 0, b"accepted\n");
-    block_lines::fields(buf, told, p)
+    probe_lines::fields(buf, told, p)
 }
 
 // A refusal's line, and its number in plain words.

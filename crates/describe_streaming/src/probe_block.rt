@@ -21,7 +21,7 @@ pub fn describe() {
         return;
     }
     let table = known.table;
-    let verdict = probe::check(table, &block[..n], &bytes[..m]);
+    let verdict = probe_check::check(table, &block[..n], &bytes[..m]);
     let revision = table.revision;
     let read = probe::read(&bytes[..m], revision);
     let p = read.probe;

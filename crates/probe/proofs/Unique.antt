@@ -3,10 +3,8 @@ use Prim.Native.Nat.{ℕ}
 use mathlib.Core.Path.{_≡_, sym, _∙_}
 use mathlib.Core.List.{List}
 use Rattle.rules.specs.declared.Verdict.{Verdict}
-use Rattle.entities.specs.declared.Table.{Table}
 use Rattle.entities.specs.declared.Revision.{Revision}
 use Rattle.probe.specs.Fields.{probeOf, roomVerdict, written, WritesBack, ReadsBack}
-use Rattle.probe.specs.Answer.{checkOf}
 use Rattle.probe.specs.declared.Probe.{Probe}
 use Rattle.probe.specs.declared.Fields.{Fields}
 
@@ -19,6 +17,3 @@ pub write-unique :
     ((w ≡ roomVerdict u room) × (m ≡ written u p room)) × ReadsBack u p m →
     (v ≡ w) × (l ≡ m)
 write-unique u p room v w l m a b = (a .0 .0 ∙ sym (b .0 .0), a .0 .1 ∙ sym (b .0 .1))
-
-pub check-unique : (t : Table) (s b : List ℕ) (x y : Verdict) → x ≡ checkOf t s b → y ≡ checkOf t s b → x ≡ y
-check-unique t s b x y p q = p ∙ sym q

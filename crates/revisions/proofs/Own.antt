@@ -37,8 +37,8 @@ use Rattle.control_map.specs.Answer.{MapIs, controlsAt}
 use Rattle.control_map.specs.declared.Map.{Map}
 use Rattle.control_map.proofs.Mapping.{entities-listed}
 use Rattle.control_map.proofs.ExactlyWhen.{bytes-given}
-use Rattle.probe.proofs.Checking.{check-41}
-use Rattle.probe.proofs.ExactlyWhen.{says-yes}
+use Rattle.probe_check.proofs.Checking.{check-41}
+use Rattle.probe_check.proofs.ExactlyWhen.{says-yes}
 use Rattle.revisions.specs.Own.{bcdOf, SizedBy, EntityBy, MapBy, MapBy.of-camera, MapBy.of-unit, Shows}
 
 -- ---- the revision

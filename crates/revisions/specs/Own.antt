@@ -16,7 +16,7 @@ use Rattle.control_rules.specs.Rules.{entityOf}
 use Rattle.control.specs.declared.Control.{Control}
 use Rattle.control_map.specs.Answer.{MapIs, controlsAt}
 use Rattle.control_map.specs.declared.Map.{Map}
-use Rattle.probe.specs.Answer.{checkOf}
+use Rattle.probe_check.specs.Answer.{checkOf}
 
 -- bcdUVC
 abbrev pub bcdOf : Revision → ℕ

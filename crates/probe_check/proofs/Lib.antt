@@ -1,0 +1,3 @@
+pub mod Checking
+pub mod ExactlyWhen
+pub mod Unique

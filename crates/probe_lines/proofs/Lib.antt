@@ -1,0 +1,3 @@
+-- Laws of a probe block's lines.
+pub mod Layouts
+pub mod Different
