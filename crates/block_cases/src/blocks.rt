@@ -7,8 +7,8 @@ use entities::Entity;
 use entities::Table;
 use rules::Verdict;
 use streaming::Streaming;
-use streaming_rules::Format;
-use streaming_rules::Frame;
+use streaming_descriptors::Format;
+use streaming_descriptors::Frame;
 
 pub fn control() -> bool {
     let mut block = [0u8; 4352];

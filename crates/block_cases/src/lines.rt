@@ -5,10 +5,10 @@ use control_map::CONTROLS_MOST;
 use entities::Revision;
 use entities::Table;
 use rules::Verdict;
+use streaming_descriptors::Format;
+use streaming_descriptors::Frame;
 use streaming_rules::FORMATS_MOST;
 use streaming_rules::FRAMES_MOST;
-use streaming_rules::Format;
-use streaming_rules::Frame;
 
 // A reader's verdict, after its name.
 pub fn verdict(name: &[u8], v: Verdict) {

@@ -5,8 +5,8 @@ use lib.ListN.{take}
 use Rattle.entities.specs.declared.Entity.{Entity}
 use Rattle.entities.specs.declared.Revision.{Revision}
 use Rattle.entities.specs.declared.Revision.the-variants.{R10, R11, R15}
-use Rattle.streaming_rules.specs.declared.Format.{Format}
-use Rattle.streaming_rules.specs.declared.Frame.{Frame}
+use Rattle.streaming_descriptors.specs.declared.Format.{Format}
+use Rattle.streaming_descriptors.specs.declared.Frame.{Frame}
 use Rattle.text.specs.Text.{bytes, number, line}
 
 -- ID, kind, terminal type, offset

@@ -1,9 +1,8 @@
 // The printed lines of what the readers answer: one of each entity, format and frame, of a unit's controls, of a revision and of a refusal.
 ghost use Prim.Native.Nat.{_+_, _*_, _≤_};
-ghost use mathlib.Core.List.{[], _∷_, _++_};
 ghost use lib.ListN.{length, take};
 ghost use Rattle.text.specs.Put.{Put};
-ghost use Rattle.text.specs.Text.{number, texts, line as Text·line};
+ghost use Rattle.text.specs.Text.{number, texts};
 ghost use Rattle.entities.specs.Table.{entitiesMost, used};
 ghost use Rattle.block_lines.specs.Lines.{lineMost, entityLine, formatLine, frameLine, controlsLine, revisionLine, refusedLine};
 use control_map::CONTROLS_MOST;
@@ -11,10 +10,10 @@ use entities::ENTITIES_MOST;
 use entities::Entity;
 use entities::Revision;
 use entities::Table;
+use streaming_descriptors::Format;
+use streaming_descriptors::Frame;
 use streaming_rules::FORMATS_MOST;
 use streaming_rules::FRAMES_MOST;
-use streaming_rules::Format;
-use streaming_rules::Frame;
 
 // A line has at most so many bytes.
 pub const LINE_MOST: usize = 192;

@@ -12,8 +12,8 @@ use Rattle.entities.specs.Table.{used}
 use Rattle.entities.specs.declared.Revision.{Revision}
 use Rattle.entities.specs.declared.Revision.the-variants.{R10, R11, R15}
 use Rattle.control_map.specs.declared.Map.{Map}
-use Rattle.streaming_rules.specs.declared.Format.{Format}
-use Rattle.streaming_rules.specs.declared.Frame.{Frame}
+use Rattle.streaming_descriptors.specs.declared.Format.{Format}
+use Rattle.streaming_descriptors.specs.declared.Frame.{Frame}
 use Rattle.streaming.specs.declared.Streaming.{Streaming}
 use Rattle.probe.specs.declared.Probe.{Probe}
 use Rattle.text.specs.Text.{bytes, number, numbers, line, texts}

@@ -1,10 +1,10 @@
 -- One answer of each public function, and one content of the room: any two that its promise allows are equal.
-use Prim.Native.Nat.{ℕ}
+use Prim.Native.Nat.{ℕ, _≤_}
 use mathlib.Core.Path.{_≡_, sym, _∙_}
 use mathlib.Core.List.{List}
 use Rattle.rules.specs.declared.Verdict.{Verdict}
 use Rattle.entities.specs.declared.Revision.{Revision}
-use Rattle.probe.specs.Fields.{probeOf, roomVerdict, written, WritesBack, ReadsBack}
+use Rattle.probe.specs.Fields.{probeSize, probeOf, roomVerdict, written, WritesBack, ReadsBack}
 use Rattle.probe.specs.declared.Probe.{Probe}
 use Rattle.probe.specs.declared.Fields.{Fields}
 
@@ -17,3 +17,6 @@ pub write-unique :
     ((w ≡ roomVerdict u room) × (m ≡ written u p room)) × ReadsBack u p m →
     (v ≡ w) × (l ≡ m)
 write-unique u p room v w l m a b = (a .0 .0 ∙ sym (b .0 .0), a .0 .1 ∙ sym (b .0 .1))
+
+pub size-of-unique : (u : Revision) (x y : ℕ) → (x ≡ probeSize u) × (26 ≤ x) × (x ≤ 48) → (y ≡ probeSize u) × (26 ≤ y) × (y ≤ 48) → x ≡ y
+size-of-unique u x y p q = p .0 ∙ sym (q .0)

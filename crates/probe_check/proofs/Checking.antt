@@ -14,10 +14,10 @@ use Rattle.rules.specs.declared.Verdict.{Verdict}
 use Rattle.rules.specs.declared.Verdict.the-variants.{Accepted, Refused}
 use Rattle.entities.specs.declared.Table.{Table}
 use Rattle.sizes.specs.Sizes.{frameSizeBroken, payloadSizeBroken}
-use Rattle.streaming_rules.specs.Descriptors.{kindAt, formatOf, frameLengthAt}
+use Rattle.streaming_descriptors.specs.Descriptors.{kindAt, formatOf, frameLengthAt}
 use Rattle.streaming_rules.specs.Rules.{offersAt}
-use Rattle.streaming_rules.specs.declared.Frame.{Frame}
-use Rattle.streaming_rules.proofs.Subtypes.{frame-long}
+use Rattle.streaming_descriptors.specs.declared.Frame.{Frame}
+use Rattle.streaming_descriptors.proofs.Subtypes.{frame-long}
 use Rattle.streaming.specs.Answer.{streamingOf}
 use Rattle.streaming.specs.declared.Streaming.{Streaming}
 use Rattle.probe.specs.Fields.{probeSize, fieldsOf}

@@ -25,9 +25,9 @@ use Rattle.intervals.specs.Intervals.{Offered, offered}
 use Rattle.intervals.proofs.Deciding.{offered-decides}
 use Rattle.sizes.specs.Sizes.{frameMost, payloadLeast, payloadMost, frameSizeBroken, payloadSizeBroken}
 use Rattle.sizes.proofs.Limits.{frame-sound, payload-sound}
-use Rattle.streaming_rules.specs.Descriptors.{noFrame, kindAt, formatOf, kAt, intervalsAt}
+use Rattle.streaming_descriptors.specs.Descriptors.{noFrame, kindAt, formatOf, kAt, intervalsAt}
 use Rattle.streaming_rules.specs.Rules.{offersUnder, offersAt}
-use Rattle.streaming_rules.specs.declared.Frame.{Frame}
+use Rattle.streaming_descriptors.specs.declared.Frame.{Frame}
 use Rattle.streaming.specs.Answer.{Seen, acceptedWith, refusedBy, streamingOf}
 use Rattle.streaming.specs.declared.Streaming.{Streaming}
 use Rattle.rules.proofs.Places.{Says, first-place}

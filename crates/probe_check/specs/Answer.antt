@@ -13,9 +13,9 @@ use Rattle.rules.specs.declared.Verdict.the-variants.{Accepted, Refused}
 use Rattle.entities.specs.declared.Table.{Table}
 use Rattle.entities.specs.declared.Revision.{Revision}
 use Rattle.sizes.specs.Sizes.{frameSizeBroken, payloadSizeBroken}
-use Rattle.streaming_rules.specs.Descriptors.{noFrame}
+use Rattle.streaming_descriptors.specs.Descriptors.{noFrame}
 use Rattle.streaming_rules.specs.Rules.{offersAt}
-use Rattle.streaming_rules.specs.declared.Frame.{Frame}
+use Rattle.streaming_descriptors.specs.declared.Frame.{Frame}
 use Rattle.rules.specs.Place.{firstPlace}
 use Rattle.streaming.specs.Answer.{streamingOf}
 use Rattle.streaming.specs.declared.Streaming.{Streaming}

@@ -9,7 +9,7 @@ use Rattle.rules.specs.Asked.{Rule, rule, AllKept, FirstFails}
 use Rattle.entities.specs.declared.Table.{Table}
 use Rattle.intervals.specs.Intervals.{Offered}
 use Rattle.sizes.specs.Sizes.{frameMost, payloadLeast, payloadMost}
-use Rattle.streaming_rules.specs.Descriptors.{noFrame, kindAt, formatOf, kAt, intervalsAt}
+use Rattle.streaming_descriptors.specs.Descriptors.{noFrame, kindAt, formatOf, kAt, intervalsAt}
 use Rattle.streaming.specs.Answer.{Seen}
 use Rattle.streaming.specs.Broken.{Sound, FirstBroken}
 use Rattle.probe.specs.Fields.{probeSize, fieldsOf}

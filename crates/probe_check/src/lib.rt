@@ -3,12 +3,12 @@ ghost use mathlib.Core.Path.{_≡_};
 ghost use Prim.Native.Nat.{_+_, _≤_, _<_};
 ghost use lib.ListN.{length};
 ghost use Rattle.rules.specs.Numbered.{firstRow};
-ghost use Rattle.streaming_rules.specs.Descriptors.{kindAt, formatOf, frameLengthAt};
+ghost use Rattle.streaming_descriptors.specs.Descriptors.{kindAt, formatOf, frameLengthAt};
 ghost use Rattle.probe.specs.Fields.{fieldsOf};
 ghost use Rattle.probe_check.specs.Answer.{formatMissing, hasNumber, frameRows, given, checkOf};
 use entities::Table;
 use rules::Verdict;
-use streaming_rules::Frame;
+use streaming_descriptors::Frame;
 
 // 42: the format number is not 1 to the number of formats.
 fn format_missing(number: u8, count: usize) -> bool

@@ -19,7 +19,7 @@ use Rattle.rules.proofs.Firsts.{first-map, first-unique}
 use Rattle.rules.proofs.Walks.{walk-done, walk-stop}
 use Rattle.entities.specs.declared.Table.{Table}
 use Rattle.streaming_rules.specs.Rules.{headRows}
-use Rattle.streaming_rules.specs.declared.Format.{Format}
+use Rattle.streaming_descriptors.specs.declared.Format.{Format}
 use Rattle.streaming_rules.proofs.Fine.{head-numbered}
 use Rattle.rules.specs.Place.{firstPlace}
 use Rattle.streaming.specs.Answer.{Seen, formatCount, countUnder, countBroken, defaultBroken, lateBy, late, refusedBy, acceptedWith, answer, afterWalk, walked, afterHead, streamingOf}

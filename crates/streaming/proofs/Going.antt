@@ -18,14 +18,14 @@ use Rattle.rules.specs.declared.Verdict.the-variants.{Accepted, Refused}
 use Rattle.rules.proofs.Padded.{pad-set, pad-at}
 use Rattle.rules.proofs.Rows.{row-none}
 use Rattle.rules.proofs.Walks.{Walking, Steady, starts, stops, ends, goes}
-use Rattle.streaming_rules.specs.Descriptors.{lenAt, kindAt, isFormat, isFrame, formatOf, layoutOf, noFormat, noFrame, formatAt, frameAt}
+use Rattle.streaming_descriptors.specs.Descriptors.{lenAt, kindAt, isFormat, isFrame, formatOf, layoutOf, noFormat, noFrame, formatAt, frameAt}
 use Rattle.streaming_rules.specs.Rules.{formatsMost, framesMost, rows}
-use Rattle.streaming_rules.specs.declared.Kind.{Kind}
+use Rattle.streaming_descriptors.specs.declared.Kind.{Kind}
 use Rattle.streaming_rules.specs.declared.Sofar.{Sofar}
-use Rattle.streaming_rules.specs.declared.Format.{Format}
-use Rattle.streaming_rules.specs.declared.Frame.{Frame}
+use Rattle.streaming_descriptors.specs.declared.Format.{Format}
+use Rattle.streaming_descriptors.specs.declared.Frame.{Frame}
 use Rattle.streaming_rules.proofs.Fine.{Fine, fine, numbered, no-frame-format, format-inside, frame-inside}
-use Rattle.streaming_rules.proofs.Subtypes.{frame-long}
+use Rattle.streaming_descriptors.proofs.Subtypes.{frame-long}
 use Rattle.streaming.specs.Answer.{Seen, countUnder, lastOf, noCounts, sofar, after, course, lateBy, late, acceptedWith, refusedBy, answer, afterWalk, walked}
 use Rattle.streaming.specs.declared.Streaming.{Streaming}
 use Rattle.streaming.proofs.Late.{late-same}

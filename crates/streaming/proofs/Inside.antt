@@ -11,9 +11,9 @@ use Rattle.rules.specs.declared.Verdict.the-variants.{Accepted}
 use Rattle.rules.proofs.Padded.{pad-at}
 use Rattle.rules.proofs.Growing.{each-more}
 use Rattle.entities.specs.declared.Table.{Table}
-use Rattle.streaming_rules.specs.Descriptors.{kindAt, isFrame, formatOf, noFrame, frameAt, frameLengthAt}
+use Rattle.streaming_descriptors.specs.Descriptors.{kindAt, isFrame, formatOf, noFrame, frameAt, frameLengthAt}
 use Rattle.streaming_rules.specs.Rules.{framesMost}
-use Rattle.streaming_rules.specs.declared.Frame.{Frame}
+use Rattle.streaming_descriptors.specs.declared.Frame.{Frame}
 use Rattle.streaming_rules.proofs.Fine.{Fine, fine, frame-inside}
 use Rattle.streaming.specs.Answer.{Seen, sofar, after, course, acceptedWith, streamingOf}
 use Rattle.streaming.specs.declared.Streaming.{Streaming}

@@ -6,7 +6,7 @@ use lib.Dec.{eqb, ltb}
 use borrow.Author.Tests.{lt-ltb, le-ltb, eq-eqb, ne-eqb}
 use Rattle.rules.specs.Pick.{pick}
 use Rattle.rules.specs.declared.Verdict.the-variants.{Accepted, Refused}
-use Rattle.streaming_rules.specs.declared.Format.{Format}
+use Rattle.streaming_descriptors.specs.declared.Format.{Format}
 use Rattle.rules.specs.Place.{firstPlace}
 use Rattle.streaming.specs.Answer.{countBroken, defaultBroken, lateBy}
 use Rattle.rules.proofs.Places.{same-place}

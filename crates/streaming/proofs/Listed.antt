@@ -18,13 +18,13 @@ use Rattle.rules.proofs.Growing.{at-old, at-new, each-more}
 use Rattle.rules.proofs.Passing.{passes}
 use Rattle.entities.specs.declared.Table.{Table}
 use Rattle.intervals.proofs.Deciding.{offered-decides}
-use Rattle.streaming_rules.specs.Descriptors.{kindAt, lenAt, isFormat, isFrame, formatOf, kAt, intervalsAt, noFormat, noFrame, formatAt, frameAt}
+use Rattle.streaming_descriptors.specs.Descriptors.{kindAt, lenAt, isFormat, isFrame, formatOf, kAt, intervalsAt, noFormat, noFrame, formatAt, frameAt}
 use Rattle.streaming_rules.specs.Rules.{misplaced, offersUnder}
-use Rattle.streaming_rules.specs.declared.Kind.{Kind}
-use Rattle.streaming_rules.specs.declared.Kind.the-variants.{Header, Formats, Frames, Unread, Other}
+use Rattle.streaming_descriptors.specs.declared.Kind.{Kind}
+use Rattle.streaming_descriptors.specs.declared.Kind.the-variants.{Header, Formats, Frames, Unread, Other}
 use Rattle.streaming_rules.specs.declared.Sofar.{Sofar}
-use Rattle.streaming_rules.specs.declared.Format.{Format}
-use Rattle.streaming_rules.specs.declared.Frame.{Frame}
+use Rattle.streaming_descriptors.specs.declared.Format.{Format}
+use Rattle.streaming_descriptors.specs.declared.Frame.{Frame}
 use Rattle.streaming_rules.proofs.Fine.{Fine, fine, format-of, frame-of}
 use Rattle.streaming_rules.proofs.Sizes.{sizes-true}
 use Rattle.streaming_rules.proofs.Flags.{flag-right, line-right}

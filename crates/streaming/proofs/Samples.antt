@@ -11,7 +11,7 @@ use Rattle.entities.specs.declared.Table.{Table}
 use Rattle.entities.specs.declared.Revision.the-variants.{R15}
 use Rattle.intervals.specs.Intervals.{listAt, rises, among, offered}
 use Rattle.pictures.specs.Pictures.{bitsOf, untrue}
-use Rattle.streaming_rules.specs.Descriptors.{kindOf, layoutOf, shape, guidEnd, sameBytes, sortOf, formatAt, frameAt}
+use Rattle.streaming_descriptors.specs.Descriptors.{kindOf, layoutOf, shape, guidEnd, sameBytes, sortOf, formatAt, frameAt}
 use Rattle.blocks.specs.Blocks.{wholeRows, lengthBroken, typeBroken}
 use Rattle.streaming_rules.specs.Rules.{headRows, misplaced, offersUnder, untrueAt, flagWrong, lineWrong, kindRows, rows}
 use Rattle.rules.specs.Place.{placeFrom}

@@ -16,11 +16,11 @@ use Rattle.entities.specs.declared.Entity.{Entity}
 use Rattle.entities.specs.declared.Table.{Table}
 use Rattle.entities.specs.declared.Found.{Found}
 use Rattle.entities.specs.declared.Found.the-variants.{At, Nothing}
-use Rattle.streaming_rules.specs.Descriptors.{lenAt, kindAt, isFormat, isFrame, formatOf, noFormat, noFrame, formatAt, frameAt}
+use Rattle.streaming_descriptors.specs.Descriptors.{lenAt, kindAt, isFormat, isFrame, formatOf, noFormat, noFrame, formatAt, frameAt}
 use Rattle.streaming_rules.specs.Rules.{formatsMost, framesMost, headRows, rows}
 use Rattle.streaming_rules.specs.declared.Sofar.{Sofar}
-use Rattle.streaming_rules.specs.declared.Format.{Format}
-use Rattle.streaming_rules.specs.declared.Frame.{Frame}
+use Rattle.streaming_descriptors.specs.declared.Format.{Format}
+use Rattle.streaming_descriptors.specs.declared.Frame.{Frame}
 use Rattle.rules.specs.Place.{firstPlace}
 use Rattle.streaming.specs.declared.Streaming.{Streaming}
 

@@ -7,9 +7,9 @@ use Rattle.rules.specs.Numbered.{Given, NoneOf, rowsBefore}
 use Rattle.rules.specs.First.{First}
 use Rattle.rules.specs.Walk.{Course, Reached, Clean, FirstBreak}
 use Rattle.entities.specs.declared.Table.{Table}
-use Rattle.streaming_rules.specs.Descriptors.{noFormat}
+use Rattle.streaming_descriptors.specs.Descriptors.{noFormat}
 use Rattle.streaming_rules.specs.Rules.{headRows}
-use Rattle.streaming_rules.specs.declared.Format.{Format}
+use Rattle.streaming_descriptors.specs.declared.Format.{Format}
 use Rattle.streaming.specs.Answer.{Seen, linkedTo, linkOf, formatCount, countUnder, course}
 
 -- the block breaks none of 20 to 24

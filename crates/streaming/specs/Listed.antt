@@ -10,11 +10,11 @@ use Rattle.rules.specs.Walk.{Reached}
 use Rattle.entities.specs.declared.Table.{Table}
 use Rattle.intervals.specs.Intervals.{Offered}
 use Rattle.pictures.specs.Pictures.{Asked}
-use Rattle.streaming_rules.specs.Descriptors.{kindAt, isFormat, isFrame, noFormat, noFrame, formatAt, frameAt, flagAt, lineAt, intervalsAt}
+use Rattle.streaming_descriptors.specs.Descriptors.{kindAt, isFormat, isFrame, noFormat, noFrame, formatAt, frameAt, flagAt, lineAt, intervalsAt}
 use Rattle.streaming_rules.specs.Rules.{SizesTrue, FlagOrLine}
-use Rattle.streaming_rules.specs.declared.Kind.the-variants.{Formats, Frames}
-use Rattle.streaming_rules.specs.declared.Format.{Format}
-use Rattle.streaming_rules.specs.declared.Frame.{Frame}
+use Rattle.streaming_descriptors.specs.declared.Kind.the-variants.{Formats, Frames}
+use Rattle.streaming_descriptors.specs.declared.Format.{Format}
+use Rattle.streaming_descriptors.specs.declared.Frame.{Frame}
 use Rattle.streaming.specs.Answer.{Seen, countUnder, formatCount, lastOf}
 use Rattle.streaming.specs.Broken.{blockCourse, formatIn, Comes}
 

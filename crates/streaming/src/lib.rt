@@ -2,7 +2,7 @@
 ghost use mathlib.Core.Path.{_≡_};
 ghost use Prim.Native.Nat.{_+_, _≤_, _<_};
 ghost use lib.ListN.{getD};
-ghost use Rattle.streaming_rules.specs.Descriptors.{noFormat};
+ghost use Rattle.streaming_descriptors.specs.Descriptors.{noFormat};
 ghost use Rattle.streaming_rules.specs.Rules.{formatsMost};
 ghost use Rattle.rules.specs.Place.{firstPlace};
 ghost use Rattle.streaming.specs.Answer.{isOutput, linkedTo, countBroken, defaultBroken, lateBy, refusedBy, noCounts, streamingOf};
@@ -10,10 +10,10 @@ use entities::Entity;
 use entities::Found;
 use entities::Table;
 use rules::Verdict;
+use streaming_descriptors::Format;
+use streaming_descriptors::Frame;
 use streaming_rules::FORMATS_MOST;
 use streaming_rules::FRAMES_MOST;
-use streaming_rules::Format;
-use streaming_rules::Frame;
 use streaming_rules::Sofar;
 
 // The verdict, the header's endpoint and terminal link, and the formats and frames in block order, unused places zero. A refused block gives all zero.
@@ -124,8 +124,8 @@ fn late_verdict(formats: [Format; FORMATS_MOST], n: usize, counts: &Counts, p: u
 fn refused(number: u8, offset: usize) -> Streaming
     ensures { λ r. ⌜ r ≡ refusedBy number offset ⌝ }
 {
-    let no_format = streaming_rules::no_format();
-    let no_frame = streaming_rules::no_frame();
+    let no_format = streaming_descriptors::no_format();
+    let no_frame = streaming_descriptors::no_frame();
     let formats = [no_format; FORMATS_MOST];
     let frames = [no_frame; FRAMES_MOST];
     Streaming {
@@ -155,8 +155,8 @@ pub fn read(table: Table, block: &[u8]) -> Streaming
         return refused(whole, 0);
     }
     let linked = is_linked(table, block[8]);
-    let no_format = streaming_rules::no_format();
-    let no_frame = streaming_rules::no_frame();
+    let no_format = streaming_descriptors::no_format();
+    let no_frame = streaming_descriptors::no_frame();
     let mut formats = [no_format; FORMATS_MOST];
     let mut frames = [no_frame; FRAMES_MOST];
     let mut counts = no_counts();
@@ -178,15 +178,15 @@ pub fn read(table: Table, block: &[u8]) -> Streaming
             return refused(broken, at);
         }
         let next = at + le::wide(block[at]);
-        let kind = streaming_rules::kind_of(block[at + 2]);
-        if streaming_rules::is_format(kind) {
-            let e = streaming_rules::format_at(block, at, kind);
+        let kind = streaming_descriptors::kind_of(block[at + 2]);
+        if streaming_descriptors::is_format(kind) {
+            let e = streaming_descriptors::format_at(block, at, kind);
             last = e;
             formats[f] = e;
             f = f + 1;
             at = next;
-        } else if streaming_rules::is_frame(kind) {
-            let e = streaming_rules::frame_at(block, at, kind, f);
+        } else if streaming_descriptors::is_frame(kind) {
+            let e = streaming_descriptors::frame_at(block, at, kind, f);
             frames[n] = e;
             // a frame's number is the number of its format's frames so far
             counts[f] = block[at + 3];

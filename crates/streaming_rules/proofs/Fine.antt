@@ -12,12 +12,12 @@ use Rattle.rules.specs.Numbered.{NoneOf}
 use Rattle.rules.proofs.Rows.{Numbered, or-first, or-second, and-not}
 use Rattle.blocks.specs.Blocks.{wholeRows}
 use Rattle.blocks.proofs.Right.{placed, sizes}
-use Rattle.streaming_rules.specs.Descriptors.{lenAt, kindAt, shape, isFormat, isFrame, formatOf, layoutOf, frameLengthAt}
+use Rattle.streaming_descriptors.specs.Descriptors.{lenAt, kindAt, shape, isFormat, isFrame, formatOf, layoutOf, frameLengthAt}
 use Rattle.streaming_rules.specs.Rules.{misplaced, defaultOffered, untrueAt, flagWrong, lineWrong, limits, headRows, kindRows, rows, formatsMost, framesMost}
-use Rattle.streaming_rules.specs.declared.Kind.{Kind}
-use Rattle.streaming_rules.specs.declared.Kind.the-variants.{Header, Formats, Frames, Unread, Other}
+use Rattle.streaming_descriptors.specs.declared.Kind.{Kind}
+use Rattle.streaming_descriptors.specs.declared.Kind.the-variants.{Header, Formats, Frames, Unread, Other}
 use Rattle.streaming_rules.specs.declared.Sofar.{Sofar}
-use Rattle.streaming_rules.proofs.Subtypes.{format-room, frame-room}
+use Rattle.streaming_descriptors.proofs.Subtypes.{format-room, frame-room}
 
 pub record Fine (s : List ℕ) (o : ℕ) (a : Sofar) : Type 0 where
   pub long : 3 ≤ lenAt s o

@@ -10,10 +10,10 @@ use native.Mathlib.Omega.{arith}
 use Rattle.rules.specs.Pick.{pick}
 use Rattle.rules.specs.Numbered.{rowsAfter, isBroken}
 use Rattle.rules.proofs.Rows.{Elsewhere, and-first, and-second, or-either}
-use Rattle.streaming_rules.specs.Descriptors.{kindAt, isFormat, isFrame, formatOf, flagAt, lineAt}
+use Rattle.streaming_descriptors.specs.Descriptors.{kindAt, isFormat, isFrame, formatOf, flagAt, lineAt}
 use Rattle.streaming_rules.specs.Rules.{flagWrong, lineWrong, FlagOrLine, kindRows, rows}
-use Rattle.streaming_rules.specs.declared.Kind.the-variants.{Formats, Frames}
-use Rattle.streaming_rules.specs.declared.Format.{Format}
+use Rattle.streaming_descriptors.specs.declared.Kind.the-variants.{Formats, Frames}
+use Rattle.streaming_descriptors.specs.declared.Format.{Format}
 use Rattle.streaming_rules.specs.declared.Sofar.{Sofar}
 use Rattle.streaming_rules.proofs.Fine.{format-of, frame-of}
 

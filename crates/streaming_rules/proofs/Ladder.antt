@@ -13,11 +13,11 @@ use Rattle.blocks.specs.Blocks.{lengthBroken, typeBroken}
 use Rattle.blocks.proofs.Right.{said-placed}
 use Rattle.intervals.specs.Intervals.{offered}
 use Rattle.pictures.specs.Pictures.{untrue}
-use Rattle.streaming_rules.specs.Descriptors.{lenAt, kindAt, shape, layoutOf, kAt, intervalsAt, isHeader, isFormat, isFrame, formatOf}
+use Rattle.streaming_descriptors.specs.Descriptors.{lenAt, kindAt, shape, layoutOf, kAt, intervalsAt, isHeader, isFormat, isFrame, formatOf}
 use Rattle.streaming_rules.specs.Rules.{isUnread, misplaced, offersUnder, offersAt, defaultOffered, untrueAt, flagWrong, lineWrong, kindRows, rows}
-use Rattle.streaming_rules.specs.declared.Kind.{Kind}
-use Rattle.streaming_rules.specs.declared.Layout.{Layout}
-use Rattle.streaming_rules.specs.declared.Format.{Format}
+use Rattle.streaming_descriptors.specs.declared.Kind.{Kind}
+use Rattle.streaming_descriptors.specs.declared.Layout.{Layout}
+use Rattle.streaming_descriptors.specs.declared.Format.{Format}
 use Rattle.streaming_rules.specs.declared.Sofar.{Sofar}
 
 -- ---- no header, format or frame breaks none of 29 to 35, 39 and 40

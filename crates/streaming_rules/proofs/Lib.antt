@@ -1,5 +1,3 @@
-pub mod Subtypes
-pub mod Guids
 pub mod Ladder
 pub mod Fine
 pub mod Sizes

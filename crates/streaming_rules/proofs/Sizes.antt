@@ -11,10 +11,10 @@ use Rattle.rules.specs.Numbered.{rowsAfter, isBroken}
 use Rattle.rules.proofs.Rows.{Elsewhere, and-first, and-second}
 use Rattle.pictures.specs.Pictures.{Asked, untrue}
 use Rattle.pictures.proofs.Deciding.{untrue-decides, can-be-true}
-use Rattle.streaming_rules.specs.Descriptors.{kindAt, isFrame, formatOf, layoutOf, frameAt}
+use Rattle.streaming_descriptors.specs.Descriptors.{kindAt, isFrame, formatOf, layoutOf, frameAt}
 use Rattle.streaming_rules.specs.Rules.{untrueAt, SizesTrue, kindRows, rows}
-use Rattle.streaming_rules.specs.declared.Kind.the-variants.{Frames}
-use Rattle.streaming_rules.specs.declared.Format.{Format}
+use Rattle.streaming_descriptors.specs.declared.Kind.the-variants.{Frames}
+use Rattle.streaming_descriptors.specs.declared.Format.{Format}
 use Rattle.streaming_rules.specs.declared.Sofar.{Sofar}
 use Rattle.streaming_rules.proofs.Fine.{frame-of}
 

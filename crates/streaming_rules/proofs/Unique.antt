@@ -4,24 +4,8 @@ use mathlib.Core.Path.{_≡_, sym, _∙_}
 use mathlib.Core.List.{List}
 use mathlib.Core.Bool.{Bool}
 use Rattle.rules.specs.Numbered.{firstRow}
-use Rattle.streaming_rules.specs.Descriptors.{kindOf, isFormat, isFrame, formatOf, noFormat, noFrame, formatAt, frameAt}
 use Rattle.streaming_rules.specs.Rules.{headRows, rows, offersAt}
-use Rattle.streaming_rules.specs.declared.Kind.{Kind}
 use Rattle.streaming_rules.specs.declared.Sofar.{Sofar}
-use Rattle.streaming_rules.specs.declared.Format.{Format}
-use Rattle.streaming_rules.specs.declared.Frame.{Frame}
-
-pub kind-of-unique : (n : ℕ) (x y : Kind) → x ≡ kindOf n → y ≡ kindOf n → x ≡ y
-kind-of-unique n x y p q = p ∙ sym q
-
-pub is-format-unique : (k : Kind) (x y : Bool) → x ≡ isFormat k → y ≡ isFormat k → x ≡ y
-is-format-unique k x y p q = p ∙ sym q
-
-pub is-frame-unique : (k : Kind) (x y : Bool) → x ≡ isFrame k → y ≡ isFrame k → x ≡ y
-is-frame-unique k x y p q = p ∙ sym q
-
-pub format-of-unique : (k : Kind) (x y : ℕ) → x ≡ formatOf k → y ≡ formatOf k → x ≡ y
-format-of-unique k x y p q = p ∙ sym q
 
 pub rule-at-unique : (s : List ℕ) (o : ℕ) (a : Sofar) (x y : ℕ) → x ≡ firstRow (rows s o a) → y ≡ firstRow (rows s o a) → x ≡ y
 rule-at-unique s o a x y p q = p ∙ sym q
@@ -31,15 +15,3 @@ head-rule-unique t s x y p q = p ∙ sym q
 
 pub offers-at-unique : (s : List ℕ) (o n : ℕ) (x y : Bool) → x ≡ offersAt s o n → y ≡ offersAt s o n → x ≡ y
 offers-at-unique s o n x y p q = p ∙ sym q
-
-pub no-format-unique : (x y : Format) → x ≡ noFormat → y ≡ noFormat → x ≡ y
-no-format-unique x y p q = p ∙ sym q
-
-pub no-frame-unique : (x y : Frame) → x ≡ noFrame → y ≡ noFrame → x ≡ y
-no-frame-unique x y p q = p ∙ sym q
-
-pub format-at-unique : (f : ℕ) (s : List ℕ) (o : ℕ) (x y : Format) → x ≡ formatAt f s o → y ≡ formatAt f s o → x ≡ y
-format-at-unique f s o x y p q = p ∙ sym q
-
-pub frame-at-unique : (f n : ℕ) (s : List ℕ) (o : ℕ) (x y : Frame) → x ≡ frameAt f n s o → y ≡ frameAt f n s o → x ≡ y
-frame-at-unique f n s o x y p q = p ∙ sym q

@@ -12,12 +12,12 @@ use Rattle.blocks.specs.declared.Limits.{Limits}
 use Rattle.entities.specs.Table.{entitiesMost}
 use Rattle.intervals.specs.Intervals.{offered}
 use Rattle.pictures.specs.Pictures.{CanBeTrue, untrue}
-use Rattle.streaming_rules.specs.Descriptors.{kindAt, isHeader, isFormat, isFrame, formatOf, shape, layoutOf, flagAt, lineAt, kAt, intervalsAt}
+use Rattle.streaming_descriptors.specs.Descriptors.{kindAt, isHeader, isFormat, isFrame, formatOf, shape, layoutOf, flagAt, lineAt, kAt, intervalsAt}
 use Rattle.streaming_rules.specs.declared.Sofar.{Sofar}
-use Rattle.streaming_rules.specs.declared.Format.{Format}
-use Rattle.streaming_rules.specs.declared.Frame.{Frame}
-use Rattle.streaming_rules.specs.declared.Kind.{Kind}
-use Rattle.streaming_rules.specs.declared.Kind.the-variants.{Header, Formats, Frames, Unread, Other}
+use Rattle.streaming_descriptors.specs.declared.Format.{Format}
+use Rattle.streaming_descriptors.specs.declared.Frame.{Frame}
+use Rattle.streaming_descriptors.specs.declared.Kind.{Kind}
+use Rattle.streaming_descriptors.specs.declared.Kind.the-variants.{Header, Formats, Frames, Unread, Other}
 
 -- ours
 abbrev pub formatsMost : ℕ

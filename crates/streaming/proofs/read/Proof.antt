@@ -3,7 +3,7 @@ use Rattle.streaming.proofs.Heads.{head-bad, head-good, block-sizes}
 use Rattle.streaming_rules.proofs.Fine.{Fine}
 use Rattle.rules.specs.Numbered.{firstRow}
 use Rattle.streaming_rules.specs.Rules.{rows}
-use Rattle.streaming_rules.specs.Descriptors.{isFormat, isFrame, kindAt}
+use Rattle.streaming_descriptors.specs.Descriptors.{isFormat, isFrame, kindAt}
 use Prim.Native.Nat.{_-_, _≤_}
 use lib.ListN.{length}
 use native.Mathlib.Omega.{arith}
@@ -106,7 +106,7 @@ is-format-requires : tie.Need-is-format-requires Inv-loop μ-loop
 is-format-requires c κs = search needs
 
 format-at-requires : tie.Need-format-at-requires Inv-loop μ-loop
-format-at-requires c κs = (rw (c .before .before .kind-of .ensures) (format-room _ _ _ (fit (c .before .before .before .before .before .before)) (a-format c)), short (c .before .before .before .before .before .before))
+format-at-requires c κs = (rw (c .before .before .kind-of .ensures) (format-room _ _ _ (fit (c .before .before .before .before .before .before)) (a-format c)), omega (arith, short (c .before .before .before .before .before .before)))
 
 mul-formats : tie.Need-mul-formats Inv-loop μ-loop
 mul-formats c = let w = fit (c .before .before .before .before .before .before .before) .fewer (a-format (c .before)) in omega arith
@@ -127,7 +127,7 @@ is-frame-requires : tie.Need-is-frame-requires Inv-loop μ-loop
 is-frame-requires c κs = search needs
 
 frame-at-requires : tie.Need-frame-at-requires Inv-loop μ-loop
-frame-at-requires c κs = let w = fit (c .before .before .before .before .before .before .before .before) in ((frame-room _ _ _ w (a-frame c), short (c .before .before .before .before .before .before .before .before)), c .before .before .before .before .before .before .before .before .before .before .before .loop .inv .formats-few)
+frame-at-requires c κs = let w = fit (c .before .before .before .before .before .before .before .before) in ((frame-room _ _ _ w (a-frame c), omega (arith, short (c .before .before .before .before .before .before .before .before))), omega (arith, c .before .before .before .before .before .before .before .before .before .before .before .loop .inv .formats-few))
 
 mul-frames : tie.Need-mul-frames Inv-loop μ-loop
 mul-frames c = let w = fit (c .before .before .before .before .before .before .before .before .before) .few (a-frame (c .before)) in omega arith

@@ -1,7 +1,7 @@
 use denote.Ref.{now}
 use native.Mathlib.Omega.{arith}
 use Rattle.streaming_rules.proofs.Ladder.{default-is}
-use Rattle.streaming_rules.proofs.Subtypes.{frame-long, interval-in}
+use Rattle.streaming_descriptors.proofs.Subtypes.{frame-long, interval-in}
 use borrow.Author.Needs.{needs}
 use Rattle.streaming_rules.proofs.default_offered.Statement.{statement}
 use Rattle.streaming_rules.proofs.default_offered.Tie as tie

@@ -2,7 +2,7 @@ use Rattle.rules.proofs.Ladder.{rungs}
 use Rattle.streaming_rules.specs.Rules.{kindRows}
 use Rattle.blocks.proofs.Tests.{differs, agrees}
 use Rattle.streaming_rules.proofs.Ladder.{or-no}
-use Rattle.streaming_rules.proofs.Subtypes.{fits}
+use Rattle.streaming_descriptors.proofs.Subtypes.{fits}
 use native.Mathlib.Omega.{arith}
 use borrow.Author.Needs.{needs}
 use Rattle.streaming_rules.proofs.format_rule.Statement.{statement}

@@ -3,7 +3,7 @@ use native.Mathlib.Omega.{arith}
 use Rattle.rules.proofs.Ladder.{rungs}
 use Rattle.streaming_rules.specs.Rules.{kindRows}
 use Rattle.streaming_rules.proofs.Ladder.{differs, agrees}
-use Rattle.streaming_rules.proofs.Subtypes.{frame-long}
+use Rattle.streaming_descriptors.proofs.Subtypes.{frame-long}
 use borrow.Author.Needs.{needs}
 use Rattle.streaming_rules.proofs.frame_rule.Statement.{statement}
 use Rattle.streaming_rules.proofs.frame_rule.Tie as tie

@@ -1,6 +1,6 @@
 use mathlib.Core.Path.{refl}
 use Rattle.streaming_rules.proofs.Ladder.{kind-none}
-use Rattle.streaming_rules.proofs.Subtypes.{header-room, format-room, frame-room}
+use Rattle.streaming_descriptors.proofs.Subtypes.{header-room, format-room, frame-room}
 use borrow.Author.Needs.{needs}
 use Rattle.streaming_rules.proofs.kind_rule.Statement.{statement}
 use Rattle.streaming_rules.proofs.kind_rule.Tie as tie

@@ -1,8 +1,8 @@
 use Rattle.streaming_rules.proofs.Ladder.{own-subtype}
-use Rattle.streaming_rules.specs.Descriptors.{kindAt, formatOf}
+use Rattle.streaming_descriptors.specs.Descriptors.{kindAt, formatOf}
 use denote.Ref.{now}
 use native.Mathlib.Omega.{arith}
-use Rattle.streaming_rules.proofs.Subtypes.{frame-long}
+use Rattle.streaming_descriptors.proofs.Subtypes.{frame-long}
 use borrow.Author.Needs.{needs}
 use Rattle.streaming_rules.proofs.offers_at.Statement.{statement}
 use Rattle.streaming_rules.proofs.offers_at.Tie as tie

@@ -1,7 +1,7 @@
 use denote.Ref.{now}
 use native.Mathlib.Omega.{arith}
 use Rattle.streaming_rules.proofs.Ladder.{offers-is}
-use Rattle.streaming_rules.proofs.Subtypes.{frame-long, span-room, k-in, k-is}
+use Rattle.streaming_descriptors.proofs.Subtypes.{frame-long, span-room, k-in, k-is}
 use borrow.Author.Needs.{needs}
 use Rattle.streaming_rules.proofs.offers_under.Statement.{statement}
 use Rattle.streaming_rules.proofs.offers_under.Tie as tie

@@ -1,8 +1,8 @@
-use Rattle.streaming_rules.proofs.Subtypes.{format-is}
-use Rattle.streaming_rules.specs.Descriptors.{shape}
+use Rattle.streaming_descriptors.proofs.Subtypes.{format-is}
+use Rattle.streaming_descriptors.specs.Descriptors.{shape}
 use borrow.Author.Needs.{needs}
-use Rattle.streaming_rules.proofs.shape_ok.Statement.{statement}
-use Rattle.streaming_rules.proofs.shape_ok.Tie as tie
+use Rattle.streaming_descriptors.proofs.shape_ok.Statement.{statement}
+use Rattle.streaming_descriptors.proofs.shape_ok.Tie as tie
 
 enum-told : tie.Need-enum-told
 enum-told c = search needs

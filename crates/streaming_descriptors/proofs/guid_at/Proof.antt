@@ -1,7 +1,7 @@
 use native.Mathlib.Omega.{arith}
 use Rattle.rules.specs.Pick.{picks}
-use Rattle.streaming_rules.proofs.guid_at.Statement.{statement}
-use Rattle.streaming_rules.proofs.guid_at.Tie as tie
+use Rattle.streaming_descriptors.proofs.guid_at.Statement.{statement}
+use Rattle.streaming_descriptors.proofs.guid_at.Tie as tie
 
 guid-sort-requires : tie.Need-guid-sort-requires
 guid-sort-requires c κs = omega (arith, c .before .before .pre (c .if1 .taken))

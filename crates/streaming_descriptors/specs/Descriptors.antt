@@ -7,11 +7,11 @@ use lib.Dec.{leb, eqb}
 use Rattle.le.specs.Le.{byte, le16At, le32At}
 use Rattle.rules.specs.Pick.{pick}
 pub use Rattle.blocks.specs.Blocks.{lenAt}
-use Rattle.streaming_rules.specs.declared.Kind.{Kind}
-use Rattle.streaming_rules.specs.declared.Kind.the-variants.{Header, Formats, Frames, Unread, Other}
-use Rattle.streaming_rules.specs.declared.Layout.{Layout}
-use Rattle.streaming_rules.specs.declared.Format.{Format}
-use Rattle.streaming_rules.specs.declared.Frame.{Frame}
+use Rattle.streaming_descriptors.specs.declared.Kind.{Kind}
+use Rattle.streaming_descriptors.specs.declared.Kind.the-variants.{Header, Formats, Frames, Unread, Other}
+use Rattle.streaming_descriptors.specs.declared.Layout.{Layout}
+use Rattle.streaming_descriptors.specs.declared.Format.{Format}
+use Rattle.streaming_descriptors.specs.declared.Frame.{Frame}
 
 -- the subtypes that are refused: 0x0A, 0x0C and 0x12 to 0x18
 abbrev pub unread : ℕ → Bool

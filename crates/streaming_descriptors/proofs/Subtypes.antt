@@ -11,10 +11,10 @@ use native.Mathlib.Nat.{mul-le-mul}
 use Rattle.le.specs.Le.{byte}
 use Rattle.rules.specs.Pick.{pick, pick-all}
 use Rattle.intervals.specs.Intervals.{span}
-use Rattle.streaming_rules.specs.Descriptors.{kindOf, unread, lenAt, shape, uncompressed, mjpeg, frameBased, noLayout, layoutOf, formatOf, frameLength, kAt, frameLengthAt}
-use Rattle.streaming_rules.specs.declared.Kind.{Kind}
-use Rattle.streaming_rules.specs.declared.Kind.the-variants.{Header, Formats, Frames, Unread, Other}
-use Rattle.streaming_rules.specs.declared.Layout.{Layout}
+use Rattle.streaming_descriptors.specs.Descriptors.{kindOf, unread, lenAt, shape, uncompressed, mjpeg, frameBased, noLayout, layoutOf, formatOf, frameLength, kAt, frameLengthAt}
+use Rattle.streaming_descriptors.specs.declared.Kind.{Kind}
+use Rattle.streaming_descriptors.specs.declared.Kind.the-variants.{Header, Formats, Frames, Unread, Other}
+use Rattle.streaming_descriptors.specs.declared.Layout.{Layout}
 
 -- the code looks for 0x12 to 0x18 past 0x10 and 0x11
 past-seventeen : (n : ℕ) → 0x10 ≤ n → (n ≡ 0x10 → ⊥) → (n ≡ 0x11 → ⊥) → 0x12 ≤ n

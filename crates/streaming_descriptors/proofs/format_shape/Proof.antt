@@ -1,6 +1,6 @@
 use borrow.Author.Needs.{needs}
-use Rattle.streaming_rules.proofs.format_shape.Statement.{statement}
-use Rattle.streaming_rules.proofs.format_shape.Tie as tie
+use Rattle.streaming_descriptors.proofs.format_shape.Statement.{statement}
+use Rattle.streaming_descriptors.proofs.format_shape.Tie as tie
 
 layout-of-requires : tie.Need-layout-of-requires
 layout-of-requires c κs = search needs

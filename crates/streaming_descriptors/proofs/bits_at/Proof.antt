@@ -1,7 +1,7 @@
 use native.Mathlib.Omega.{arith}
 use Rattle.rules.specs.Pick.{picks}
-use Rattle.streaming_rules.proofs.bits_at.Statement.{statement}
-use Rattle.streaming_rules.proofs.bits_at.Tie as tie
+use Rattle.streaming_descriptors.proofs.bits_at.Statement.{statement}
+use Rattle.streaming_descriptors.proofs.bits_at.Tie as tie
 
 add-result : tie.Need-add-result
 add-result c = omega (arith, c .before .pre (c .if1 .taken))

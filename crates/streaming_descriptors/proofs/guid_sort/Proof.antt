@@ -1,8 +1,8 @@
 use denote.Ref.{now}
-use Rattle.streaming_rules.proofs.Guids.{is-yuy2, is-nv12, is-other, part}
+use Rattle.streaming_descriptors.proofs.Guids.{is-yuy2, is-nv12, is-other, part}
 use borrow.Author.Needs.{needs}
-use Rattle.streaming_rules.proofs.guid_sort.Statement.{statement}
-use Rattle.streaming_rules.proofs.guid_sort.Tie as tie
+use Rattle.streaming_descriptors.proofs.guid_sort.Statement.{statement}
+use Rattle.streaming_descriptors.proofs.guid_sort.Tie as tie
 
 add-from : tie.Need-add-from
 add-from c = search needs

@@ -1,9 +1,9 @@
-use Rattle.streaming_rules.proofs.Subtypes.{within, below, above}
-use Rattle.streaming_rules.specs.Descriptors.{kindOf}
+use Rattle.streaming_descriptors.proofs.Subtypes.{within, below, above}
+use Rattle.streaming_descriptors.specs.Descriptors.{kindOf}
 use Rattle.rules.specs.Pick.{pick}
 use mathlib.Core.Logic.{⊎-elim, inl, inr}
-use Rattle.streaming_rules.proofs.kind_of.Statement.{statement}
-use Rattle.streaming_rules.proofs.kind_of.Tie as tie
+use Rattle.streaming_descriptors.proofs.kind_of.Statement.{statement}
+use Rattle.streaming_descriptors.proofs.kind_of.Tie as tie
 
 returns : tie.Need-returns
 unfolding kindOf pick

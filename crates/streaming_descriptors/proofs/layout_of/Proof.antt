@@ -1,8 +1,8 @@
-use Rattle.streaming_rules.specs.Descriptors.{layoutOf}
+use Rattle.streaming_descriptors.specs.Descriptors.{layoutOf}
 use Rattle.rules.specs.Pick.{pick}
-use Rattle.streaming_rules.proofs.Subtypes.{no-layout}
-use Rattle.streaming_rules.proofs.layout_of.Statement.{statement}
-use Rattle.streaming_rules.proofs.layout_of.Tie as tie
+use Rattle.streaming_descriptors.proofs.Subtypes.{no-layout}
+use Rattle.streaming_descriptors.proofs.layout_of.Statement.{statement}
+use Rattle.streaming_descriptors.proofs.layout_of.Tie as tie
 
 returns : tie.Need-returns
 unfolding layoutOf pick

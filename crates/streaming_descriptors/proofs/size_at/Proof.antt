@@ -1,7 +1,7 @@
 use Rattle.rules.specs.Pick.{picks}
 use borrow.Author.Needs.{needs}
-use Rattle.streaming_rules.proofs.size_at.Statement.{statement}
-use Rattle.streaming_rules.proofs.size_at.Tie as tie
+use Rattle.streaming_descriptors.proofs.size_at.Statement.{statement}
+use Rattle.streaming_descriptors.proofs.size_at.Tie as tie
 
 add-le32 : tie.Need-add-le32
 add-le32 c = search needs

@@ -1,8 +1,8 @@
 use native.Mathlib.Omega.{arith}
-use Rattle.streaming_rules.proofs.Subtypes.{frame-short, frame-steps, frame-list, k-in, k-is}
+use Rattle.streaming_descriptors.proofs.Subtypes.{frame-short, frame-steps, frame-list, k-in, k-is}
 use borrow.Author.Needs.{needs}
-use Rattle.streaming_rules.proofs.frame_shape.Statement.{statement}
-use Rattle.streaming_rules.proofs.frame_shape.Tie as tie
+use Rattle.streaming_descriptors.proofs.frame_shape.Statement.{statement}
+use Rattle.streaming_descriptors.proofs.frame_shape.Tie as tie
 
 returns : tie.Need-returns
 returns c = search frame-short

@@ -10,7 +10,7 @@ use borrow.Author.Tests.{eq-eqb, eqb-true}
 use native.Mathlib.Omega.{arith}
 use Rattle.rules.specs.Pick.{pick}
 use Rattle.rules.proofs.Rows.{and-first, and-second}
-use Rattle.streaming_rules.specs.Descriptors.{sameBytes, sortOf, guidAt, yuy2, nv12}
+use Rattle.streaming_descriptors.specs.Descriptors.{sameBytes, sortOf, guidAt, yuy2, nv12}
 
 same-of : (l m : List ℕ) → sameBytes l m ≡ true → l ≡ m
 unfolding sameBytes

@@ -1,8 +1,8 @@
-use Rattle.streaming_rules.proofs.Subtypes.{header-short, header-long, product-fits}
+use Rattle.streaming_descriptors.proofs.Subtypes.{header-short, header-long, product-fits}
 use native.Mathlib.Omega.{arith}
 use borrow.Author.Needs.{needs}
-use Rattle.streaming_rules.proofs.header_shape.Statement.{statement}
-use Rattle.streaming_rules.proofs.header_shape.Tie as tie
+use Rattle.streaming_descriptors.proofs.header_shape.Statement.{statement}
+use Rattle.streaming_descriptors.proofs.header_shape.Tie as tie
 
 returns : tie.Need-returns
 returns c = search header-short

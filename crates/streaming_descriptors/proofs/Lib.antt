@@ -1,0 +1,3 @@
+pub mod Subtypes
+pub mod Guids
+pub mod Unique
