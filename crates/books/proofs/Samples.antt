@@ -25,7 +25,7 @@ use Rattle.session.specs.Calls.{Offer, after, taken, offerWith}
 
 -- frame size 256, payload size 62
 abbrev pub opening : Opening
-opening = record { frame = 256; payload = 62 }
+opening = record { frame = 256; payload = 62; framing = 3 }
 
 abbrev pub transfers : List (List ℕ)
 transfers =

@@ -10,7 +10,7 @@ use Rattle.sizes.specs.declared.Opening.{Opening}
 use Rattle.payload.specs.declared.Header.{Header}
 use Rattle.frames.specs.declared.Reason.{Reason}
 use Rattle.payload.specs.declared.Stamp.{Stamp}
-use Rattle.frames.specs.declared.Reason.the-variants.{Gap, Error, Clock, Mixed, Long, Cut}
+use Rattle.frames.specs.declared.Reason.the-variants.{Gap, Error, Clock, Mixed, Long}
 use Rattle.frames.specs.declared.Fault.{Fault}
 use Rattle.frames.specs.declared.Fault.the-variants.{Sound, Bad}
 use Rattle.frames.specs.declared.Run.{Run}
@@ -23,7 +23,7 @@ use Rattle.frames.specs.declared.Fate.{Fate}
 use Rattle.frames.specs.declared.Fate.the-variants.{Idle, Kept, Stray, Delivered, Still, Dropped, Unreadable}
 use Rattle.frames.specs.declared.Turn.{Turn}
 use Rattle.frames.specs.Track.{underBytes, FilledBy, Filled}
-use Rattle.frames.specs.Inner.{firstOf, clashOf, whyOf, sameOf, mixedOf, filledOf, writtenOf, begunOf, faultOf, joinedOf, completeOf, fateOf, phaseOf, joinTurn, strayTurn, turnBy, turnOf, spoiltBy, spoiltOf, closedBy, closedOf}
+use Rattle.frames.specs.Inner.{firstOf, clashOf, whyOf, sameOf, mixedOf, filledOf, writtenOf, begunOf, faultOf, joinedOf, completeOf, endsOf, turnedWhy, fateOf, phaseOf, joinTurn, strayTurn, turnBy, turnOf, outBy, outOf, spoiltBy, spoiltOf, closedBy, closedOf}
 
 -- ---- no fault now: none before, and none by this
 first-sound : (f : Fault) (bad : Bool) (why : Reason) → firstOf f bad why ≡ Sound → (f ≡ Sound) × (bad ≡ false)
@@ -112,8 +112,8 @@ module _ (o : Opening) (h : Header) (n : ℕ) where
         inside = join-inside o r h n q;
         gone = g;
         bytes = omega arith;
-        long = fate-long (h .eof) (joinedOf o r h n);
-        filled = phase-filled o (h .eof) (joinedOf o r h n) (join-filled o r h n q);
+        long = fate-long (endsOf o h) (joinedOf o r h n);
+        filled = phase-filled o (endsOf o h) (joinedOf o r h n) (join-filled o r h n q);
       }
 
   begins : (p : Phase) (gap : Bool) (e : Ended) (gone : ℕ) → gone ≤ underBytes p → Sits o p n (joinTurn o (begunOf gap (h .fid) (h .still)) h n e gone)
@@ -126,7 +126,7 @@ module _ (o : Opening) (h : Header) (n : ℕ) where
   sits Fresh gap q = begins Fresh gap Nothing 0 (omega arith)
   sits (Under r) gap q =
       pick-all (Sits o (Under r) n) (sameOf (r .fid) (h .fid)) _ _ (joins (Under r) r Nothing 0 q (omega arith) (omega arith))
-      (begins (Under r) gap (Frame (whyOf (r .fault) Cut)) (r .bytes) (omega arith))
+      (begins (Under r) gap (Frame (whyOf (r .fault) (turnedWhy o))) (r .bytes) (omega arith))
   sits (Past fid) gap q = pick-all (Sits o (Past fid) n) (sameOf fid (h .fid)) _ _ (strays (Past fid) fid)
       (begins (Past fid) gap Nothing 0 (omega arith))
 
@@ -156,3 +156,13 @@ closes (Under r) gap = omega arith
 pub closed-gone : (t : Track) → closedOf t .gone ≤ underBytes (t .phase)
 unfolding closedOf
 closed-gone t = closes (t .phase) (t .gap)
+
+-- ---- the hand-out: its length is the frame's bytes
+outs : (p : Phase) (gap : Bool) → outBy p gap .frame .delivery .len ≡ underBytes p
+outs Fresh gap = refl
+outs (Past fid) gap = refl
+outs (Under r) gap = refl
+
+pub out-long : (t : Track) → outOf t .frame .delivery .len ≡ underBytes (t .phase)
+unfolding outOf
+out-long t = outs (t .phase) (t .gap)

@@ -1,16 +1,18 @@
 -- What a call makes of the frame under way, one law for each way through the code.
 use Prim.Native.Nat.{ℕ, _+_, _<_, _^_}
-use mathlib.Core.Path.{_≡_, refl}
-use mathlib.Core.Bool.{Bool, true, false}
+use mathlib.Core.Path.{_≡_, refl, sym, _∙_}
+use mathlib.Core.Bool.{Bool, true, false, not, _&&_}
 use native.Mathlib.Omega.{arith}
 use lib.Dec.{eqb}
 use borrow.Author.Tests.{eq-eqb, ne-eqb}
 use Rattle.rules.specs.Pick.{yes, no, said-yes, said-no}
 use Rattle.sizes.specs.declared.Opening.{Opening}
+use Rattle.sizes.specs.Framing.{byEof}
 use Rattle.payload.specs.declared.Header.{Header}
 use Rattle.payload.specs.declared.Stamp.{Stamp}
+use Rattle.payload.specs.declared.Stamp.the-variants.{Absent}
 use Rattle.frames.specs.declared.Reason.{Reason}
-use Rattle.frames.specs.declared.Reason.the-variants.{Cut, Empty}
+use Rattle.frames.specs.declared.Reason.the-variants.{Empty}
 use Rattle.frames.specs.declared.Fault.{Fault}
 use Rattle.frames.specs.declared.Fault.the-variants.{Sound, Bad}
 use Rattle.frames.specs.declared.Fate.the-variants.{Delivered, Still, Dropped}
@@ -20,7 +22,7 @@ use Rattle.frames.specs.declared.Phase.the-variants.{Fresh, Under, Past}
 use Rattle.frames.specs.declared.Track.{Track}
 use Rattle.frames.specs.declared.Ended.the-variants.{Nothing, Frame}
 use Rattle.frames.specs.declared.Turn.{Turn}
-use Rattle.frames.specs.Inner.{whyOf, sameOf, begunOf, joinTurn, strayTurn, turnOf, completeOf, closedBy, closedOf, Roomy}
+use Rattle.frames.specs.Inner.{whyOf, sameOf, begunOf, turnedWhy, joinTurn, strayTurn, turnOf, completeOf, readyOf, handsBy, handsOf, outBy, outOf, closedBy, closedOf, Roomy}
 
 -- ---- a readable transfer
 module _ (o : Opening) (t : Track) (h : Header) (n : ℕ) (x : Turn) where
@@ -36,10 +38,10 @@ module _ (o : Opening) (t : Track) (h : Header) (n : ℕ) (x : Turn) where
 
   -- another FID ends the frame and begins the next
   pub turn-ends :
-      (r : Run) (s : Bool) (w : Reason) (b : Run) → t .phase ≡ Under r → s ≡ sameOf (r .fid) (h .fid) → s ≡ false → w ≡ whyOf (r .fault) Cut →
-      b ≡ begunOf (t .gap) (h .fid) (h .still) → x ≡ joinTurn o b h n (Frame w) (r .bytes) → x ≡ turnOf o t h n
+      (r : Run) (s : Bool) (v w : Reason) (b : Run) → t .phase ≡ Under r → s ≡ sameOf (r .fid) (h .fid) → s ≡ false → v ≡ turnedWhy o →
+      w ≡ whyOf (r .fault) v → b ≡ begunOf (t .gap) (h .fid) (h .still) → x ≡ joinTurn o b h n (Frame w) (r .bytes) → x ≡ turnOf o t h n
   unfolding turnOf
-  turn-ends r s w b p e y v g q = rw p (said-no s (sameOf (r .fid) (h .fid)) x _ _ e y (rw (v, g) at q))
+  turn-ends r s v w b p e y u d g q = rw p (said-no s (sameOf (r .fid) (h .fid)) x _ _ e y (rw (d, u, g) at q))
 
   pub turn-stray : (fid s : Bool) → t .phase ≡ Past fid → s ≡ sameOf fid (h .fid) → s ≡ true → x ≡ strayTurn fid n → x ≡ turnOf o t h n
   unfolding turnOf
@@ -63,6 +65,67 @@ module _ (f : Fault) (n : ℕ) (s : Stamp) (b : Bool) where
 
   pub complete-whole : f ≡ Sound → (n ≡ 0 → ⊥) → b ≡ false → Delivered (record { len = n; stamp = s }) ≡ completeOf f n s b
   complete-whole e z y = rw e (no (eqb n 0) _ _ _ (ne-eqb n 0 z) (no b _ _ _ y refl))
+
+-- ---- EOF, with D1 of the framing byte set
+pub and-yes : (s b e : Bool) → s ≡ b → s ≡ true → e ≡ (b && e)
+and-yes s b e p q = rw (← p, q)
+
+pub and-no : (s b e : Bool) → s ≡ b → s ≡ false → false ≡ (b && e)
+and-no s b e p q = rw (← p, q)
+
+-- ---- whether a frame is handed out
+and-false : (b : Bool) → false ≡ (b && false)
+and-false true = refl
+and-false false = refl
+
+module _ (o : Opening) (t : Track) (h : Header) where
+  pub hands-fresh : t .phase ≡ Fresh → false ≡ handsOf o t h
+  unfolding handsOf
+  hands-fresh p = rw p
+
+  pub hands-past : (fid : Bool) → t .phase ≡ Past fid → false ≡ handsOf o t h
+  unfolding handsOf
+  hands-past fid p = rw p
+
+  pub hands-eof : (s : Bool) → s ≡ byEof o → s ≡ true → false ≡ handsOf o t h
+  unfolding handsOf
+  hands-eof s e y = go (t .phase)
+    where
+      z : byEof o ≡ true
+      z = sym e ∙ y
+
+      go : (p : Phase) → false ≡ handsBy p o h
+      go Fresh = refl
+      go (Past fid) = refl
+      go (Under r) = rw z
+
+  pub hands-on : (r : Run) (s : Bool) → t .phase ≡ Under r → s ≡ sameOf (r .fid) (h .fid) → s ≡ true → false ≡ handsOf o t h
+  unfolding handsOf
+  hands-on r s p e y = rw (p, ← e, y) (and-false (not (byEof o)))
+
+  pub hands-ready : (r : Run) (s q x : Bool) → t .phase ≡ Under r → s ≡ byEof o → s ≡ false → q ≡ sameOf (r .fid) (h .fid) → q ≡ false →
+      x ≡ readyOf (r .fault) (r .bytes) → x ≡ handsOf o t h
+  unfolding handsOf
+  hands-ready r s q x p e y f z d = rw (p, ← e, y, ← f, z) d
+
+-- ---- the hand-out
+out-by-fresh : (p : Phase) (gap : Bool) → p ≡ Fresh →
+    record { track = record { phase = p; gap = gap }; frame = record { still = false; delivery = record { len = 0; stamp = Absent } } } ≡ outBy p gap
+out-by-fresh p gap e = rw e
+
+out-by-past : (p : Phase) (gap fid : Bool) → p ≡ Past fid →
+    record { track = record { phase = p; gap = gap }; frame = record { still = false; delivery = record { len = 0; stamp = Absent } } } ≡ outBy p gap
+out-by-past p gap fid e = rw e
+
+pub out-fresh : (t : Track) → t .phase ≡ Fresh →
+    record { track = t; frame = record { still = false; delivery = record { len = 0; stamp = Absent } } } ≡ outOf t
+unfolding outOf
+out-fresh t e = out-by-fresh (t .phase) (t .gap) e
+
+pub out-past : (t : Track) (fid : Bool) → t .phase ≡ Past fid →
+    record { track = t; frame = record { still = false; delivery = record { len = 0; stamp = Absent } } } ≡ outOf t
+unfolding outOf
+out-past t fid e = out-by-past (t .phase) (t .gap) fid e
 
 -- ---- close
 closed-by-fresh : (p : Phase) (gap : Bool) → p ≡ Fresh →

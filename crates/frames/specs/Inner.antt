@@ -1,10 +1,11 @@
 -- What one call makes of the frame under way, as the code has it. Nothing here needs to be believed: the frame rule is stated from the list alone, in the books,
 -- which show that the two agree.
 use Prim.Native.Nat.{ℕ, _+_, _<_, _^_}
-use mathlib.Core.Bool.{Bool, true, false, not}
+use mathlib.Core.Bool.{Bool, true, false, not, _&&_}
 use lib.Dec.{ltb, eqb}
 use Rattle.rules.specs.Pick.{pick}
 use Rattle.sizes.specs.declared.Opening.{Opening}
+use Rattle.sizes.specs.Framing.{byEof}
 use Rattle.payload.specs.declared.Header.{Header}
 use Rattle.payload.specs.declared.Stamp.{Stamp}
 use Rattle.payload.specs.declared.Stamp.the-variants.{Absent, At}
@@ -21,6 +22,7 @@ use Rattle.frames.specs.declared.Ended.the-variants.{Nothing, Frame}
 use Rattle.frames.specs.declared.Fate.{Fate}
 use Rattle.frames.specs.declared.Fate.the-variants.{Idle, Kept, Stray, Delivered, Still, Dropped, Unreadable}
 use Rattle.frames.specs.declared.Turn.{Turn}
+use Rattle.frames.specs.declared.Out.{Out}
 use Rattle.frames.specs.declared.Shut.{Shut}
 
 -- the earlier fault stands
@@ -89,6 +91,14 @@ completeOf (Bad why) n s b = Dropped why
 completeOf Sound n s b =
     pick (eqb n 0) (Dropped Empty) (pick b (Still (record { len = n; stamp = s })) (Delivered (record { len = n; stamp = s })))
 
+-- EOF ends a frame with D1 of the framing byte set, and is ignored with it clear
+abbrev pub endsOf : Opening → Header → Bool
+endsOf o h = byEof o && h .eof
+
+-- what another FID calls a frame without fault that was not handed out
+abbrev pub turnedWhy : Opening → Reason
+turnedWhy o = pick (byEof o) Cut Empty
+
 abbrev pub fateOf : Bool → Run → Fate
 fateOf true r = completeOf (r .fault) (r .bytes) (r .stamp) (r .still)
 fateOf false r = Kept
@@ -102,8 +112,8 @@ phaseOf false r = Under r
 abbrev pub joinTurn : Opening → Run → Header → ℕ → Ended → ℕ → Turn
 joinTurn o r h n ended gone =
     record {
-      track = record { phase = phaseOf (h .eof) (joinedOf o r h n); gap = false };
-      answer = record { ended = ended; fate = fateOf (h .eof) (joinedOf o r h n) };
+      track = record { phase = phaseOf (endsOf o h) (joinedOf o r h n); gap = false };
+      answer = record { ended = ended; fate = fateOf (endsOf o h) (joinedOf o r h n) };
       gone = gone;
       bytes = r .bytes + n;
       at = r .fill;
@@ -121,12 +131,40 @@ abbrev pub turnBy : Phase → Opening → Bool → Header → ℕ → Turn
 turnBy Fresh o gap h n = joinTurn o (begunOf gap (h .fid) (h .still)) h n Nothing 0
 turnBy (Under r) o gap h n =
     pick (sameOf (r .fid) (h .fid)) (joinTurn o r h n Nothing 0)
-    (joinTurn o (begunOf gap (h .fid) (h .still)) h n (Frame (whyOf (r .fault) Cut)) (r .bytes))
+    (joinTurn o (begunOf gap (h .fid) (h .still)) h n (Frame (whyOf (r .fault) (turnedWhy o))) (r .bytes))
 turnBy (Past fid) o gap h n = pick (sameOf fid (h .fid)) (strayTurn fid n) (joinTurn o (begunOf gap (h .fid) (h .still)) h n Nothing 0)
 
 -- a readable transfer with n bytes of data
 unfoldable pub turnOf : Opening → Track → Header → ℕ → Turn
 turnOf o t h n = turnBy (t .phase) o (t .gap) h n
+
+-- before a transfer of the other FID is taken with D1 clear, a frame without fault and with data is handed out
+abbrev pub readyOf : Fault → ℕ → Bool
+readyOf Sound n = not (eqb n 0)
+readyOf (Bad why) n = false
+
+abbrev pub handsBy : Phase → Opening → Header → Bool
+handsBy Fresh o h = false
+handsBy (Past fid) o h = false
+handsBy (Under r) o h = not (byEof o) && (not (sameOf (r .fid) (h .fid)) && readyOf (r .fault) (r .bytes))
+
+unfoldable pub handsOf : Opening → Track → Header → Bool
+handsOf o t h = handsBy (t .phase) o h
+
+-- the hand-out: what follows in the run is stray, and the gap flag stays; without a frame under way it has nothing in it
+abbrev pub outBy : Phase → Bool → Out
+outBy Fresh gap =
+    record { track = record { phase = Fresh; gap = gap }; frame = record { still = false; delivery = record { len = 0; stamp = Absent } } }
+outBy (Past fid) gap =
+    record { track = record { phase = Past fid; gap = gap }; frame = record { still = false; delivery = record { len = 0; stamp = Absent } } }
+outBy (Under r) gap =
+    record {
+      track = record { phase = Past (r .fid); gap = gap };
+      frame = record { still = r .still; delivery = record { len = r .bytes; stamp = r .stamp } };
+    }
+
+unfoldable pub outOf : Track → Out
+outOf t = outBy (t .phase) (t .gap)
 
 -- an unreadable or lost transfer: a gap for the frame under way, and for one that begins next
 abbrev pub spoiltBy : Phase → Phase

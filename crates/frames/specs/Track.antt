@@ -1,9 +1,12 @@
 -- The frame under way: what the account under way has of it, and how far it is written.
 use Prim.Native.Nat.{ℕ, _≤_}
 use mathlib.Core.Path.{_≡_}
+use mathlib.Core.Bool.{Bool, true, false}
 use Rattle.sizes.specs.declared.Opening.{Opening}
 use Rattle.frames.specs.declared.Fault.the-variants.{Sound}
 use Rattle.frames.specs.declared.Run.{Run}
+use Rattle.frames.specs.declared.Delivery.{Delivery}
+use Rattle.frames.specs.declared.Fate.{Fate}
 use Rattle.frames.specs.declared.Phase.{Phase}
 use Rattle.frames.specs.declared.Phase.the-variants.{Fresh, Under, Past}
 
@@ -27,3 +30,8 @@ abbrev pub FilledBy : Opening → Phase → Type 0
 FilledBy o Fresh = Unit {0}
 FilledBy o (Past fid) = Unit {0}
 FilledBy o (Under r) = Filled o r
+
+-- a fate that hands a frame out: as a still, or delivered
+abbrev pub handing : Bool → Delivery → Fate
+handing true d = Fate.Still d
+handing false d = Fate.Delivered d

@@ -1,7 +1,8 @@
 // The frame under way: turns a readable transfer into an answer. It never sees the ledger.
 ghost use mathlib.Core.Path.{_≡_};
 ghost use Prim.Native.Nat.{_+_, _<_, _^_};
-ghost use Rattle.frames.specs.Inner.{firstOf, clashOf, earlierOf, whyOf, sameOf, begunOf, joinedOf, filledOf, writtenOf, completeOf, fateOf, phaseOf, joinTurn, strayTurn, turnOf, spoiltOf, closedOf, Roomy};
+ghost use Rattle.frames.specs.Track.{handing};
+ghost use Rattle.frames.specs.Inner.{firstOf, clashOf, earlierOf, whyOf, sameOf, begunOf, joinedOf, filledOf, writtenOf, completeOf, endsOf, turnedWhy, fateOf, phaseOf, joinTurn, strayTurn, turnOf, readyOf, handsOf, outOf, spoiltOf, closedOf, Roomy};
 use payload::Header;
 use payload::Stamp;
 use sizes::Opening;
@@ -87,6 +88,18 @@ pub struct Turn {
     // How much of its data is written, and where.
     pub at: usize,
     pub len: usize,
+}
+
+// A frame that is handed out before a transfer of the other FID is taken: whether it is a still, and its length and stamp.
+pub struct HandOut {
+    pub still: bool,
+    pub delivery: Delivery,
+}
+
+// What handing out the frame under way leads to.
+pub struct Out {
+    pub track: Track,
+    pub frame: HandOut,
 }
 
 // What close leads to.
@@ -226,6 +239,24 @@ fn complete(f: Fault, len: u64, stamp: Stamp, still: bool) -> Fate
     }
 }
 
+// EOF ends a frame with D1 of the framing byte set, and is ignored with it clear.
+fn ends(o: Opening, h: Header) -> bool
+    ensures { λ x. ⌜ x ≡ endsOf o h ⌝ }
+{
+    if sizes::by_eof(o) { h.eof } else { false }
+}
+
+// What another FID calls a frame without fault that was not handed out: cut where EOF should have come, else empty.
+fn turned_why(o: Opening) -> Reason
+    ensures { λ x. ⌜ x ≡ turnedWhy o ⌝ }
+{
+    if sizes::by_eof(o) {
+        Reason::Cut
+    } else {
+        Reason::Empty
+    }
+}
+
 // The fate of a transfer of the frame r, which is r with it.
 fn fate_of(eof: bool, r: Run) -> Fate
     ensures { λ x. ⌜ x ≡ fateOf eof r ⌝ }
@@ -259,8 +290,9 @@ fn join(o: Opening, r: Run, h: Header, n: usize, ended: Ended, gone: u64) -> Tur
     let f = next.fault;
     let len = written(f, n);
     let bytes = next.bytes;
-    let fate = fate_of(h.eof, next);
-    let phase = phase_of(h.eof, next);
+    let eof = ends(o, h);
+    let fate = fate_of(eof, next);
+    let phase = phase_of(eof, next);
     Turn {
         track: Track { phase, gap: false },
         answer: Answer { ended, fate },
@@ -291,7 +323,96 @@ fn stray(fid: bool, n: usize) -> Turn
     }
 }
 
+// A frame without fault so far, with data.
+fn ready(f: Fault, bytes: u64) -> bool
+    ensures { λ x. ⌜ x ≡ readyOf f bytes ⌝ }
+{
+    match f {
+        Fault::Bad(_) => false,
+        Fault::Sound => bytes != 0,
+    }
+}
+
+// The fate that a frame handed out has in the ledger.
+pub fn fate_for(x: HandOut) -> Fate
+    ensures { λ r. ⌜ r ≡ handing (x .still) (x .delivery) ⌝ }
+{
+    let d = x.delivery;
+    if x.still {
+        Fate::Still(d)
+    } else {
+        Fate::Delivered(d)
+    }
+}
+
 impl Track {
+    // Whether a readable transfer with this header can't be taken before the frame under way is handed out: D1 of the framing byte clear, the other FID, no fault
+    // and data.
+    pub fn hands(self, o: Opening, h: Header) -> bool
+        ensures { λ x. ⌜ x ≡ handsOf o self h ⌝ }
+    {
+        if sizes::by_eof(o) {
+            return false;
+        }
+        let phase = self.phase;
+        match phase {
+            Phase::Fresh => false,
+            Phase::Past(_) => false,
+            Phase::Under(r) => {
+                if same(r.fid, h.fid) {
+                    return false;
+                }
+                let f = r.fault;
+                ready(f, r.bytes)
+            }
+        }
+    }
+
+    // Hands out the frame under way. What comes after it in its run is stray, as after an EOF; the gap flag stays. Where no frame is under way, nothing is in it.
+    pub fn hand_out(self) -> Out
+        ensures { λ x. ⌜ x ≡ outOf self ⌝ }
+    {
+        let phase = self.phase;
+        match phase {
+            Phase::Fresh => Out {
+                track: self,
+                frame: HandOut {
+                    still: false,
+                    delivery: Delivery {
+                        len: 0,
+                        stamp: Stamp::Absent,
+                    },
+                },
+            },
+            Phase::Past(_) => Out {
+                track: self,
+                frame: HandOut {
+                    still: false,
+                    delivery: Delivery {
+                        len: 0,
+                        stamp: Stamp::Absent,
+                    },
+                },
+            },
+            Phase::Under(r) => {
+                let stamp = r.stamp;
+                Out {
+                    track: Track {
+                        phase: Phase::Past(r.fid),
+                        gap: self.gap,
+                    },
+                    frame: HandOut {
+                        still: r.still,
+                        delivery: Delivery {
+                            len: r.bytes,
+                            stamp,
+                        },
+                    },
+                }
+            }
+        }
+    }
+
     // Inner: a readable transfer with n bytes of data. The session has looked at the sizes (50).
     pub fn turn(self, o: Opening, h: Header, n: usize) -> Turn
         requires { ⌜ (Roomy (self .phase)) × (n < 2 ^ 62) ⌝ }
@@ -305,7 +426,7 @@ impl Track {
                     return join(o, r, h, n, Ended::Nothing, 0);
                 }
                 let f = r.fault;
-                let why = why_of(f, Reason::Cut);
+                let why = why_of(f, turned_why(o));
                 join(
                     o,
                     begun(self.gap, h.fid, h.still),

@@ -11,7 +11,7 @@ use Rattle.payload.specs.declared.Stamp.the-variants.{Absent, At}
 use Rattle.payload.specs.declared.Reading.the-variants.{Unreadable, Readable}
 
 abbrev pub opening : Opening
-opening = record { frame = 256; payload = 62 }
+opening = record { frame = 256; payload = 62; framing = 3 }
 
 -- 02 80: readable
 pub bare-header : readingOf opening (0x02 ∷ 0x80 ∷ []) ≡ Readable (record { len = 2; fid = false; eof = false; still = false; error = false; stamp = Absent })

@@ -27,7 +27,7 @@ selector source = 0x07 ∷ 0x24 ∷ 0x04 ∷ 0x05 ∷ 0x01 ∷ source ∷ 0x00 �
 
 -- frame size 256, payload size 62, as the ledger program has them
 abbrev pub opening : Opening
-opening = record { frame = 256; payload = 62 }
+opening = record { frame = 256; payload = 62; framing = 3 }
 
 -- what a transfer answers in a fresh session, with a buffer of the frame size
 abbrev pub answer : List ℕ → Outcome

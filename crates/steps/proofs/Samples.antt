@@ -47,7 +47,7 @@ out-of-range = (refl, refl)
 
 -- ---- a job: five frames with stamps FFFFFFF0, 10, none, C and 20, split at the second
 abbrev opening : Opening
-opening = record { frame = 256; payload = 62 }
+opening = record { frame = 256; payload = 62; framing = 3 }
 
 abbrev offered : List (List ℕ) → List Offer
 offered ts = map (Offer.take (replicate 256 0)) ts

@@ -19,7 +19,7 @@ use Rattle.session.specs.Calls.{refusal, next, offerWith, bufferNext}
 
 -- frame size 256, payload size 62
 abbrev pub sizes : Opening
-sizes = record { frame = 256; payload = 62 }
+sizes = record { frame = 256; payload = 62; framing = 3 }
 
 abbrev pub newTrace : Trace
 newTrace = record { session = fresh sizes; state = Good }

@@ -25,6 +25,9 @@ join-requires-2 c κs = under-room _ _ _ (c .before .before .before .phase .give
 returns : tie.Need-returns
 returns c = search turn-on
 
+turned-why-requires : tie.Need-turned-why-requires
+turned-why-requires c κs = search needs
+
 why-of-requires : tie.Need-why-of-requires
 why-of-requires c κs = search needs
 
@@ -32,8 +35,8 @@ begun-requires-2 : tie.Need-begun-requires-2
 begun-requires-2 c κs = search needs
 
 join-requires-3 : tie.Need-join-requires-3
-join-requires-3 c κs = begun-room _ (c .before .before .before .before .before .before .before .args .self .gap) _ _ _ (c .begun2 .ensures)
-    (c .before .before .before .before .before .before .before .pre .1)
+join-requires-3 c κs = begun-room _ (c .before .before .before .before .before .before .before .before .args .self .gap) _ _ _ (c .begun2 .ensures)
+    (c .before .before .before .before .before .before .before .before .pre .1)
 
 enum-known-phase-2 : tie.Need-enum-known-phase-2
 enum-known-phase-2 c = search needs
@@ -74,6 +77,7 @@ turn-spec =
     same-requires
     join-requires-2
     returns
+    turned-why-requires
     why-of-requires
     begun-requires-2
     join-requires-3
