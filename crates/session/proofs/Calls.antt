@@ -21,7 +21,9 @@ use Rattle.frames.specs.declared.Track.{Track}
 use Rattle.frames.specs.declared.Turn.{Turn}
 use Rattle.frames.specs.declared.Shut.{Shut}
 use Rattle.frames.specs.declared.Fate.{Fate}
-use Rattle.frames.specs.Inner.{plainTurn, turnOf, spoiltOf, closedOf}
+use Rattle.frames.specs.declared.Out.{Out}
+use Rattle.frames.specs.Track.{handing}
+use Rattle.frames.specs.Inner.{plainTurn, turnOf, handsOf, outOf, spoiltOf, closedOf}
 use Rattle.ledger.specs.declared.Account.{Account}
 use Rattle.ledger.specs.declared.Ledger.{Ledger}
 use Rattle.ledger.specs.Accounts.{lostAt, numberCount}
@@ -44,7 +46,7 @@ use Rattle.session.specs.declared.Closing.{Closing}
 use Rattle.session.specs.declared.Closed.{Closed}
 use Rattle.session.specs.declared.RestClosed.{RestClosed}
 use Rattle.session.specs.Refusals.{takenMost, openingFlags, recordBroken, closeRowsBy, closeRows, lostRowsBy, lostRows, takeRowsBy, takeRows}
-use Rattle.session.specs.Session.{fresh, noSession, openBy, openOf, countedOf, takenBy, readOf, readBuffer, plainly, tookOf, tookBuffer, takeBy, takeOf, bufferBy, bufferOf, lostBy, lostOf, closeBy, closeOf}
+use Rattle.session.specs.Session.{fresh, noSession, openBy, openOf, countedOf, takenBy, readOf, readBuffer, plainly, tookOf, tookBuffer, handsOut, passedOf, handedOf, metOf, metBuffer, takeBy, takeOf, bufferBy, bufferOf, lostBy, lostOf, closeBy, closeOf}
 use Rattle.session.specs.Inner.{wholeOf, countedRest, takenWith, reportedWith, closedWith, Ready}
 
 -- ---- what the code finds of the record's parts, it finds of the record
@@ -119,6 +121,22 @@ pub put-buffer :
     (drop from t) (y .len)
 put-buffer x y from buffer t e k = let q = part-length t from (x .len) k in rw (← e, take-length, q, add-sub-cancel-left)
 
+-- a transfer that hands nothing out is taken
+as-taken : (s : Session) (buffer t : List ℕ) → handsOut s t ≡ false → (x : Taken) (b : List ℕ) → x ≡ tookOf s t → b ≡ tookBuffer s buffer t →
+    (x ≡ metOf s t) × (b ≡ metBuffer s buffer t)
+as-taken s buffer t e x b p q = (rw e p, rw e q)
+
+abbrev pub Unread : Reading → Type 0
+Unread Idle = Unit {0}
+Unread (Unreadable k) = Unit {0}
+Unread (Readable h) = ⊥
+
+pub not-handed : (s : Session) (t : List ℕ) (x : Reading) → x ≡ readingOf (s .rest .opening) t → Unread x → handsOut s t ≡ false
+unfolding handsOut
+not-handed s t Idle e u = rw (← e)
+not-handed s t (Unreadable k) e u = rw (← e)
+not-handed s t (Readable h) e u = absurd u
+
 -- a readable transfer, once its header and its answer are entered
 pub read-done :
     (r : Rest) (l k m : List ℕ) (h : Header) (n : ℕ) (x : Turn) (last : Stamp) (y : Rest) → x ≡ turnOf (r .opening) (r .track) h n →
@@ -146,21 +164,40 @@ module _ (r : Rest) (l buffer t : List ℕ) where
 
   pub took-idle : (x : Reading) (m : List ℕ) (last : Stamp) (y : Rest) → x ≡ readingOf (r .opening) t → x ≡ Idle →
       ledgerWith m last ≡ fatedOf (ledgerWith l (r .last)) Fate.Idle 0 → y ≡ countedRest r (r .track) last →
-      (takenWith (record { rest = y; outcome = Outcome.Taken (plainly Fate.Idle) }) m ≡ tookOf s t) × (buffer ≡ tookBuffer s buffer t)
+      (takenWith (record { rest = y; outcome = Outcome.Taken (plainly Fate.Idle) }) m ≡ metOf s t) × (buffer ≡ metBuffer s buffer t)
   unfolding tookOf tookBuffer
-  took-idle x m last y e i p q = (rw (← e, i) (fated-done Fate.Idle 0 m last (r .track) y p q), rw (← e, i))
+  took-idle x m last y e i p q =
+      as-taken s buffer t (not-handed s t x e (rw i tt)) _ _ (rw (← e, i) (fated-done Fate.Idle 0 m last (r .track) y p q)) (rw (← e, i))
 
   pub took-unreadable : (x : Reading) (k : ℕ) (m : List ℕ) (last : Stamp) (w : Track) (y : Rest) → x ≡ readingOf (r .opening) t →
       x ≡ Unreadable k → ledgerWith m last ≡ fatedOf (ledgerWith l (r .last)) (Fate.Unreadable k) (length t) → w ≡ spoiltOf (r .track) →
       y ≡ countedRest r w last →
-      (takenWith (record { rest = y; outcome = Outcome.Taken (plainly (Fate.Unreadable k)) }) m ≡ tookOf s t) × (buffer ≡ tookBuffer s buffer t)
+      (takenWith (record { rest = y; outcome = Outcome.Taken (plainly (Fate.Unreadable k)) }) m ≡ metOf s t) × (buffer ≡ metBuffer s buffer t)
   unfolding tookOf tookBuffer
-  took-unreadable x k m last w y e i p v q = (rw (← e, i, ← v) (fated-done (Fate.Unreadable k) (length t) m last w y p q), rw (← e, i))
+  took-unreadable x k m last w y e i p v q =
+      as-taken s buffer t (not-handed s t x e (rw i tt)) _ _ (rw (← e, i, ← v) (fated-done (Fate.Unreadable k) (length t) m last w y p q)) (rw (← e, i))
 
-  pub took-readable : (x : Reading) (h : Header) (y : Taken) (b : List ℕ) → x ≡ readingOf (r .opening) t → x ≡ Readable h →
-      y ≡ readOf s h (length t - h .len) → b ≡ readBuffer s h buffer t → (y ≡ tookOf s t) × (b ≡ tookBuffer s buffer t)
-  unfolding tookOf tookBuffer
-  took-readable x h y b e i p q = (rw (← e, i) p, rw (← e, i) q)
+  pub took-readable : (x : Reading) (h : Header) (g : Bool) (y : Taken) (b : List ℕ) → x ≡ readingOf (r .opening) t → x ≡ Readable h →
+      g ≡ handsOf (r .opening) (r .track) h → g ≡ false → y ≡ readOf s h (length t - h .len) → b ≡ readBuffer s h buffer t →
+      (y ≡ metOf s t) × (b ≡ metBuffer s buffer t)
+  unfolding tookOf tookBuffer handsOut
+  took-readable x h g y b e i f n p q = as-taken s buffer t (rw (← e, i, ← f, n) refl) y b (rw (← e, i) p) (rw (← e, i) q)
+
+  -- a frame handed out in its place
+  pub handed-out : (x : Reading) (h : Header) (g : Bool) (y : Taken) → x ≡ readingOf (r .opening) t → x ≡ Readable h →
+      g ≡ handsOf (r .opening) (r .track) h → g ≡ true → y ≡ handedOf s → (y ≡ metOf s t) × (buffer ≡ metBuffer s buffer t)
+  unfolding handsOut
+  handed-out x h g y e i f n p = (rw (← e, i, ← f, n) p, rw (← e, i, ← f, n) refl)
+
+  pub handed-done : (x : Out) (f : Fate) (m : List ℕ) (last : Stamp) → x ≡ outOf (r .track) → f ≡ handing (x .frame .still) (x .frame .delivery) →
+      ledgerWith m last ≡ fatedOf (ledgerWith l (r .last)) f (x .frame .delivery .len) →
+      takenWith (record {
+        rest = record { opening = r .opening; closed = r .closed; taken = r .taken; track = x .track; last = last };
+        outcome = Outcome.Handed (x .frame);
+      }) m ≡ handedOf s
+  unfolding handedOf
+  handed-done x f m last e g p =
+      ap (λ (z : Ledger). record { session = passedOf s x z; outcome = Outcome.Handed (x .frame) }) p ∙ rw (g, e)
 
   pub header-within : (x : Reading) (h : Header) → x ≡ readingOf (r .opening) t → x ≡ Readable h → h .len ≤ length t
   header-within x h e i = readable-fits (r .opening) t h (sym e ∙ i) .inside
@@ -175,10 +212,10 @@ module _ (r : Rest) (l buffer t : List ℕ) where
         go zero h = absurd (h refl)
         go (suc m) h = (refl, refl)
 
-    pub take-taken : (x : Taken) (b : List ℕ) → n ≡ 0 → x ≡ tookOf s t → b ≡ tookBuffer s buffer t →
+    pub take-met : (x : Taken) (b : List ℕ) → n ≡ 0 → x ≡ metOf s t → b ≡ metBuffer s buffer t →
         (x ≡ takeOf s (length buffer) t) × (b ≡ bufferOf s buffer t)
     unfolding takeOf bufferOf
-    take-taken x b z p q = (rw (← e, z) p, rw (← e, z) q)
+    take-met x b z p q = (rw (← e, z) p, rw (← e, z) q)
 
 -- ---- lost
 module _ (r : Rest) (l : List ℕ) (n : ℕ) (e : n ≡ firstRow (lostRows (wholeOf r l))) where

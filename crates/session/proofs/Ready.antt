@@ -1,15 +1,18 @@
 -- What a session that is not refused by 50, 53 or 52 is good for, call by call.
 use Prim.Native.Nat.{ℕ, _≤_, _<_, _^_}
-use mathlib.Core.Path.{_≡_}
+use mathlib.Core.Path.{_≡_, refl, ap, _∙_}
+use mathlib.Core.Bool.{Bool, true, false}
 use native.Mathlib.Omega.{arith}
 use Rattle.payload.specs.declared.Header.{Header}
 use Rattle.frames.specs.declared.Phase.{Phase}
 use Rattle.frames.specs.declared.Phase.the-variants.{Fresh, Under, Past}
 use Rattle.frames.specs.declared.Fate.{Fate}
 use Rattle.frames.specs.declared.Turn.{Turn}
-use Rattle.frames.specs.Track.{underBytes, FilledBy}
-use Rattle.frames.specs.Inner.{turnOf, Roomy}
-use Rattle.frames.proofs.Bounds.{LengthOf, Sits, turn-sits}
+use Rattle.frames.specs.declared.Delivery.{Delivery}
+use Rattle.frames.specs.declared.Out.{Out}
+use Rattle.frames.specs.Track.{underBytes, FilledBy, handing}
+use Rattle.frames.specs.Inner.{turnOf, outOf, Roomy}
+use Rattle.frames.proofs.Bounds.{LengthOf, Sits, turn-sits, out-long}
 use Rattle.ledger.specs.Inner.{fateBytes}
 use Rattle.rule_50.specs.Rule50.{transferMost}
 use Rattle.rule_50.proofs.Able.{Able, able}
@@ -53,3 +56,15 @@ module _ (s : Session) (a : AbleOf s) where
 
     pub fate-few : n ≤ transferMost → fateBytes (x .answer .fate) (x .bytes) ≤ 2 ^ 50
     fate-few q = omega (arith, fate-bytes (x .answer .fate) (x .bytes) (sits .long), sits .bytes, a .under)
+
+  -- a frame that is handed out
+  handing-bytes : (b : Bool) (d : Delivery) (n : ℕ) → fateBytes (handing b d) n ≡ d .len
+  handing-bytes true d n = refl
+  handing-bytes false d n = refl
+
+  pub out-few : (x : Out) (f : Fate) → x ≡ outOf (s .rest .track) → f ≡ handing (x .frame .still) (x .frame .delivery) →
+      fateBytes f (x .frame .delivery .len) ≤ 2 ^ 50
+  out-few x f e g =
+      let d : Delivery = x .frame .delivery in
+      let long : d .len ≡ underBytes (s .rest .track .phase) = ap (λ (y : Out). y .frame .delivery .len) e ∙ out-long (s .rest .track) in
+      rw (g, handing-bytes (x .frame .still) d (d .len)) (omega (arith, long, a .under))

@@ -1,6 +1,7 @@
 -- EXACTLY WHEN each call is refused, by which number, and what a refused call leaves as it was.
 use Prim.Native.Nat.{ℕ, zero, suc, _<_}
 use mathlib.Core.Path.{_≡_, refl}
+use mathlib.Core.Bool.{Bool, true, false}
 use mathlib.Core.List.{List}
 use mathlib.Core.Logic.{_↔_}
 use native.Mathlib.Omega.{arith}
@@ -20,7 +21,7 @@ use Rattle.session.specs.declared.Outcome.{Outcome}
 use Rattle.session.specs.declared.Report.{Report}
 use Rattle.session.specs.declared.Closing.{Closing}
 use Rattle.session.specs.Refusals.{openingFlags, closeRows, lostRows, takeRows}
-use Rattle.session.specs.Session.{openBy, openOf, readOf, tookBy, tookOf, takeBy, takeOf, bufferBy, bufferOf, lostBy, lostOf, closeBy, closeOf}
+use Rattle.session.specs.Session.{openBy, openOf, readOf, tookBy, tookOf, handedOf, metBy, metOf, handsOut, takeBy, takeOf, bufferBy, bufferOf, lostBy, lostOf, closeBy, closeOf}
 
 -- ---- the rows have numbers, and a number that is given is one of them
 close-numbered : (s : Session) → Numbered (closeRows s)
@@ -45,6 +46,12 @@ from-given : (rows : List Row) (k : ℕ) → Numbered rows → Given rows k → 
 from-given rows k p g = (given-row g, given-positive p g)
 
 -- ---- take
+-- a call that is not refused: the transfer is taken, or a frame is handed out
+abbrev pub Met : Outcome → Type 0
+Met (Outcome.Refused k) = ⊥
+Met (Outcome.Taken a) = Unit {0}
+Met (Outcome.Handed x) = Unit {0}
+
 pub took-taken : (s : Session) (t : List ℕ) → (a : Answer) × (tookOf s t .outcome ≡ Outcome.Taken a)
 unfolding tookOf readOf
 took-taken s t = go (readingOf (s .rest .opening) t)
@@ -54,21 +61,29 @@ took-taken s t = go (readingOf (s .rest .opening) t)
     go (Unreadable k) = (_, refl)
     go (Readable h) = (_, refl)
 
-not-both : (x : Outcome) (a : Answer) (k : ℕ) → x ≡ Outcome.Taken a → x ≡ Outcome.Refused k → ⊥
-not-both x a k p q = let z : _≡_ {A = ℕ} 0 1 = cc in omega arith
+met : (s : Session) (t : List ℕ) → Met (metOf s t .outcome)
+unfolding handedOf
+met s t = go (handsOut s t)
+  where
+    go : (b : Bool) → Met (metBy b s t .outcome)
+    go true = tt
+    go false = let w = took-taken s t in rw (w .1) tt
+
+not-both : (x : Outcome) (k : ℕ) → Met x → x ≡ Outcome.Refused k → ⊥
+not-both x k p q = rw q at p
 
 module _ (s : Session) (t : List ℕ) where
   take-to : (n k : ℕ) → takeBy n s t .outcome ≡ Outcome.Refused k → (n ≡ k) × (0 < k)
-  take-to zero k e = let w = took-taken s t in absurd (not-both _ (w .0) k (w .1) e)
+  take-to zero k e = absurd (not-both _ k (met s t) e)
   take-to (suc n) k e = let q : suc n ≡ k = cc in (q, omega arith)
 
   take-from : (n k : ℕ) → (n ≡ k) × (0 < k) → takeBy n s t .outcome ≡ Outcome.Refused k
   take-from zero k p = absurd (omega arith)
   take-from (suc n) k p = rw (p .0)
 
-  take-open : (n : ℕ) → (a : Answer) × (takeBy n s t .outcome ≡ Outcome.Taken a) → n ≡ 0
+  take-open : (n : ℕ) → Met (takeBy n s t .outcome) → n ≡ 0
   take-open zero p = refl
-  take-open (suc n) p = absurd (not-both _ (p .0) (suc n) (p .1) refl)
+  take-open (suc n) p = absurd p
 
   -- 50, 53, 52, 51, 55: k is given exactly when its row says so and no earlier one does
   pub take-refused-exactly : (room k : ℕ) → (takeOf s room t .outcome ≡ Outcome.Refused k) ↔ Given (takeRows s room (length t)) k
@@ -78,12 +93,12 @@ module _ (s : Session) (t : List ℕ) where
     λ g. take-from (firstRow (takeRows s room (length t))) k (from-given (takeRows s room (length t)) k (take-numbered s room (length t)) g),
   )
 
-  -- taken exactly when no row is broken
-  pub take-taken-exactly : (room : ℕ) → ((a : Answer) × (takeOf s room t .outcome ≡ Outcome.Taken a)) ↔ NoneOf (takeRows s room (length t))
+  -- not refused exactly when no row is broken
+  pub take-met-exactly : (room : ℕ) → Met (takeOf s room t .outcome) ↔ NoneOf (takeRows s room (length t))
   unfolding takeOf
-  take-taken-exactly room = (
+  take-met-exactly room = (
     λ p. row-none (takeRows s room (length t)) (take-numbered s room (length t)) (take-open (firstRow (takeRows s room (length t))) p),
-    λ n. rw (none-row (takeRows s room (length t)) n) (took-taken s t),
+    λ n. rw (none-row (takeRows s room (length t)) n) (met s t),
   )
 
   -- a refused call gives the session back as it was, and no byte of the buffer changes
@@ -93,7 +108,7 @@ module _ (s : Session) (t : List ℕ) where
   take-as-it-was buffer k e = go (firstRow (takeRows s (length buffer) (length t))) e
     where
       go : (n : ℕ) → takeBy n s t .outcome ≡ Outcome.Refused k → (takeBy n s t .session ≡ s) × (bufferBy n s buffer t ≡ buffer)
-      go zero e = let w = took-taken s t in absurd (not-both _ (w .0) k (w .1) e)
+      go zero e = absurd (not-both _ k (met s t) e)
       go (suc n) e = (refl, refl)
 
 -- ---- lost

@@ -5,13 +5,14 @@ use mathlib.Core.List.{List, [], _∷_}
 use Rattle.rules.specs.Pick.{pick}
 use Rattle.rules.specs.Numbered.{firstFrom, anyBelow}
 use Rattle.sizes.specs.Sizes.{frameSizeBroken, payloadSizeBroken, sizesBroken}
+use Rattle.sizes.specs.Framing.{byEof}
 use Rattle.payload.specs.Transfer.{flagOf, needOf, transferFlags, stampOf, headerOf, readingOf}
 use Rattle.payload.proofs.Samples.{opening}
 use Rattle.frames.specs.declared.Fate.{Fate}
 use Rattle.ledger.specs.Ledger.{shownOf}
 use Rattle.session.specs.declared.Outcome.{Outcome}
-use Rattle.session.specs.Session.{fresh, readOf, plainly, tookOf, takeOf}
-use Rattle.frames.specs.Inner.{turnOf}
+use Rattle.session.specs.Session.{fresh, readOf, plainly, tookOf, handsOut, takeOf}
+use Rattle.frames.specs.Inner.{turnOf, handsOf}
 use Rattle.rule_50.specs.Rule50.{rule50, fillBroken, accountsBroken, countsBroken}
 
 abbrev fate : List ℕ → Outcome
@@ -26,7 +27,7 @@ pub record Table : Type 0 where
   pub with-clock : (a b c d e f g h i j : ℕ) → fate (0x0C ∷ 0x8C ∷ a ∷ b ∷ c ∷ d ∷ e ∷ f ∷ g ∷ h ∷ i ∷ j ∷ []) ≡ Outcome.Taken (plainly Fate.Kept)
 
 pub table : Table
-unfolding takeOf tookOf readOf turnOf readingOf headerOf stampOf transferFlags needOf flagOf pick firstFrom anyBelow rule50 sizesBroken fillBroken accountsBroken countsBroken shownOf frameSizeBroken payloadSizeBroken
+unfolding takeOf tookOf handsOut handsOf byEof readOf turnOf readingOf headerOf stampOf transferFlags needOf flagOf pick firstFrom anyBelow rule50 sizesBroken fillBroken accountsBroken countsBroken shownOf frameSizeBroken payloadSizeBroken
 table =
     record {
       bare = refl;

@@ -1,6 +1,7 @@
 -- What a call writes to the lent buffer: the transfer's data straight after the frame's earlier data, or nothing; every other byte is what it was.
 use Prim.Native.Nat.{ℕ, _+_, _-_, _≤_, _<_, _^_}
 use mathlib.Core.Path.{_≡_, refl, sym, subst, _∙_}
+use mathlib.Core.Bool.{true, false}
 use mathlib.Core.List.{List}
 use native.Mathlib.Omega.{arith}
 use native.Mathlib.Nat.{add-sub-of-le}
@@ -17,10 +18,10 @@ use Rattle.ledger.specs.Accounts.{numberCount}
 use Rattle.copier.proofs.Written as copied
 use Rattle.session.specs.declared.Session.{Session}
 use Rattle.session.specs.Refusals.{takeRows}
-use Rattle.session.specs.Session.{turned, tookBuffer, bufferOf}
+use Rattle.session.specs.Session.{turned, tookBuffer, handsOut, metBuffer, bufferOf}
 use Rattle.session.specs.Writes.{Wrote}
 use Rattle.session.proofs.Ready.{ready-able, sits}
-use Rattle.session.proofs.Calls.{take-ready}
+use Rattle.session.proofs.Calls.{not-handed, take-ready}
 
 wrote : (old src : List ℕ) (at len : ℕ) → at + len ≤ length old → len ≤ length src → Wrote old (paste old at src len) src at len
 wrote old src at len f e =
@@ -38,26 +39,30 @@ module _ (s : Session) (buffer t : List ℕ) where
   abbrev Open : Type 0
   Open = NoneOf (takeRows s (length buffer) (length t))
 
-  bare : Open → bufferOf s buffer t ≡ tookBuffer s buffer t
+  bare : Open → bufferOf s buffer t ≡ metBuffer s buffer t
   unfolding bufferOf
   bare o = rw (none-row (takeRows s (length buffer) (length t)) o)
 
   -- an idle or unreadable transfer writes nothing
   pub idle-writes-nothing : Open → readingOf (s .rest .opening) t ≡ Idle → bufferOf s buffer t ≡ buffer
   unfolding tookBuffer
-  idle-writes-nothing o e = bare o ∙ rw e
+  idle-writes-nothing o e = bare o ∙ rw (not-handed s t Idle (sym e) tt, e)
 
   pub unreadable-writes-nothing : (k : ℕ) → Open → readingOf (s .rest .opening) t ≡ Unreadable k → bufferOf s buffer t ≡ buffer
   unfolding tookBuffer
-  unreadable-writes-nothing k o e = bare o ∙ rw e
+  unreadable-writes-nothing k o e = bare o ∙ rw (not-handed s t (Unreadable k) (sym e) tt, e)
 
-  module _ (h : Header) (o : Open) (e : readingOf (s .rest .opening) t ≡ Readable h) where
+  -- nor does a transfer that is not taken, because a frame is handed out
+  pub handed-writes-nothing : Open → handsOut s t ≡ true → bufferOf s buffer t ≡ buffer
+  handed-writes-nothing o e = bare o ∙ rw e
+
+  module _ (h : Header) (o : Open) (e : readingOf (s .rest .opening) t ≡ Readable h) (taken : handsOut s t ≡ false) where
     abbrev pub turn : Turn
     turn = turned s h (length t - h .len)
 
     pasted : bufferOf s buffer t ≡ paste buffer (turn .at) (drop (h .len) t) (turn .len)
     unfolding tookBuffer
-    pasted = bare o ∙ rw e
+    pasted = bare o ∙ rw (taken, e)
 
     -- a frame with a fault up to and with this transfer: nothing
     pub faulted-writes-nothing : turn .len ≡ 0 → bufferOf s buffer t ≡ buffer

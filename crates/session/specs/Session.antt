@@ -16,9 +16,11 @@ use Rattle.frames.specs.declared.Phase.the-variants.{Fresh}
 use Rattle.frames.specs.declared.Ended.{Ended}
 use Rattle.frames.specs.declared.Fate.{Fate}
 use Rattle.frames.specs.declared.Answer.{Answer}
+use Rattle.frames.specs.declared.Out.{Out}
+use Rattle.frames.specs.Track.{handing}
 use Rattle.ledger.specs.declared.Ledger.{Ledger}
 use Rattle.ledger.specs.Entry.{Entry}
-use Rattle.ledger.specs.Ledger.{noLedger, postOf, endedOf, answeredOf}
+use Rattle.ledger.specs.Ledger.{noLedger, postOf, endedOf, fatedOf, answeredOf}
 use Rattle.session.specs.declared.Session.{Session}
 use Rattle.session.specs.declared.Start.{Start}
 use Rattle.session.specs.declared.Opened.{Opened}
@@ -29,7 +31,7 @@ use Rattle.session.specs.declared.Reported.{Reported}
 use Rattle.session.specs.declared.Closing.{Closing}
 use Rattle.session.specs.declared.Closed.{Closed}
 use Rattle.session.specs.Refusals.{openingFlags, postedOf, closeRows, lostRows, takeRows}
-use Rattle.frames.specs.Inner.{turnOf, idleTurn, unreadTurn, spoiltOf, closedOf}
+use Rattle.frames.specs.Inner.{turnOf, handsOf, outOf, idleTurn, unreadTurn, spoiltOf, closedOf}
 
 -- OPEN: a session with no transfer taken and a fresh ledger
 abbrev pub newSession : Opening → Bool → Session
@@ -44,7 +46,7 @@ fresh o = newSession o false
 
 -- what a refused opening gives: closed, with no sizes, so that every call refuses it by 50
 abbrev pub noSession : Session
-noSession = newSession (record { frame = 0; payload = 0 }) true
+noSession = newSession (record { frame = 0; payload = 0; framing = 0 }) true
 
 abbrev pub openBy : ℕ → Opening → Opened
 openBy zero o = record { session = fresh o; start = Start.Open }
@@ -101,16 +103,58 @@ tookBufferBy (Readable h) s buffer t = readBuffer s h buffer t
 unfoldable pub tookBuffer : Session → List ℕ → List ℕ → List ℕ
 tookBuffer s buffer t = tookBufferBy (readingOf (s .rest .opening) t) s buffer t
 
--- refused, and everything as it was; or taken
+-- HAND-OUT (document 02, Two): with D1 of the framing byte clear, a readable transfer of the other FID is not taken before the frame under way is handed out, if
+-- that has no fault and has data
+abbrev pub handsFor : Reading → Session → Bool
+handsFor Idle s = false
+handsFor (Unreadable k) s = false
+handsFor (Readable h) s = handsOf (s .rest .opening) (s .rest .track) h
+
+unfoldable pub handsOut : Session → List ℕ → Bool
+handsOut s t = handsFor (readingOf (s .rest .opening) t) s
+
+-- the frame is entered at once, and nothing else changes: not the transfers taken, not the headers, no byte of the buffer
+abbrev pub passedOf : Session → Out → Ledger → Session
+passedOf s x l =
+    record {
+      rest = record { opening = s .rest .opening; closed = s .rest .closed; taken = s .rest .taken; track = x .track; last = l .last };
+      numbers = l .numbers;
+    }
+
+abbrev pub enteredOut : Session → Out → Ledger
+enteredOut s x = fatedOf (postedOf s) (handing (x .frame .still) (x .frame .delivery)) (x .frame .delivery .len)
+
+abbrev pub handedBy : Session → Out → Taken
+handedBy s x = record { session = passedOf s x (enteredOut s x); outcome = Outcome.Handed (x .frame) }
+
+unfoldable pub handedOf : Session → Taken
+handedOf s = handedBy s (outOf (s .rest .track))
+
+-- a transfer that nothing refuses: a frame is handed out, or it is taken
+abbrev pub metBy : Bool → Session → List ℕ → Taken
+metBy true s t = handedOf s
+metBy false s t = tookOf s t
+
+abbrev pub metOf : Session → List ℕ → Taken
+metOf s t = metBy (handsOut s t) s t
+
+abbrev pub metBufferBy : Bool → Session → List ℕ → List ℕ → List ℕ
+metBufferBy true s buffer t = buffer
+metBufferBy false s buffer t = tookBuffer s buffer t
+
+abbrev pub metBuffer : Session → List ℕ → List ℕ → List ℕ
+metBuffer s buffer t = metBufferBy (handsOut s t) s buffer t
+
+-- refused, and everything as it was; or not
 abbrev pub takeBy : ℕ → Session → List ℕ → Taken
-takeBy zero s t = tookOf s t
+takeBy zero s t = metOf s t
 takeBy (suc k) s t = record { session = s; outcome = Outcome.Refused (suc k) }
 
 unfoldable pub takeOf : Session → ℕ → List ℕ → Taken
 takeOf s room t = takeBy (firstRow (takeRows s room (length t))) s t
 
 abbrev pub bufferBy : ℕ → Session → List ℕ → List ℕ → List ℕ
-bufferBy zero s buffer t = tookBuffer s buffer t
+bufferBy zero s buffer t = metBuffer s buffer t
 bufferBy (suc k) s buffer t = buffer
 
 unfoldable pub bufferOf : Session → List ℕ → List ℕ → List ℕ

@@ -8,11 +8,12 @@ ghost use lib.ListN.{length};
 ghost use Rattle.ledger.specs.Accounts.{numberCount};
 ghost use Rattle.rule_50.specs.Rule50.{transferMost};
 ghost use Rattle.session.specs.Refusals.{takenMost, ledgerOf};
-ghost use Rattle.session.specs.Session.{openOf, newSession, readOf, readBuffer, tookOf, tookBuffer, takeOf, bufferOf, lostOf, closeOf};
+ghost use Rattle.session.specs.Session.{openOf, newSession, readOf, readBuffer, handedOf, metOf, metBuffer, takeOf, bufferOf, lostOf, closeOf};
 ghost use Rattle.session.specs.Inner.{wholeOf, countedRest, takenWith, reportedWith, closedWith, Ready};
 use frames::Answer;
 use frames::Ended;
 use frames::Fate;
+use frames::HandOut;
 use frames::Phase;
 use frames::Track;
 use ledger::Account;
@@ -56,6 +57,8 @@ pub enum Outcome {
     // 50, 53, 52, 51 or 55.
     Refused(u8),
     Taken(Answer),
+    // With D1 of the framing byte clear: the frame under way is handed out, its bytes stand at the buffer's start, and the transfer is not taken. Offer it again.
+    Handed(HandOut),
 }
 
 pub struct Taken {
@@ -123,7 +126,7 @@ fn with(opening: Opening, closed: bool) -> Session
 }
 
 impl Session {
-    // Opens a session on the negotiated sizes, with the buffer that frames will be written to.
+    // Opens a session on the negotiated sizes and framing byte, with the buffer that frames will be written to.
     // A refused opening gives a closed session with no sizes, which every call refuses by 50.
     pub fn open(o: Opening, buffer: &[u8]) -> Opened
         ensures { λ r. ⌜ r ≡ openOf o (length (now (buffer .entry))) ⌝ }
@@ -134,6 +137,7 @@ impl Session {
                 Opening {
                     frame: 0,
                     payload: 0,
+                    framing: 0,
                 },
                 true,
             );
@@ -162,7 +166,7 @@ impl Session {
         l.shown(p)
     }
 
-    // Takes one transfer. A refused call changes no byte of the buffer and gives the session back as it was.
+    // Takes one transfer, or hands out the frame that it would end by its FID alone. A refused call changes no byte of the buffer and gives the session back as it was.
     pub fn take(self, buffer: &mut [u8], t: &[u8]) -> Taken
         ensures { λ r. ⌜ r ≡ takeOf self (length (now (buffer .entry))) (now (t .entry)) ⌝ }
         ensures { λ _. ⌜ now (buffer .exit) ≡ bufferOf self (now (buffer .entry)) (now (t .entry)) ⌝ }
@@ -269,11 +273,37 @@ impl Rest {
         }
     }
 
+    // Hands out the frame under way: it is entered at once, and nothing else changes.
+    fn handed(self, m: &mut Numbers) -> RestTaken
+        requires { ⌜ Ready (wholeOf self (now m)) ⌝ }
+        ensures { λ r. ⌜ takenWith r (now (m .exit)) ≡ handedOf (wholeOf self (now (m .entry))) ⌝ }
+    {
+        let track = self.track;
+        let out = track.hand_out();
+        let frame = out.frame;
+        let fate = frames::fate_for(frame);
+        let d = frame.delivery;
+        let was = self.last;
+        let last = Ledger::fated(m, was, fate, d.len);
+        let opening = self.opening;
+        let next = out.track;
+        RestTaken {
+            rest: Rest {
+                opening,
+                closed: self.closed,
+                taken: self.taken,
+                track: next,
+                last,
+            },
+            outcome: Outcome::Handed(frame),
+        }
+    }
+
     // A transfer that nothing refuses.
-    fn took(self, m: &mut Numbers, buffer: &mut [u8], t: &[u8]) -> RestTaken
+    fn met(self, m: &mut Numbers, buffer: &mut [u8], t: &[u8]) -> RestTaken
         requires { ⌜ (Ready (wholeOf self (now m))) × (self .opening .frame ≤ length (now buffer)) × (length (now t) ≤ transferMost) ⌝ }
-        ensures { λ r. ⌜ takenWith r (now (m .exit)) ≡ tookOf (wholeOf self (now (m .entry))) (now (t .entry)) ⌝ }
-        ensures { λ _. ⌜ now (buffer .exit) ≡ tookBuffer (wholeOf self (now (m .entry))) (now (buffer .entry)) (now (t .entry)) ⌝ }
+        ensures { λ r. ⌜ takenWith r (now (m .exit)) ≡ metOf (wholeOf self (now (m .entry))) (now (t .entry)) ⌝ }
+        ensures { λ _. ⌜ now (buffer .exit) ≡ metBuffer (wholeOf self (now (m .entry))) (now (buffer .entry)) (now (t .entry)) ⌝ }
     {
         let o = self.opening;
         let track = self.track;
@@ -300,7 +330,12 @@ impl Rest {
                     }),
                 }
             }
-            Reading::Readable(h) => self.read(m, buffer, t, h),
+            Reading::Readable(h) => {
+                if track.hands(o, h) {
+                    return self.handed(m);
+                }
+                self.read(m, buffer, t, h)
+            }
         }
     }
 
@@ -319,7 +354,7 @@ impl Rest {
                 outcome: Outcome::Refused(number),
             };
         }
-        self.took(m, buffer, t)
+        self.met(m, buffer, t)
     }
 
     // Inner: the host reports a lost transfer.

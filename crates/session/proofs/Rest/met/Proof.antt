@@ -2,12 +2,12 @@ use mathlib.Core.List.{[]}
 use denote.Ref.{now}
 use Rattle.ledger.proofs.Rooms.{room-up}
 use Rattle.session.specs.Inner.{wholeOf}
-use Rattle.session.proofs.Calls.{took-idle, took-unreadable, took-readable, header-within}
+use Rattle.session.proofs.Calls.{handed-out, took-idle, took-unreadable, took-readable, header-within}
 use Rattle.session.proofs.Ready.{ready-able}
 use native.Mathlib.Omega.{arith}
 use borrow.Author.Needs.{needs}
-use Rattle.session.proofs.Rest.took.Statement.{statement}
-use Rattle.session.proofs.Rest.took.Tie as tie
+use Rattle.session.proofs.Rest.met.Statement.{statement}
+use Rattle.session.proofs.Rest.met.Tie as tie
 
 read-requires : tie.Need-read-requires
 read-requires c κs = search needs
@@ -42,23 +42,35 @@ counted-requires-2 c κs = search needs
 enum-known-reading-2 : tie.Need-enum-known-reading-2
 enum-known-reading-2 c = search needs
 
-read-requires-2 : tie.Need-read-requires-2
-read-requires-2 c κs =
-    let s = c .before .before .before .before .before .before .before .before .before .before in (
-      s .pre .0,
-      s .pre .1,
-      s .pre .2,
-      header-within (s .args .self) [] [] (now (s .args .t)) _ _ (c .before .before .before .before .before .read .ensures) (c .before .before .before .reading2 .given .1),
-    )
+hands-requires : tie.Need-hands-requires
+hands-requires c κs = search needs
+
+handed-requires : tie.Need-handed-requires
+handed-requires c κs = search needs
 
 returns : tie.Need-returns
 returns c =
+    let s = c .before .before .before .before .before .before .before .before .before .before .before .before in
+    handed-out (s .args .self) (now (s .args .m)) (now (s .args .buffer)) (now (s .args .t)) _ _ _ _ (c .before .before .before .before .before .before .before .read .ensures)
+    (c .before .before .before .before .before .reading2 .given .1) (c .before .before .before .hands .ensures) (c .before .before .if1 .taken) (c .handed .ensures)
+
+read-requires-2 : tie.Need-read-requires-2
+read-requires-2 c κs =
+    let s = c .before .before .before .before .before .before .before .before .before .before .before .before in (
+      s .pre .0,
+      s .pre .1,
+      s .pre .2,
+      header-within (s .args .self) [] [] (now (s .args .t)) _ _ (c .before .before .before .before .before .before .before .read .ensures) (c .before .before .before .before .before .reading2 .given .1),
+    )
+
+returns-2 : tie.Need-returns-2
+returns-2 c =
     let s = c .before .before .before .before .before .before .before .before .before .before in
     took-idle (s .args .self) (now (s .args .m)) (now (s .args .buffer)) (now (s .args .t)) _ _ _ _ (c .before .before .before .before .before .read .ensures)
     (c .before .before .before .enum-told .given .1) (c .before .fated .ensures) (c .counted .ensures)
 
-returns-2 : tie.Need-returns-2
-returns-2 c =
+returns-3 : tie.Need-returns-3
+returns-3 c =
     let s = c .before .before .before .before .before .before .before .before .before .before .before .before in
     took-unreadable (s .args .self) (now (s .args .m)) (now (s .args .buffer)) (now (s .args .t)) _ _ _ _ _ _ (c .before .before .before .before .before .before .before .read .ensures)
     (c .before .before .before .before .before .reading .given .1) (c .before .before .fated2 .ensures) (c .before .spoilt .ensures) (c .counted2 .ensures)
@@ -66,14 +78,14 @@ returns-2 c =
 same-length : tie.Need-same-length
 same-length c = search needs
 
-returns-3 : tie.Need-returns-3
-returns-3 c =
-    let s = c .before .before .before .before .before .before .before .before .before .before .before .before .before in
-    took-readable (s .args .self) (now (s .args .m)) (now (s .args .buffer)) (now (s .args .t)) _ _ _ _ (c .before .before .before .before .before .before .before .before .read .ensures)
-    (c .before .before .before .before .before .before .reading2 .given .1) (c .before .before .read2 .ensures .0) (c .before .before .read2 .ensures .1)
+returns-4 : tie.Need-returns-4
+returns-4 c =
+    let s = c .before .before .before .before .before .before .before .before .before .before .before .before .before .before .before in
+    took-readable (s .args .self) (now (s .args .m)) (now (s .args .buffer)) (now (s .args .t)) _ _ _ _ _ (c .before .before .before .before .before .before .before .before .before .before .read .ensures)
+    (c .before .before .before .before .before .before .before .before .reading2 .given .1) (c .before .before .before .before .before .before .hands .ensures) (c .before .before .before .before .before .if1 .left) (c .before .before .read2 .ensures .0) (c .before .before .read2 .ensures .1)
 
-pub took-spec : {M : Type 1} → statement M
-took-spec =
+pub met-spec : {M : Type 1} → statement M
+met-spec =
     tie.close
     (tie.spec
     read-requires
@@ -85,8 +97,11 @@ took-spec =
     spoilt-requires
     counted-requires-2
     enum-known-reading-2
-    read-requires-2
+    hands-requires
+    handed-requires
     returns
+    read-requires-2
     returns-2
+    returns-3
     same-length
-    returns-3)
+    returns-4)
