@@ -20,13 +20,14 @@ use Rattle.frames.specs.declared.Ended.{Ended}
 use Rattle.frames.specs.declared.Ended.the-variants.{Nothing, Frame}
 use Rattle.frames.specs.declared.Fate.{Fate}
 use Rattle.frames.specs.declared.Turn.{Turn}
-use Rattle.frames.specs.Track.{underCount, underBytes}
+use Rattle.frames.specs.declared.HandOut.{HandOut}
+use Rattle.frames.specs.Track.{underCount, underBytes, handing}
 use Rattle.ledger.specs.Entry.{Entry}
 use Rattle.ledger.specs.Ledger.{noLedger}
 use Rattle.session.specs.declared.Session.{Session}
 use Rattle.session.specs.Refusals.{postedOf, ledgerOf}
 use Rattle.session.specs.Session.{fresh}
-use Rattle.books.specs.Rule.{Event, idle, unreadable, missing, readable, events, Item, entryOf, framesBy, loose, entries, lostLine, idleLine, oneIn, partIn, total, stamps, untimed, forward, back, between}
+use Rattle.books.specs.Rule.{Event, idle, unreadable, missing, readable, mark, events, Item, entryOf, framesBy, loose, entries, lostLine, idleLine, oneIn, partIn, total, stamps, untimed, forward, back, between}
 use Rattle.books.specs.Demands.{Right, endedItems, fateItems}
 use Rattle.books.proofs.Made.{base, turnItems}
 use Rattle.books.proofs.Posts.{posts-sized, since, stampIn, gain, place-law, step-law, count-gain, bytes-gain, single-gain, total-append}
@@ -35,7 +36,7 @@ use Rattle.books.proofs.History.{itemsBy, callItems, dataNext, items, d
 use Rattle.ledger.specs.Accounts.{accountCount, numberCount, underAt, accountFor, placeOf, countAt, bytesAt, lostAt, idleAt, ticksAt, backwardAt, untimedAt}
 use Rattle.ledger.proofs.Places.{at, Sized, place-lt, shown-other, shown-single, shown-count, shown-bytes}
 use Rattle.ledger.proofs.Rooms.{not-under-way}
-use Rattle.frames.specs.Inner.{turnOf, closedOf}
+use Rattle.frames.specs.Inner.{turnOf, outBy, closedOf}
 use Rattle.session.specs.Call.{Call}
 use Rattle.session.specs.Calls.{nextCall, run}
 
@@ -80,6 +81,9 @@ module _ (m : Entry → ℕ) (none : (e : Entry) → Settled e → m e ≡ 0) wh
       go (Unreadable k) = refl
       go (Readable h) = turn-none (turnOf (s .rest .opening) (s .rest .track) h (length t - h .len)) D (base (s .rest .track .phase) (h .fid) D ++ drop (h .len) t)
   call-none s D Call.lost = refl
+  call-none s D Call.handed =
+      let x : HandOut = outBy (s .rest .track .phase) false .frame in
+      fate-none (handing (x .still) (x .delivery)) (x .delivery .len) D
   call-none s D Call.close = ended-none (closedOf (s .rest .track) .ended) (closedOf (s .rest .track) .gone) D
 
   items-none : (cs : List Call) (s : Session) (D : List ℕ) → total m (map entryOf (items s D cs)) ≡ 0
@@ -92,9 +96,10 @@ module _ (m : Entry → ℕ) (none : (e : Entry) → Settled e → m e ≡ 0) wh
   loose-none (unreadable n ∷ es) = rw (none (Entry.Unreadable n) tt) (zero-add _ ∙ loose-none es)
   loose-none (missing ∷ es) = rw (none Entry.Lost tt) (zero-add _ ∙ loose-none es)
   loose-none (readable h d ∷ es) = rw (none (Entry.Headers (h .len)) tt) (zero-add _ ∙ loose-none es)
+  loose-none (mark ∷ es) = loose-none es
 
 -- ---- the rule's entries are those that were posted, and the frame under way
-module _ (o : Opening) (cs : List Call) (p : Proper cs) where
+module _ (o : Opening) (cs : List Call) (p : Proper (fresh o) cs) where
   abbrev end : Session
   end = run (fresh o) cs
 
@@ -174,7 +179,7 @@ part-settled Entry.Lost h = refl
 part-settled Entry.Idle h = refl
 
 -- the account with the place k
-module _ (o : Opening) (cs : List Call) (p : Proper cs) (k : ℕ) (h : k < accountCount) where
+module _ (o : Opening) (cs : List Call) (p : Proper (fresh o) cs) (k : ℕ) (h : k < accountCount) where
   pub count-right : at (countAt k) (ledgerOf (end o cs p)) ≡ total (oneIn k) (entries o cs)
   count-right = go (eqb underAt k) refl
     where
@@ -220,13 +225,14 @@ loose-stamped (idle ∷ es) = loose-stamped es
 loose-stamped (unreadable n ∷ es) = loose-stamped es
 loose-stamped (missing ∷ es) = loose-stamped es
 loose-stamped (readable h d ∷ es) = loose-stamped es
+loose-stamped (mark ∷ es) = loose-stamped es
 
 afoot-stamped : (ph : Phase) (D : List ℕ) → stamps (map entryOf (afoot ph D)) ≡ []
 afoot-stamped Fresh D = refl
 afoot-stamped (Past f) D = refl
 afoot-stamped (Under x) D = refl
 
-module _ (o : Opening) (cs : List Call) (p : Proper cs) where
+module _ (o : Opening) (cs : List Call) (p : Proper (fresh o) cs) where
   entries-stamps : stamps (entries o cs) ≡ stamps (map entryOf (made o cs p))
   entries-stamps =
       stamps-append (map entryOf (framesBy o cs)) (loose (events o cs))

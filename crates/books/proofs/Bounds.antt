@@ -20,7 +20,7 @@ use Rattle.frames.specs.declared.Fault.the-variants.{Sound, Bad}
 use Rattle.ledger.specs.declared.Account.{Account}
 use Rattle.ledger.specs.Accounts.{placeOf, accountFor}
 use Rattle.ledger.specs.Entry.{Entry}
-use Rattle.books.specs.Rule.{Event, idle, unreadable, missing, readable, events, isOpen, Seen, readables, runs, frameOf, strayOf, complete, dataOf, firstStamp, stillOf, fault, Item, handedOut, verdict, strays, judge, nothing, judged, framesOf, framesBy, loose, entryOf, entries, lineOf, bytesIn, oneIn, partIn, total, stampList, stampsOf, stamps, noStamp, untimed, step, forward, back, between, received}
+use Rattle.books.specs.Rule.{Event, idle, unreadable, missing, readable, mark, events, isOpen, Seen, readables, runs, closes, frameOf, strayOf, complete, dataOf, firstStamp, stillOf, fault, Item, handedOut, verdict, strays, judge, nothing, judged, framesOf, framesBy, loose, entryOf, entries, lineOf, bytesIn, oneIn, partIn, total, stampList, stampsOf, stamps, noStamp, untimed, step, forward, back, between, received}
 use Rattle.books.proofs.Runs.{runs-concat, runs-longest}
 use Rattle.books.proofs.Posts.{total-append}
 use Rattle.books.proofs.History.{map-append, stamps-append}
@@ -71,18 +71,18 @@ strays-length : (ts : List Seen) → length (strays ts) ≡ length ts
 strays-length [] = refl
 strays-length (t ∷ ts) = ap suc (strays-length ts)
 
-stray-le : (ts : List Seen) → length (strayOf ts) ≤ length ts
-stray-le [] = omega arith
-stray-le (t ∷ ts) = go (t .header .eof) (stray-le ts)
+stray-le : (o : Opening) (ts : List Seen) → length (strayOf o ts) ≤ length ts
+stray-le o [] = omega arith
+stray-le o (t ∷ ts) = go (closes o t) (stray-le o ts)
   where
-    go : (b : Bool) → length (strayOf ts) ≤ length ts → length (cond b ts (strayOf ts)) ≤ suc (length ts)
+    go : (b : Bool) → length (strayOf o ts) ≤ length ts → length (cond b ts (strayOf o ts)) ≤ suc (length ts)
     go true h = omega arith
     go false h = omega arith
 
-stray-lt : (t : Seen) (ts : List Seen) → length (strayOf (t ∷ ts)) ≤ length ts
-stray-lt t ts = go (t .header .eof) (stray-le ts)
+stray-lt : (o : Opening) (t : Seen) (ts : List Seen) → length (strayOf o (t ∷ ts)) ≤ length ts
+stray-lt o t ts = go (closes o t) (stray-le o ts)
   where
-    go : (b : Bool) → length (strayOf ts) ≤ length ts → length (cond b ts (strayOf ts)) ≤ length ts
+    go : (b : Bool) → length (strayOf o ts) ≤ length ts → length (cond b ts (strayOf o ts)) ≤ length ts
     go true h = omega arith
     go false h = h
 
@@ -90,24 +90,18 @@ judged-length : (o : Opening) (p : Bool) (rs : List (List Seen)) → Longest rs 
 judged-length o p [] h = omega arith
 judged-length o p ([] ∷ rs) h = absurd h
 judged-length o p ((t ∷ ts) ∷ rs) h =
-    omega (arith, judged-length o p rs (h .2), stray-lt t ts, strays-length (strayOf (t ∷ ts)), length-append ts (concat rs), length-append (judge o (p && nothing rs) (t ∷ ts)) (judged o p rs))
+    omega (arith, judged-length o p rs (h .2), stray-lt o t ts, strays-length (strayOf o (t ∷ ts)), length-append ts (concat rs), length-append (judge o p (nothing rs) (t ∷ ts)) (judged o p rs))
 
-readable-length : (b : Bool) (es : List Event) → length (readables b es) ≤ length es
+readable-length : (b : Bool) (es : List Event) → length (readables b es) ≤ length (loose es)
 readable-length b [] = omega arith
 readable-length b (idle ∷ es) = omega (arith, readable-length b es)
 readable-length b (unreadable n ∷ es) = omega (arith, readable-length true es)
 readable-length b (missing ∷ es) = omega (arith, readable-length true es)
 readable-length b (readable h d ∷ es) = omega (arith, readable-length false es)
+readable-length b (mark ∷ es) = readable-length b es
 
-frames-length : (o : Opening) (p : Bool) (es : List Event) → length (framesOf o p es) ≤ length es
+frames-length : (o : Opening) (p : Bool) (es : List Event) → length (framesOf o p es) ≤ length (loose es)
 frames-length o p es = le-trans (judged-length o p (runs (readables false es)) (runs-longest (readables false es))) (rw runs-concat (readable-length false es))
-
-loose-length : (es : List Event) → length (loose es) ≡ length es
-loose-length [] = refl
-loose-length (idle ∷ es) = ap suc (loose-length es)
-loose-length (unreadable n ∷ es) = ap suc (loose-length es)
-loose-length (missing ∷ es) = ap suc (loose-length es)
-loose-length (readable h d ∷ es) = ap suc (loose-length es)
 
 -- ---- a frame's line is below the first of a loose entry
 abbrev looseLine : ℕ
@@ -148,12 +142,12 @@ module _ (k : ℕ) where
   judged-none : looseLine ≤ k → (o : Opening) (p : Bool) (rs : List (List Seen)) → inItems (judged o p rs) ≡ 0
   judged-none h o p [] = refl
   judged-none h o p (r ∷ rs) =
-      let f : List Seen = frameOf r in
-      let v : Entry = verdict (p && nothing rs) (complete f) (fault o f) (firstStamp f) (stillOf f) (length (dataOf f)) in
-      let l = verdict-low (p && nothing rs) (complete f) (fault o f) (firstStamp f) (stillOf f) (length (dataOf f)) in
-      ap (total (oneIn k)) (map-append (judge o (p && nothing rs) r) (judged o p rs))
-      ∙ total-append (oneIn k) (map entryOf (judge o (p && nothing rs) r)) (map entryOf (judged o p rs))
-      ∙ omega (arith, one-none k v (λ z. omega arith), strays-none h (strayOf r), judged-none h o p rs)
+      let f : List Seen = frameOf o r in
+      let v : Entry = verdict (p && nothing rs) (complete o (nothing rs) f) (fault o f) (firstStamp f) (stillOf f) (length (dataOf f)) in
+      let l = verdict-low (p && nothing rs) (complete o (nothing rs) f) (fault o f) (firstStamp f) (stillOf f) (length (dataOf f)) in
+      ap (total (oneIn k)) (map-append (judge o p (nothing rs) r) (judged o p rs))
+      ∙ total-append (oneIn k) (map entryOf (judge o p (nothing rs) r)) (map entryOf (judged o p rs))
+      ∙ omega (arith, one-none k v (λ z. omega arith), strays-none h (strayOf o r), judged-none h o p rs)
 
   loose-low : k < looseLine → (es : List Event) → total (oneIn k) (loose es) ≡ 0
   loose-low h [] = refl
@@ -161,11 +155,12 @@ module _ (k : ℕ) where
   loose-low h (unreadable n ∷ es) = rw (one-none k (Entry.Unreadable n) (λ z. omega arith)) (zero-add _ ∙ loose-low h es)
   loose-low h (missing ∷ es) = rw (one-none k Entry.Lost (λ z. omega arith)) (zero-add _ ∙ loose-low h es)
   loose-low h (readable g d ∷ es) = rw (one-none k (Entry.Headers (g .len)) (λ z. omega arith)) (zero-add _ ∙ loose-low h es)
+  loose-low h (mark ∷ es) = loose-low h es
 
--- ---- the bounds
+-- ---- the bounds, by the transfers taken: each has one loose entry, and a mark has none
 module _ (o : Opening) (cs : List Call) where
   abbrev pub heard : ℕ
-  heard = length (events o cs)
+  heard = length (loose (events o cs))
 
   split : (m : Entry → ℕ) → total m (entries o cs) ≡ total m (map entryOf (framesBy o cs)) + total m (loose (events o cs))
   split m = total-append m (map entryOf (framesBy o cs)) (loose (events o cs))
@@ -175,7 +170,7 @@ module _ (o : Opening) (cs : List Call) where
       omega (arith, total-le m (λ x. 1) (map entryOf (framesBy o cs)) h, total-one (map entryOf (framesBy o cs)), length-map (framesBy o cs) entryOf, frames-length o (isOpen cs) (events o cs))
 
   in-loose : (m : Entry → ℕ) → ((x : Entry) → m x ≤ 1) → total m (loose (events o cs)) ≤ heard
-  in-loose m h = omega (arith, total-le m (λ x. 1) (loose (events o cs)) h, total-one (loose (events o cs)), loose-length (events o cs))
+  in-loose m h = omega (arith, total-le m (λ x. 1) (loose (events o cs)) h, total-one (loose (events o cs)))
 
   pub count-bound : (k : ℕ) → total (oneIn k) (entries o cs) ≤ heard
   count-bound k =
@@ -189,6 +184,7 @@ module _ (o : Opening) (cs : List Call) where
   loose-timed (unreadable n ∷ es) = zero-add _ ∙ loose-timed es
   loose-timed (missing ∷ es) = zero-add _ ∙ loose-timed es
   loose-timed (readable h d ∷ es) = zero-add _ ∙ loose-timed es
+  loose-timed (mark ∷ es) = loose-timed es
 
   pub untimed-bound : total untimed (entries o cs) ≤ heard
   untimed-bound = omega (arith, split untimed, loose-timed (events o cs), in-frames untimed untimed-le)
@@ -239,12 +235,12 @@ module _ (o : Opening) (cs : List Call) where
   framed : stamps (entries o cs) ≡ stamps (map entryOf (framesBy o cs))
   framed = stamps-append (map entryOf (framesBy o cs)) (loose (events o cs)) ∙ ap (stamps (map entryOf (framesBy o cs)) ++_) (loose-stamped (events o cs)) ∙ append-nil _
 
-  stamped : length (stamps (entries o cs)) ≤ length (events o cs)
+  stamped : length (stamps (entries o cs)) ≤ heard o cs
   stamped =
       rw framed (omega (arith, stamps-length (map entryOf (framesBy o cs)), length-map (framesBy o cs) entryOf, frames-length o (isOpen cs) (events o cs)))
 
-  pub ticks-bound : between forward (stamps (entries o cs)) ≤ 2 ^ 31 * length (events o cs)
+  pub ticks-bound : between forward (stamps (entries o cs)) ≤ 2 ^ 31 * heard o cs
   ticks-bound = omega (arith, between-le forward (2 ^ 31) forward-le (stamps (entries o cs)), stamped)
 
-  pub backward-bound : between back (stamps (entries o cs)) ≤ length (events o cs)
+  pub backward-bound : between back (stamps (entries o cs)) ≤ heard o cs
   backward-bound = omega (arith, between-le back 1 back-le (stamps (entries o cs)), stamped)

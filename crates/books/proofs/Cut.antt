@@ -1,13 +1,14 @@
 -- The first run, and what is left of the list after it; and the rule on a list whose first run is part read.
 use Prim.Native.Nat.{ℕ, _+_}
 use mathlib.Core.Path.{_≡_, refl, sym, _∙_, ap}
-use mathlib.Core.Bool.{Bool, true, false, cond, not, _&&_, Bool·beq}
+use mathlib.Core.Bool.{Bool, true, false, cond, not, _&&_, _||_, Bool·beq}
 use mathlib.Core.List.{List, [], _∷_, _++_, append-assoc, append-nil}
 use lib.ListN.{length, length-append}
 use lib.Dec.{ltb, eqb}
 use borrow.Author.Tests.{eq-eqb}
 use Rattle.rules.specs.Pick.{pick}
 use Rattle.sizes.specs.declared.Opening.{Opening}
+use Rattle.sizes.specs.Framing.{byEof}
 use Rattle.payload.specs.declared.Header.{Header}
 use Rattle.payload.specs.declared.Stamp.{Stamp}
 use Rattle.payload.specs.declared.Stamp.the-variants.{Absent, At}
@@ -21,9 +22,9 @@ use Rattle.frames.specs.declared.Phase.the-variants.{Fresh, Under, Past}
 use Rattle.frames.specs.declared.Fate.{Fate}
 use Rattle.frames.specs.declared.Delivery.{Delivery}
 use Rattle.ledger.specs.Entry.{Entry}
-use Rattle.books.specs.Rule.{Seen, ahead, runs, frameOf, strayOf, complete, dataOf, _orStamp_, firstStamp, _or_, when, differs, mixes, faultAt, faultFrom, Item, handedOut, settled, strays, nothing, judged}
+use Rattle.books.specs.Rule.{Seen, ahead, runs, frameOf, strayOf, closed, dataOf, _orStamp_, firstStamp, _or_, when, differs, mixes, faultAt, faultFrom, Item, handedOut, settled, strays, nothing, judged}
 use Rattle.books.specs.Demands.{fateItems}
-use Rattle.frames.specs.Inner.{firstOf, clashOf, earlierOf, sameOf, mixedOf, faultOf, joinedOf, completeOf, fateOf, phaseOf}
+use Rattle.frames.specs.Inner.{firstOf, clashOf, earlierOf, sameOf, mixedOf, faultOf, joinedOf, completeOf, endsOf, fateOf, phaseOf}
 
 abbrev pub first : Bool → List Seen → List Seen
 first f [] = []
@@ -45,20 +46,28 @@ runs-cut t (u ∷ us) = ap (ahead t) (runs-cut u us) ∙ go (t .header .fid) (u 
     go true false e = ap ((t ∷ []) ∷_) (sym e)
     go false true e = ap ((t ∷ []) ∷_) (sym e)
 
+-- of the rest of a run, what belongs to the frame part read, and what is stray: m is whether a mark closes what is read
+abbrev pub restOf : Opening → Bool → List Seen → List Seen
+restOf o m r = cond m [] (frameOf o r)
+
+abbrev pub pastOf : Opening → Bool → List Seen → List Seen
+pastOf o m r = cond m r (strayOf o r)
+
 -- what is owed of a frame part read: its fault so far q, its data so far D, its first stamp s, its still bit b; r is the rest of its run, rs the runs after it
-abbrev pub cont : Opening → Bool → Fault → List ℕ → Stamp → Bool → List Seen → List (List Seen) → List Item
-cont o p q D s b r rs =
-    settled (p && nothing rs) (complete (frameOf r)) (q or faultFrom o (s orStamp firstStamp (frameOf r)) b (length D) (frameOf r)) (s orStamp firstStamp (frameOf r)) b (D ++ dataOf (frameOf r))
-    ∷ (strays (strayOf r) ++ judged o p rs)
+abbrev pub cont : Opening → Bool → Fault → List ℕ → Stamp → Bool → Bool → List Seen → List (List Seen) → List Item
+cont o p q D s b m r rs =
+    settled (p && nothing rs) ((m || closed o (restOf o m r)) || (not (byEof o) && not (nothing rs)))
+    (q or faultFrom o (s orStamp firstStamp (restOf o m r)) b (length D) (restOf o m r)) (s orStamp firstStamp (restOf o m r)) b (D ++ dataOf (restOf o m r))
+    ∷ (strays (pastOf o m r) ++ judged o p rs)
 
 abbrev pub pass : Opening → Bool → List Seen → List (List Seen) → List Item
 pass o p r rs = strays r ++ judged o p rs
 
--- the same by phase: a is whether an unreadable or lost transfer comes before the next readable one
-abbrev pub onward : Opening → Bool → Phase → Bool → List ℕ → List Seen → List (List Seen) → List Item
-onward o p Fresh a D r rs = judged o p rs
-onward o p (Past f) a D r rs = pass o p r rs
-onward o p (Under x) a D r rs = cont o p (x .fault or when a Gap) D (x .stamp) (x .still) r rs
+-- the same by phase: a is whether an unreadable or lost transfer comes before the next readable one or mark, m whether a mark comes before the next readable one
+abbrev pub onward : Opening → Bool → Phase → Bool → Bool → List ℕ → List Seen → List (List Seen) → List Item
+onward o p Fresh a m D r rs = judged o p rs
+onward o p (Past f) a m D r rs = pass o p r rs
+onward o p (Under x) a m D r rs = cont o p (x .fault or when a Gap) D (x .stamp) (x .still) m r rs
 
 pub or-assoc : (x y z : Fault) → x or (y or z) ≡ (x or y) or z
 or-assoc Sound y z = refl
@@ -140,21 +149,34 @@ module _ (o : Opening) (p : Bool) (r : List Seen) (rs : List (List Seen)) where
       go false true = refl
       go false false = refl
 
-  -- one readable transfer of the frame's own run
-  pub take-law : (f v : Bool) (q : Fault) (n m : ℕ) (s : Stamp) (D : List ℕ) (k : ℕ) (g e j i : Bool) (st : Stamp) (d : List ℕ) (b a : Bool) → n ≡ length D
-      → let x : Run = record { fid = f; still = v; fault = q; bytes = n; fill = m; stamp = s } in
-      let h : Header = record { len = k; fid = g; eof = e; still = j; error = i; stamp = st } in
-      cont o p q D s v (record { header = h; load = d; before = b; after = a } ∷ r) rs
-      ≡ fateItems (fateOf e (joinedOf o x h (length d))) (n + length d) (D ++ d) ++ onward o p (phaseOf e (joinedOf o x h (length d))) a (D ++ d) r rs
-  take-law f v q n m s D k g false j i st d b a u =
-      let x : Run = record { fid = f; still = v; fault = q; bytes = n; fill = m; stamp = s } in
-      let h : Header = record { len = k; fid = g; eof = false; still = j; error = i; stamp = st } in
-      let z : Stamp = firstStamp (frameOf r) in
-      let S : Stamp = s orStamp (st orStamp z) in
-      rw (fault-or o x h (length d) z, earlier-or s st, ← stamp-assoc s st z, ← or-assoc (q or faultAt o S v n h (length d)) (when a Gap) _, ← or-assoc q (faultAt o S v n h (length d)) _, length-append D d, append-assoc D d _, u)
-  take-law f v q n m s D k g true j i st d b a u =
-      let x : Run = record { fid = f; still = v; fault = q; bytes = n; fill = m; stamp = s } in
-      let h : Header = record { len = k; fid = g; eof = true; still = j; error = i; stamp = st } in
-      let S : Stamp = s orStamp (st orStamp Absent) in
-      rw (fault-or o x h (length d) Absent, earlier-or s st, append-nil d, or-sound (faultAt o S v (length D) h (length d)), u, stamp-absent st)
-      (end-law (q or faultAt o (s orStamp st) v (length D) h (length d)) (s orStamp st) v (length D + length d) (D ++ d) (p && nothing rs) (strays r ++ judged o p rs) (sym (length-append D d)))
+  -- one readable transfer of the frame's own run; e is whether its EOF counts, m whether a mark comes after it
+  module _ (x : Run) (D : List ℕ) (h : Header) (d : List ℕ) (a m : Bool) (u : x .bytes ≡ length D) where
+    abbrev y : Run
+    y = joinedOf o x h (length d)
+
+    abbrev rest : Bool → List Seen
+    rest e = cond (e || m) [] (frameOf o r)
+
+    abbrev stamp : Bool → Stamp
+    stamp e = x .stamp orStamp (h .stamp orStamp firstStamp (rest e))
+
+    abbrev led : Bool → List Item
+    led e =
+        settled (p && nothing rs) (((e || m) || closed o (rest e)) || (not (byEof o) && not (nothing rs)))
+        (x .fault or (faultAt o (stamp e) (x .still) (length D) h (length d) or (when (not e && a) Gap or faultFrom o (stamp e) (x .still) (length D + length d) (rest e))))
+        (stamp e) (x .still) (D ++ (d ++ dataOf (rest e)))
+        ∷ (strays (cond (e || m) r (strayOf o r)) ++ judged o p rs)
+
+    by-eof : (e : Bool) → led e ≡ fateItems (fateOf e y) (x .bytes + length d) (D ++ d) ++ onward o p (phaseOf e y) a m (D ++ d) r rs
+    by-eof false =
+        let z : Stamp = firstStamp (restOf o m r) in
+        let S : Stamp = x .stamp orStamp (h .stamp orStamp z) in
+        rw (fault-or o x h (length d) z, earlier-or (x .stamp) (h .stamp), ← stamp-assoc (x .stamp) (h .stamp) z, u, ← or-assoc (x .fault or faultAt o S (x .still) (length D) h (length d)) (when a Gap) _, ← or-assoc (x .fault) (faultAt o S (x .still) (length D) h (length d)) _, length-append D d, append-assoc D d _)
+    by-eof true =
+        let S : Stamp = x .stamp orStamp (h .stamp orStamp Absent) in
+        rw (fault-or o x h (length d) Absent, earlier-or (x .stamp) (h .stamp), append-nil d, u, or-sound (faultAt o S (x .still) (length D) h (length d)), stamp-absent (h .stamp))
+        (end-law (x .fault or faultAt o (x .stamp orStamp h .stamp) (x .still) (length D) h (length d)) (x .stamp orStamp h .stamp) (x .still) (length D + length d) (D ++ d) (p && nothing rs) (strays r ++ judged o p rs) (sym (length-append D d)))
+
+    pub take-law : (b : Bool) → cont o p (x .fault) D (x .stamp) (x .still) false (record { header = h; load = d; before = b; after = a; marked = m } ∷ r) rs
+        ≡ fateItems (fateOf (endsOf o h) y) (x .bytes + length d) (D ++ d) ++ onward o p (phaseOf (endsOf o h) y) a m (D ++ d) r rs
+    take-law b = by-eof (endsOf o h)

@@ -12,84 +12,85 @@ use Rattle.frames.specs.declared.Reason.the-variants.{Gap}
 use Rattle.frames.specs.declared.Fault.{Fault}
 use Rattle.frames.specs.declared.Fault.the-variants.{Sound, Bad}
 use Rattle.rules.proofs.Rows.{or-second}
-use Rattle.books.specs.Rule.{Seen, frameOf, strayOf, complete, dataOf, _orStamp_, firstStamp, stillOf, _or_, when, faultAt, gapAfter, faultFrom, gapBefore, fault}
+use Rattle.books.specs.Rule.{Seen, eofOf, closes, frameOf, strayOf, closed, dataOf, _orStamp_, firstStamp, stillOf, _or_, when, faultAt, gapAfter, faultFrom, gapBefore, fault}
 use Rattle.books.specs.Answer.{earlier}
 use Rattle.books.proofs.Cut.{or-sound, or-assoc, stamp-assoc, stamp-absent}
-use Rattle.books.proofs.OneMore.{spoilLast}
+use Rattle.books.proofs.OneMore.{spoilLast, markLast}
 
 abbrev pub and : List Seen → Seen → List Seen
 and r t = r ++ (t ∷ [])
 
--- ---- a run without EOF is a frame
-pub frame-whole : (r : List Seen) → complete r ≡ false → frameOf r ≡ r
-frame-whole [] e = refl
-frame-whole (t ∷ ts) e = go (t .header .eof) e (frame-whole ts)
-  where
-    go : (b : Bool) → (b || complete ts) ≡ false → (complete ts ≡ false → frameOf ts ≡ ts) → _≡_ {A = List Seen} (t ∷ cond b [] (frameOf ts)) (t ∷ ts)
-    go true q rec = absurd (true≢false q)
-    go false q rec = ap (t ∷_) (rec q)
+-- ---- a run that nothing closes is a frame
+module _ (o : Opening) where
+  pub frame-whole : (r : List Seen) → closed o r ≡ false → frameOf o r ≡ r
+  frame-whole [] e = refl
+  frame-whole (t ∷ ts) e = go (closes o t) e (frame-whole ts)
+    where
+      go : (b : Bool) → (b || closed o ts) ≡ false → (closed o ts ≡ false → frameOf o ts ≡ ts) → _≡_ {A = List Seen} (t ∷ cond b [] (frameOf o ts)) (t ∷ ts)
+      go true q rec = absurd (true≢false q)
+      go false q rec = ap (t ∷_) (rec q)
 
-pub stray-whole : (r : List Seen) → complete r ≡ false → strayOf r ≡ []
-stray-whole [] e = refl
-stray-whole (t ∷ ts) e = go (t .header .eof) e (stray-whole ts)
-  where
-    go : (b : Bool) → (b || complete ts) ≡ false → (complete ts ≡ false → strayOf ts ≡ []) → cond b ts (strayOf ts) ≡ []
-    go true q rec = absurd (true≢false q)
-    go false q rec = rec q
+  pub stray-whole : (r : List Seen) → closed o r ≡ false → strayOf o r ≡ []
+  stray-whole [] e = refl
+  stray-whole (t ∷ ts) e = go (closes o t) e (stray-whole ts)
+    where
+      go : (b : Bool) → (b || closed o ts) ≡ false → (closed o ts ≡ false → strayOf o ts ≡ []) → cond b ts (strayOf o ts) ≡ []
+      go true q rec = absurd (true≢false q)
+      go false q rec = rec q
 
-pub complete-frame : (r : List Seen) → complete (frameOf r) ≡ complete r
-complete-frame [] = refl
-complete-frame (t ∷ ts) = go (t .header .eof) (complete-frame ts)
-  where
-    go : (b : Bool) → complete (frameOf ts) ≡ complete ts → (b || complete (cond b [] (frameOf ts))) ≡ (b || complete ts)
-    go true rec = refl
-    go false rec = rec
+  pub closed-frame : (r : List Seen) → closed o (frameOf o r) ≡ closed o r
+  closed-frame [] = refl
+  closed-frame (t ∷ ts) = go (closes o t) (closed-frame ts)
+    where
+      go : (b : Bool) → closed o (frameOf o ts) ≡ closed o ts → (b || closed o (cond b [] (frameOf o ts))) ≡ (b || closed o ts)
+      go true rec = refl
+      go false rec = rec
 
-pub complete-more : (r : List Seen) (t : Seen) → complete (and r t) ≡ (complete r || t .header .eof)
-complete-more [] t = go (t .header .eof)
-  where
-    go : (b : Bool) → (b || false) ≡ b
-    go true = refl
-    go false = refl
-complete-more (u ∷ us) t = go (u .header .eof) (complete-more us t)
-  where
-    go : (b : Bool) → complete (and us t) ≡ (complete us || t .header .eof) → (b || complete (and us t)) ≡ ((b || complete us) || t .header .eof)
-    go true rec = refl
-    go false rec = rec
+  pub closed-more : (r : List Seen) (t : Seen) → closed o (and r t) ≡ (closed o r || closes o t)
+  closed-more [] t = go (closes o t)
+    where
+      go : (b : Bool) → (b || false) ≡ b
+      go true = refl
+      go false = refl
+  closed-more (u ∷ us) t = go (closes o u) (closed-more us t)
+    where
+      go : (b : Bool) → closed o (and us t) ≡ (closed o us || closes o t) → (b || closed o (and us t)) ≡ ((b || closed o us) || closes o t)
+      go true rec = refl
+      go false rec = rec
 
--- the frame goes on with the transfer, where the run has no EOF yet
-pub frame-more : (r : List Seen) (t : Seen) → complete r ≡ false → frameOf (and r t) ≡ and r t
-frame-more [] t e = go (t .header .eof)
-  where
-    go : (b : Bool) → _≡_ {A = List Seen} (t ∷ cond b [] []) (t ∷ [])
-    go true = refl
-    go false = refl
-frame-more (u ∷ us) t e = go (u .header .eof) e (frame-more us t)
-  where
-    go : (b : Bool) → (b || complete us) ≡ false → (complete us ≡ false → frameOf (and us t) ≡ and us t) → _≡_ {A = List Seen} (u ∷ cond b [] (frameOf (and us t))) (u ∷ and us t)
-    go true q rec = absurd (true≢false q)
-    go false q rec = ap (u ∷_) (rec q)
+  -- the frame goes on with the transfer, where nothing closes the run yet
+  pub frame-more : (r : List Seen) (t : Seen) → closed o r ≡ false → frameOf o (and r t) ≡ and r t
+  frame-more [] t e = go (closes o t)
+    where
+      go : (b : Bool) → _≡_ {A = List Seen} (t ∷ cond b [] []) (t ∷ [])
+      go true = refl
+      go false = refl
+  frame-more (u ∷ us) t e = go (closes o u) e (frame-more us t)
+    where
+      go : (b : Bool) → (b || closed o us) ≡ false → (closed o us ≡ false → frameOf o (and us t) ≡ and us t) → _≡_ {A = List Seen} (u ∷ cond b [] (frameOf o (and us t))) (u ∷ and us t)
+      go true q rec = absurd (true≢false q)
+      go false q rec = ap (u ∷_) (rec q)
 
-pub stray-none : (r : List Seen) (t : Seen) → complete r ≡ false → strayOf (and r t) ≡ []
-stray-none [] t e = go (t .header .eof)
-  where
-    go : (b : Bool) → _≡_ {A = List Seen} (cond b [] []) []
-    go true = refl
-    go false = refl
-stray-none (u ∷ us) t e = go (u .header .eof) e (stray-none us t)
-  where
-    go : (b : Bool) → (b || complete us) ≡ false → (complete us ≡ false → strayOf (and us t) ≡ []) → cond b (and us t) (strayOf (and us t)) ≡ []
-    go true q rec = absurd (true≢false q)
-    go false q rec = rec q
+  pub stray-none : (r : List Seen) (t : Seen) → closed o r ≡ false → strayOf o (and r t) ≡ []
+  stray-none [] t e = go (closes o t)
+    where
+      go : (b : Bool) → _≡_ {A = List Seen} (cond b [] []) []
+      go true = refl
+      go false = refl
+  stray-none (u ∷ us) t e = go (closes o u) e (stray-none us t)
+    where
+      go : (b : Bool) → (b || closed o us) ≡ false → (closed o us ≡ false → strayOf o (and us t) ≡ []) → cond b (and us t) (strayOf o (and us t)) ≡ []
+      go true q rec = absurd (true≢false q)
+      go false q rec = rec q
 
--- after an EOF it is stray
-pub stray-more : (r : List Seen) (t : Seen) → complete r ≡ true → strayOf (and r t) ≡ and (strayOf r) t
-stray-more [] t e = absurd (true≢false (sym e))
-stray-more (u ∷ us) t e = go (u .header .eof) e (stray-more us t)
-  where
-    go : (b : Bool) → (b || complete us) ≡ true → (complete us ≡ true → strayOf (and us t) ≡ and (strayOf us) t) → cond b (and us t) (strayOf (and us t)) ≡ and (cond b us (strayOf us)) t
-    go true q rec = refl
-    go false q rec = rec q
+  -- after an EOF or a mark it is stray
+  pub stray-more : (r : List Seen) (t : Seen) → closed o r ≡ true → strayOf o (and r t) ≡ and (strayOf o r) t
+  stray-more [] t e = absurd (true≢false (sym e))
+  stray-more (u ∷ us) t e = go (closes o u) e (stray-more us t)
+    where
+      go : (b : Bool) → (b || closed o us) ≡ true → (closed o us ≡ true → strayOf o (and us t) ≡ and (strayOf o us) t) → cond b (and us t) (strayOf o (and us t)) ≡ and (cond b us (strayOf o us)) t
+      go true q rec = refl
+      go false q rec = rec q
 
 pub earlier-more : (r : List Seen) (t : Seen) → earlier (and r t) ≡ r
 earlier-more [] t = refl
@@ -124,13 +125,13 @@ module _ (o : Opening) where
       go (At x) e = refl
 
   abbrev own : Stamp → Bool → ℕ → Seen → Fault
-  own s b n t = faultAt o s b n (t .header) (length (t .load)) or when (gapAfter t) Gap
+  own s b n t = faultAt o s b n (t .header) (length (t .load)) or when (gapAfter o t) Gap
 
   from-more : (r : List Seen) (s : Stamp) (b : Bool) (n : ℕ) (t : Seen) → faultFrom o s b n (and r t) ≡ faultFrom o s b n r or own s b (n + length (dataOf r)) t
-  from-more [] s b n t = rw (add-zero n, or-sound (when (gapAfter t) Gap))
+  from-more [] s b n t = rw (add-zero n, or-sound (when (gapAfter o t) Gap))
   from-more (u ∷ us) s b n t =
       let a : Fault = faultAt o s b n (u .header) (length (u .load)) in
-      let g : Fault = when (gapAfter u) Gap in
+      let g : Fault = when (gapAfter o u) Gap in
       let f : Fault = faultFrom o s b (n + length (u .load)) us in
       let x : Fault = own s b ((n + length (u .load)) + length (dataOf us)) t in
       ap (λ (y : Fault). a or (g or y)) (from-more us s b (n + length (u .load)) t)
@@ -144,7 +145,7 @@ module _ (o : Opening) where
   soFar t (u ∷ us) = fault o (u ∷ us)
 
   pub fault-more : (r : List Seen) (t : Seen) → fault o (and r t) ≡ soFar t r or own (firstStamp (and r t)) (stillOf (and r t)) (length (dataOf r)) t
-  fault-more [] t = rw (or-sound (when (gapAfter t) Gap))
+  fault-more [] t = rw (or-sound (when (gapAfter o t) Gap))
   fault-more (u ∷ us) t =
       let r : List Seen = u ∷ us in
       let s : Stamp = firstStamp (and r t) in
@@ -155,10 +156,10 @@ module _ (o : Opening) where
       ∙ ap (λ (f : Fault). (g or f) or own s b (length (dataOf r)) t) (ap (λ (z : Stamp). faultFrom o z b 0 r) (stamp-more r t) ∙ first-held r (t .header .stamp) b 0)
 
 -- ---- a gap after the last transfer
-pub complete-spoilt : (r : List Seen) → complete (spoilLast r) ≡ complete r
-complete-spoilt [] = refl
-complete-spoilt (t ∷ []) = refl
-complete-spoilt (t ∷ (u ∷ us)) = ap (t .header .eof ||_) (complete-spoilt (u ∷ us))
+pub closed-spoilt : (o : Opening) (r : List Seen) → closed o (spoilLast r) ≡ closed o r
+closed-spoilt o [] = refl
+closed-spoilt o (t ∷ []) = refl
+closed-spoilt o (t ∷ (u ∷ us)) = ap (closes o t ||_) (closed-spoilt o (u ∷ us))
 
 pub data-spoilt : (r : List Seen) → dataOf (spoilLast r) ≡ dataOf r
 data-spoilt [] = refl
@@ -175,19 +176,20 @@ still-spoilt [] = refl
 still-spoilt (t ∷ []) = refl
 still-spoilt (t ∷ (u ∷ us)) = refl
 
-gap-once : (a : Fault) (b c : Bool) → (b || false) ≡ false → a or (when (not b && true) Gap or Sound) ≡ (a or (when (not b && c) Gap or Sound)) or Bad Gap
-gap-once a true c e = absurd (true≢false e)
-gap-once Sound false true e = refl
-gap-once Sound false false e = refl
-gap-once (Bad w) false c e = refl
+gap-once : (a : Fault) (e m c : Bool) → ((e || m) || false) ≡ false → a or (when (not e && (c || not m)) Gap or Sound) ≡ (a or (when (not e && c) Gap or Sound)) or Bad Gap
+gap-once a true m c e = absurd (true≢false e)
+gap-once a false true c e = absurd (true≢false e)
+gap-once Sound false false true e = refl
+gap-once Sound false false false e = refl
+gap-once (Bad w) false false c e = refl
 
-from-spoilt : (o : Opening) (s : Stamp) (b : Bool) (n : ℕ) (t : Seen) (ts : List Seen) → complete (t ∷ ts) ≡ false → faultFrom o s b n (spoilLast (t ∷ ts)) ≡ faultFrom o s b n (t ∷ ts) or Bad Gap
-from-spoilt o s b n t [] e = gap-once (faultAt o s b n (t .header) (length (t .load))) (t .header .eof) (t .after) e
+from-spoilt : (o : Opening) (s : Stamp) (b : Bool) (n : ℕ) (t : Seen) (ts : List Seen) → closed o (t ∷ ts) ≡ false → faultFrom o s b n (spoilLast (t ∷ ts)) ≡ faultFrom o s b n (t ∷ ts) or Bad Gap
+from-spoilt o s b n t [] e = gap-once (faultAt o s b n (t .header) (length (t .load))) (eofOf o (t .header)) (t .marked) (t .after) e
 from-spoilt o s b n t (u ∷ us) e =
     let a : Fault = faultAt o s b n (t .header) (length (t .load)) in
-    let g : Fault = when (gapAfter t) Gap in
+    let g : Fault = when (gapAfter o t) Gap in
     let f : Fault = faultFrom o s b (n + length (t .load)) (u ∷ us) in
-    ap (λ (y : Fault). a or (g or y)) (from-spoilt o s b (n + length (t .load)) u us (or-second (t .header .eof) (complete (u ∷ us)) e))
+    ap (λ (y : Fault). a or (g or y)) (from-spoilt o s b (n + length (t .load)) u us (or-second (closes o t) (closed o (u ∷ us)) e))
     ∙ ap (a or_) (or-assoc g f (Bad Gap))
     ∙ or-assoc a (g or f) (Bad Gap)
 
@@ -196,7 +198,7 @@ before-spoilt [] = refl
 before-spoilt (t ∷ []) = refl
 before-spoilt (t ∷ (u ∷ us)) = refl
 
-pub fault-spoilt : (o : Opening) (t : Seen) (ts : List Seen) → complete (t ∷ ts) ≡ false → fault o (spoilLast (t ∷ ts)) ≡ fault o (t ∷ ts) or Bad Gap
+pub fault-spoilt : (o : Opening) (t : Seen) (ts : List Seen) → closed o (t ∷ ts) ≡ false → fault o (spoilLast (t ∷ ts)) ≡ fault o (t ∷ ts) or Bad Gap
 fault-spoilt o t ts e =
     let r : List Seen = t ∷ ts in
     let b : Bool = t .header .still in
@@ -205,3 +207,12 @@ fault-spoilt o t ts e =
     ∙ ap (λ (s : Stamp). when (t .before) Gap or faultFrom o s b 0 (spoilLast r)) (stamp-spoilt r)
     ∙ ap (when (t .before) Gap or_) (from-spoilt o (firstStamp r) b 0 t ts e)
     ∙ or-assoc (when (t .before) Gap) (faultFrom o (firstStamp r) b 0 r) (Bad Gap)
+
+-- ---- a mark after the last transfer closes the run
+or-true : (b : Bool) → (b || true) ≡ true
+or-true true = refl
+or-true false = refl
+
+pub closed-marked : (o : Opening) (t : Seen) (ts : List Seen) → closed o (markLast (t ∷ ts)) ≡ true
+closed-marked o t [] = ap (_|| false) (or-true (eofOf o (t .header)))
+closed-marked o t (u ∷ us) = ap (closes o t ||_) (closed-marked o u us) ∙ or-true (closes o t)

@@ -1,7 +1,7 @@
 -- With one buffer that nobody else writes: as long as the frame under way has no fault, the buffer begins with its data.
 use Prim.Native.Nat.{ℕ, _+_, _≤_}
 use mathlib.Core.Path.{_≡_, refl, sym, _∙_, ap, subst}
-use mathlib.Core.Bool.{Bool, true, false, cond}
+use mathlib.Core.Bool.{Bool, true, false, cond, true≢false}
 use mathlib.Core.List.{List, [], _∷_, _++_}
 use native.Mathlib.Omega.{arith}
 use lib.ListN.{length, take, length-append}
@@ -14,18 +14,18 @@ use Rattle.frames.specs.declared.Reason.{Reason}
 use Rattle.frames.specs.declared.Reason.the-variants.{Gap, Error, Clock, Mixed, Long}
 use Rattle.frames.specs.declared.Fault.{Fault}
 use Rattle.frames.specs.declared.Fault.the-variants.{Sound, Bad}
-use Rattle.books.specs.Rule.{Seen, same, frameOf, strayOf, complete, dataOf, firstStamp, stillOf, _or_, when, differs, mixes, faultAt, gapAfter, fault}
+use Rattle.books.specs.Rule.{Seen, same, frameOf, strayOf, closed, dataOf, firstStamp, stillOf, _or_, when, differs, mixes, faultAt, gapAfter, fault}
 use Rattle.books.specs.Answer.{earlier, writtenBy, writtenIn}
-use Rattle.books.proofs.OneMore.{seenWith, spoilLast, grown}
-use Rattle.books.proofs.Grown.{and, frame-whole, stray-whole, frame-more, stray-none, stray-more, earlier-more, data-more, soFar, fault-more, complete-spoilt, fault-spoilt}
+use Rattle.books.proofs.OneMore.{seenWith, spoilLast, markLast, grown}
+use Rattle.books.proofs.Grown.{and, frame-whole, stray-whole, frame-more, stray-none, stray-more, earlier-more, data-more, soFar, fault-more, closed-spoilt, fault-spoilt, closed-marked}
 
--- the buffer begins with the data of a run that has no EOF and no fault yet
+-- the buffer begins with the data of a run that nothing closes and that has no fault yet
 abbrev pub Held : Opening → List Seen → List ℕ → Type 0
-Held o r B = complete r ≡ false → fault o r ≡ Sound → take (length (dataOf r)) B ≡ dataOf r
+Held o r B = closed o r ≡ false → fault o r ≡ Sound → take (length (dataOf r)) B ≡ dataOf r
 
 -- what a run's last transfer leaves: a frame without fault that it is the last of, complete or not, stands at the buffer's beginning
 pub record Left (o : Opening) (r : List Seen) (B : List ℕ) : Type 0 where
-  pub frame : strayOf r ≡ [] → fault o (frameOf r) ≡ Sound → take (length (dataOf (frameOf r))) B ≡ dataOf (frameOf r)
+  pub frame : strayOf o r ≡ [] → fault o (frameOf o r) ≡ Sound → take (length (dataOf (frameOf o r))) B ≡ dataOf (frameOf o r)
   pub room : o .frame ≤ length B
 
 -- ---- no fault of two is no fault of either
@@ -50,7 +50,7 @@ module _ (o : Opening) (h : Header) (d : List ℕ) (b : Bool) (B : List ℕ) (ro
   t = seenWith h d b
 
   -- a frame that goes on, or begins, without fault
-  module _ (r : List Seen) (going : complete r ≡ false) (held : soFar o t r ≡ Sound → take (length (dataOf r)) B ≡ dataOf r) where
+  module _ (r : List Seen) (going : closed o r ≡ false) (held : soFar o t r ≡ Sound → take (length (dataOf r)) B ≡ dataOf r) where
     abbrev at : ℕ
     at = length (dataOf r)
 
@@ -58,7 +58,7 @@ module _ (o : Opening) (h : Header) (d : List ℕ) (b : Bool) (B : List ℕ) (ro
     own = faultAt o (firstStamp (and r t)) (stillOf (and r t)) at h (length d)
 
     module _ (sound : fault o (and r t) ≡ Sound) where
-      parts : soFar o t r or (own or when (gapAfter t) Gap) ≡ Sound
+      parts : soFar o t r or (own or when (gapAfter o t) Gap) ≡ Sound
       parts = sym (fault-more o r t) ∙ sound
 
       before : take at B ≡ dataOf r
@@ -81,8 +81,8 @@ module _ (o : Opening) (h : Header) (d : List ℕ) (b : Bool) (B : List ℕ) (ro
 
     written : writtenIn o (and r t) d B ≡ writtenBy [] (fault o (and r t)) at d B
     written =
-        ap (λ (ts : List Seen). writtenBy ts (fault o (frameOf (and r t))) (length (dataOf (earlier (frameOf (and r t))))) d B) (stray-none r t going)
-        ∙ ap (λ (f : List Seen). writtenBy [] (fault o f) (length (dataOf (earlier f))) d B) (frame-more r t going)
+        ap (λ (ts : List Seen). writtenBy ts (fault o (frameOf o (and r t))) (length (dataOf (earlier (frameOf o (and r t))))) d B) (stray-none o r t going)
+        ∙ ap (λ (f : List Seen). writtenBy [] (fault o f) (length (dataOf (earlier f))) d B) (frame-more o r t going)
         ∙ ap (λ (l : List Seen). writtenBy [] (fault o (and r t)) (length (dataOf l)) d B) (earlier-more r t)
 
     put : (q : Fault) → fault o (and r t) ≡ q
@@ -94,21 +94,21 @@ module _ (o : Opening) (h : Header) (d : List ℕ) (b : Bool) (B : List ℕ) (ro
     joined =
         let z = put (fault o (and r t)) refl in
         record {
-          frame = λ u f. rw (written, frame-more r t going) (z .0 (ap (fault o) (sym (frame-more r t going)) ∙ f));
+          frame = λ u f. rw (written, frame-more o r t going) (z .0 (ap (fault o) (sym (frame-more o r t going)) ∙ f));
           room = rw written (z .1);
         }
 
-  stray : (r : List Seen) → complete r ≡ true → Left o (and r t) (writtenIn o (and r t) d B)
+  stray : (r : List Seen) → closed o r ≡ true → Left o (and r t) (writtenIn o (and r t) d B)
   stray r e = record {
-    frame = λ u f. absurd (none (strayOf r) (sym (stray-more r t e) ∙ u));
-    room = rw (stray-more r t e) (go (strayOf r));
+    frame = λ u f. absurd (none (strayOf o r) (sym (stray-more o r t e) ∙ u));
+    room = rw (stray-more o r t e) (go (strayOf o r));
   }
     where
       none : (ts : List Seen) → and ts t ≡ [] → ⊥
       none [] q = let z : _≡_ {A = ℕ} 0 1 = cc in omega arith
       none (u ∷ us) q = let z : _≡_ {A = ℕ} 0 1 = cc in omega arith
 
-      go : (ts : List Seen) → o .frame ≤ length (writtenBy (and ts t) (fault o (frameOf (and r t))) (length (dataOf (earlier (frameOf (and r t))))) d B)
+      go : (ts : List Seen) → o .frame ≤ length (writtenBy (and ts t) (fault o (frameOf o (and r t))) (length (dataOf (earlier (frameOf o (and r t))))) d B)
       go [] = room₀
       go (u ∷ us) = room₀
 
@@ -116,18 +116,23 @@ module _ (o : Opening) (h : Header) (d : List ℕ) (b : Bool) (B : List ℕ) (ro
   grown-left [] held = joined [] refl (λ e. refl)
   grown-left (u ∷ us) held = go (same u t)
     where
-      on : (c : Bool) → complete (u ∷ us) ≡ c → Left o (and (u ∷ us) t) (writtenIn o (and (u ∷ us) t) d B)
+      on : (c : Bool) → closed o (u ∷ us) ≡ c → Left o (and (u ∷ us) t) (writtenIn o (and (u ∷ us) t) d B)
       on true e = stray (u ∷ us) e
       on false e = joined (u ∷ us) e (held e)
 
       go : (c : Bool) → Left o (cond c (and (u ∷ us) t) (t ∷ [])) (writtenIn o (cond c (and (u ∷ us) t) (t ∷ [])) d B)
-      go true = on (complete (u ∷ us)) refl
+      go true = on (closed o (u ∷ us)) refl
       go false = joined [] refl (λ e. refl)
 
 -- what is left is held
 pub left-held : (o : Opening) (r : List Seen) (B : List ℕ) → Left o r B → Held o r B
-left-held o r B l e f = subst (λ (g : List Seen). take (length (dataOf g)) B ≡ dataOf g) (frame-whole r e) (l .frame (stray-whole r e) (ap (fault o) (frame-whole r e) ∙ f))
+left-held o r B l e f = subst (λ (g : List Seen). take (length (dataOf g)) B ≡ dataOf g) (frame-whole o r e) (l .frame (stray-whole o r e) (ap (fault o) (frame-whole o r e) ∙ f))
 
 pub spoilt-held : (o : Opening) (r : List Seen) (B : List ℕ) → Held o r B → Held o (spoilLast r) B
 spoilt-held o [] B held = held
-spoilt-held o (u ∷ us) B held = λ e f. cc (sound-second (fault o (u ∷ us)) (Bad Gap) (sym (fault-spoilt o u us (sym (complete-spoilt (u ∷ us)) ∙ e)) ∙ f))
+spoilt-held o (u ∷ us) B held = λ e f. cc (sound-second (fault o (u ∷ us)) (Bad Gap) (sym (fault-spoilt o u us (sym (closed-spoilt o (u ∷ us)) ∙ e)) ∙ f))
+
+-- after a mark nothing is held: the frame is handed out
+pub marked-held : (o : Opening) (r : List Seen) (B : List ℕ) → Held o (markLast r) B
+marked-held o [] B = λ e f. refl
+marked-held o (u ∷ us) B = λ e f. absurd (true≢false (sym (closed-marked o u us) ∙ e))

@@ -15,7 +15,9 @@ pub mod Answers
 pub mod OneMore
 pub mod Grown
 pub mod Tracked
+pub mod Passed
 pub mod ByList
+pub mod HandedOut
 pub mod Held
 pub mod Whole
 pub mod Print

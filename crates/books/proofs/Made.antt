@@ -7,7 +7,7 @@ use Rattle.rules.specs.Pick.{pick}
 use Rattle.sizes.specs.declared.Opening.{Opening}
 use Rattle.payload.specs.declared.Header.{Header}
 use Rattle.payload.specs.declared.Stamp.{Stamp}
-use Rattle.frames.specs.declared.Reason.the-variants.{Cut, Empty}
+use Rattle.frames.specs.declared.Reason.the-variants.{Empty}
 use Rattle.frames.specs.declared.Fault.{Fault}
 use Rattle.frames.specs.declared.Fault.the-variants.{Sound, Bad}
 use Rattle.frames.specs.declared.Run.{Run}
@@ -18,7 +18,7 @@ use Rattle.frames.specs.declared.Phase.the-variants.{Fresh, Under, Past}
 use Rattle.frames.specs.declared.Turn.{Turn}
 use Rattle.books.specs.Rule.{Item}
 use Rattle.books.specs.Demands.{endedItems, fateItems}
-use Rattle.frames.specs.Inner.{sameOf, whyOf, begunOf, joinedOf, completeOf, fateOf, joinTurn, strayTurn, turnBy}
+use Rattle.frames.specs.Inner.{sameOf, whyOf, begunOf, joinedOf, completeOf, endsOf, turnedWhy, fateOf, joinTurn, strayTurn, turnBy}
 
 -- the data that the frame of a transfer with this FID has had before it
 abbrev pub base : Phase → Bool → List ℕ → List ℕ
@@ -55,14 +55,14 @@ fate-framed false x = tt
 
 pub turn-framed : (o : Opening) (h : Header) (n : ℕ) (ph : Phase) (b : Bool) → Framed (turnBy ph o b h n .answer .fate)
 unfolding pick
-turn-framed o h n Fresh b = fate-framed (h .eof) (joinedOf o (begunOf b (h .fid) (h .still)) h n)
+turn-framed o h n Fresh b = fate-framed (endsOf o h) (joinedOf o (begunOf b (h .fid) (h .still)) h n)
 turn-framed o h n (Past f) b = go (sameOf f (h .fid))
   where
     go : (c : Bool) → Framed (pick c (strayTurn f n) (joinTurn o (begunOf b (h .fid) (h .still)) h n Nothing 0) .answer .fate)
     go true = tt
-    go false = fate-framed (h .eof) (joinedOf o (begunOf b (h .fid) (h .still)) h n)
+    go false = fate-framed (endsOf o h) (joinedOf o (begunOf b (h .fid) (h .still)) h n)
 turn-framed o h n (Under x) b = go (sameOf (x .fid) (h .fid))
   where
-    go : (c : Bool) → Framed (pick c (joinTurn o x h n Nothing 0) (joinTurn o (begunOf b (h .fid) (h .still)) h n (Frame (whyOf (x .fault) Cut)) (x .bytes)) .answer .fate)
-    go true = fate-framed (h .eof) (joinedOf o x h n)
-    go false = fate-framed (h .eof) (joinedOf o (begunOf b (h .fid) (h .still)) h n)
+    go : (c : Bool) → Framed (pick c (joinTurn o x h n Nothing 0) (joinTurn o (begunOf b (h .fid) (h .still)) h n (Frame (whyOf (x .fault) (turnedWhy o))) (x .bytes)) .answer .fate)
+    go true = fate-framed (endsOf o h) (joinedOf o x h n)
+    go false = fate-framed (endsOf o h) (joinedOf o (begunOf b (h .fid) (h .still)) h n)

@@ -48,6 +48,6 @@ module _ (o : Opening) (cs : List Call) (l : Ledger) (r : Right o cs l) where
   right-numbers e =
       spell numberCount (l .numbers) e ∙ by-account accounts _ _ (λ i. r .losses i ∷ r .idles i ∷ r .ticks i ∷ r .backward i ∷ r .plain i ∷ [])
 
-pub run-numbers : (o : Opening) (cs : List Call) → Proper cs → ledgerOf (run (fresh o) cs) .numbers ≡ numbersOf (entries o cs)
+pub run-numbers : (o : Opening) (cs : List Call) → Proper (fresh o) cs → ledgerOf (run (fresh o) cs) .numbers ≡ numbersOf (entries o cs)
 run-numbers o cs p =
     right-numbers o cs (ledgerOf (run (fresh o) cs)) (all-right o cs p) (shown-sized (postedOf (run (fresh o) cs)) (run (fresh o) cs .rest .track .phase) (end-sized o cs p))

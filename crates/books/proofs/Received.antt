@@ -19,7 +19,7 @@ use Rattle.frames.specs.declared.Fault.{Fault}
 use Rattle.frames.specs.declared.Fault.the-variants.{Sound, Bad}
 use Rattle.ledger.specs.declared.Account.{Account}
 use Rattle.ledger.specs.Entry.{Entry}
-use Rattle.books.specs.Rule.{Event, idle, unreadable, missing, readable, eventBy, events, isOpen, Seen, readables, same, ahead, runs, frameOf, strayOf, complete, dataOf, firstStamp, stillOf, fault, Item, handedOut, verdict, strays, judge, nothing, judged, framesBy, loose, entryOf, entries, bytesIn, partIn, total, received}
+use Rattle.books.specs.Rule.{Event, idle, unreadable, missing, readable, mark, eventBy, events, isOpen, Seen, readables, same, ahead, runs, closes, frameOf, strayOf, complete, dataOf, firstStamp, stillOf, fault, Item, handedOut, verdict, strays, judge, nothing, judged, framesBy, loose, entryOf, entries, bytesIn, partIn, total, received}
 use Rattle.books.specs.Demands.{over}
 use Rattle.books.proofs.Posts.{total-append}
 use Rattle.books.proofs.History.{map-append}
@@ -51,6 +51,7 @@ gotten (idle ∷ es) = gotten es
 gotten (unreadable n ∷ es) = n + gotten es
 gotten (missing ∷ es) = gotten es
 gotten (readable h d ∷ es) = h .len + length d + gotten es
+gotten (mark ∷ es) = gotten es
 
 event-got : (t : List ℕ) (es : List Event) (r : Reading) → Sound₀ t r → gotten (eventBy r t ∷ es) ≡ length t + gotten es
 event-got t es Idle e = omega (arith, e)
@@ -61,6 +62,7 @@ pub events-got : (o : Opening) (cs : List Call) → gotten (events o cs) ≡ rec
 events-got o [] = refl
 events-got o (Call.transfer t ∷ cs) = event-got t (events o cs) (readingOf o t) (reading-sound o t) ∙ ap (length t +_) (events-got o cs)
 events-got o (Call.lost ∷ cs) = events-got o cs
+events-got o (Call.handed ∷ cs) = events-got o cs
 events-got o (Call.close ∷ cs) = refl
 
 -- ---- the rule's bytes
@@ -91,11 +93,11 @@ strays-bytes : (ts : List Seen) → bytesOfItems (strays ts) ≡ sizeOf ts
 strays-bytes [] = refl
 strays-bytes (t ∷ ts) = ap (length (t .load) +_) (strays-bytes ts)
 
-split-size : (ts : List Seen) → sizeOf (frameOf ts) + sizeOf (strayOf ts) ≡ sizeOf ts
-split-size [] = refl
-split-size (t ∷ ts) = go (t .header .eof) (split-size ts)
+split-size : (o : Opening) (ts : List Seen) → sizeOf (frameOf o ts) + sizeOf (strayOf o ts) ≡ sizeOf ts
+split-size o [] = refl
+split-size o (t ∷ ts) = go (closes o t) (split-size o ts)
   where
-    go : (b : Bool) → sizeOf (frameOf ts) + sizeOf (strayOf ts) ≡ sizeOf ts → length (t .load) + sizeOf (cond b [] (frameOf ts)) + sizeOf (cond b ts (strayOf ts)) ≡ length (t .load) + sizeOf ts
+    go : (b : Bool) → sizeOf (frameOf o ts) + sizeOf (strayOf o ts) ≡ sizeOf ts → length (t .load) + sizeOf (cond b [] (frameOf o ts)) + sizeOf (cond b ts (strayOf o ts)) ≡ length (t .load) + sizeOf ts
     go true e = omega arith
     go false e = omega arith
 
@@ -116,17 +118,17 @@ runs-size : (ts : List Seen) → sizes (runs ts) ≡ sizeOf ts
 runs-size [] = refl
 runs-size (t ∷ ts) = ahead-size t (runs ts) ∙ ap (length (t .load) +_) (runs-size ts)
 
-judge-bytes : (o : Opening) (w : Bool) (r : List Seen) → bytesOfItems (judge o w r) ≡ sizeOf r
-judge-bytes o w r =
-    let f : List Seen = frameOf r in
-    omega (arith, verdict-bytes w (complete f) (fault o f) (firstStamp f) (stillOf f) (length (dataOf f)), data-size f, strays-bytes (strayOf r), split-size r)
+judge-bytes : (o : Opening) (p l : Bool) (r : List Seen) → bytesOfItems (judge o p l r) ≡ sizeOf r
+judge-bytes o p l r =
+    let f : List Seen = frameOf o r in
+    omega (arith, verdict-bytes (p && l) (complete o l f) (fault o f) (firstStamp f) (stillOf f) (length (dataOf f)), data-size f, strays-bytes (strayOf o r), split-size o r)
 
 judged-bytes : (o : Opening) (p : Bool) (rs : List (List Seen)) → bytesOfItems (judged o p rs) ≡ sizes rs
 judged-bytes o p [] = refl
 judged-bytes o p (r ∷ rs) =
-    ap (total bytesIn) (map-append (judge o (p && nothing rs) r) (judged o p rs))
-    ∙ total-append bytesIn (map entryOf (judge o (p && nothing rs) r)) (map entryOf (judged o p rs))
-    ∙ omega (arith, judge-bytes o (p && nothing rs) r, judged-bytes o p rs)
+    ap (total bytesIn) (map-append (judge o p (nothing rs) r) (judged o p rs))
+    ∙ total-append bytesIn (map entryOf (judge o p (nothing rs) r)) (map entryOf (judged o p rs))
+    ∙ omega (arith, judge-bytes o p (nothing rs) r, judged-bytes o p rs)
 
 readable-bytes : (b : Bool) (es : List Event) → sizeOf (readables b es) + total bytesIn (loose es) ≡ gotten es
 readable-bytes b [] = refl
@@ -134,6 +136,7 @@ readable-bytes b (idle ∷ es) = omega (arith, readable-bytes b es)
 readable-bytes b (unreadable n ∷ es) = omega (arith, readable-bytes true es)
 readable-bytes b (missing ∷ es) = omega (arith, readable-bytes true es)
 readable-bytes b (readable h d ∷ es) = omega (arith, readable-bytes false es)
+readable-bytes b (mark ∷ es) = readable-bytes b es
 
 pub entries-bytes : (o : Opening) (cs : List Call) → total bytesIn (entries o cs) ≡ received cs
 entries-bytes o cs =

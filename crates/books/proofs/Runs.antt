@@ -2,8 +2,9 @@
 use mathlib.Core.Path.{_≡_, refl, sym, _∙_, ap}
 use mathlib.Core.Bool.{Bool, true, false, cond, Bool·beq}
 use mathlib.Core.List.{List, [], _∷_, _++_}
+use Rattle.sizes.specs.declared.Opening.{Opening}
 use Rattle.books.specs.Longest.{concat, Alike, Unlike, Longest}
-use Rattle.books.specs.Rule.{Seen, same, ahead, runs, frameOf, strayOf}
+use Rattle.books.specs.Rule.{Seen, same, ahead, runs, closes, frameOf, strayOf}
 
 pub runs-concat : (ts : List Seen) → concat (runs ts) ≡ ts
 runs-concat [] = refl
@@ -46,10 +47,10 @@ pub runs-longest : (ts : List Seen) → Longest (runs ts)
 runs-longest [] = tt
 runs-longest (t ∷ ts) = ahead-longest t (runs ts) (runs-longest ts)
 
-pub frame-stray : (ts : List Seen) → frameOf ts ++ strayOf ts ≡ ts
-frame-stray [] = refl
-frame-stray (t ∷ ts) = ap (t ∷_) (pick (t .header .eof) (frame-stray ts))
+pub frame-stray : (o : Opening) (ts : List Seen) → frameOf o ts ++ strayOf o ts ≡ ts
+frame-stray o [] = refl
+frame-stray o (t ∷ ts) = ap (t ∷_) (pick (closes o t) (frame-stray o ts))
   where
-    pick : (b : Bool) → frameOf ts ++ strayOf ts ≡ ts → cond b [] (frameOf ts) ++ cond b ts (strayOf ts) ≡ ts
+    pick : (b : Bool) → frameOf o ts ++ strayOf o ts ≡ ts → cond b [] (frameOf o ts) ++ cond b ts (strayOf o ts) ≡ ts
     pick true e = refl
     pick false e = e

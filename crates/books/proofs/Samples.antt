@@ -1,26 +1,29 @@
 -- 7. The ledger sample of document 01, about the rule and about the session.
 use Prim.Native.Nat.{ℕ}
 use mathlib.Core.Path.{_≡_, refl}
-use mathlib.Core.List.{List, [], _∷_, map}
+use mathlib.Core.Bool.{cond, false}
+use mathlib.Core.List.{List, [], _∷_, _++_, map}
 use lib.ListN.{replicate}
 use Rattle.rules.specs.Pick.{pick}
 use Rattle.rules.specs.Numbered.{firstFrom, anyBelow}
 use Rattle.sizes.specs.Sizes.{frameSizeBroken, payloadSizeBroken, sizesBroken}
 use Rattle.sizes.specs.declared.Opening.{Opening}
+use Rattle.sizes.specs.Framing.{byEof}
 use Rattle.payload.specs.declared.Stamp.{Stamp}
 use Rattle.frames.specs.declared.Reason.{Reason}
 use Rattle.frames.specs.declared.Ended.{Ended}
 use Rattle.frames.specs.declared.Fate.{Fate}
 use Rattle.frames.specs.declared.Answer.{Answer}
-use Rattle.books.specs.Answer.{answerOf, with}
+use Rattle.books.specs.Answer.{answerOf, with, hands, outcomeOf, endingOf}
 use Rattle.payload.specs.Transfer.{flagOf, needOf, transferFlags, stampOf, headerOf, readingOf}
 use Rattle.ledger.specs.Ledger.{plusOf, timedOf, postOf, shownOf}
+use Rattle.session.specs.declared.Outcome.{Outcome}
 use Rattle.session.specs.Refusals.{ledgerOf}
-use Rattle.session.specs.Session.{fresh, readOf, tookOf, takeOf, lostOf}
+use Rattle.session.specs.Session.{fresh, readOf, tookOf, handsOut, handedOf, takeOf, lostOf, closeOf}
 use Rattle.books.specs.Rule.{entries, numbersOf}
-use Rattle.frames.specs.Inner.{turnOf, spoiltOf, closedOf}
+use Rattle.frames.specs.Inner.{turnOf, handsOf, outOf, spoiltOf, closedOf}
 use Rattle.rule_50.specs.Rule50.{rule50, fillBroken, accountsBroken, countsBroken}
-use Rattle.session.specs.Call.{Call}
+use Rattle.session.specs.Call.{Ask, Call, heardOf}
 use Rattle.session.specs.Calls.{Offer, after, taken, offerWith}
 
 -- frame size 256, payload size 62
@@ -43,15 +46,15 @@ abbrev pub printed : List ℕ
 printed = 1 ∷ 3 ∷ 1 ∷ 2 ∷ 0 ∷ 0 ∷ 0 ∷ 0 ∷ 0 ∷ 0 ∷ 1 ∷ 1 ∷ 0 ∷ 0 ∷ 0 ∷ 0 ∷ 0 ∷ 0 ∷ 0 ∷ 0 ∷ 1 ∷ 1 ∷ 1 ∷ 1 ∷ 6 ∷ 12 ∷ 0 ∷ 0 ∷ 0 ∷ 0 ∷ 1 ∷ []
 
 pub by-rule : numbersOf (entries opening (map Call.transfer transfers)) ≡ printed
-unfolding pick firstFrom flagOf needOf transferFlags stampOf headerOf readingOf
+unfolding pick firstFrom byEof flagOf needOf transferFlags stampOf headerOf readingOf
 by-rule = refl
 
 pub by-session : ledgerOf (after (fresh opening) (map (Offer.take (replicate 256 0)) transfers)) .numbers ≡ printed
-unfolding pick firstFrom anyBelow frameSizeBroken payloadSizeBroken flagOf needOf transferFlags stampOf headerOf readingOf turnOf spoiltOf closedOf plusOf timedOf postOf shownOf sizesBroken fillBroken accountsBroken countsBroken rule50 readOf tookOf takeOf
+unfolding pick firstFrom anyBelow frameSizeBroken payloadSizeBroken byEof flagOf needOf transferFlags stampOf headerOf readingOf turnOf spoiltOf closedOf plusOf timedOf postOf shownOf sizesBroken fillBroken accountsBroken countsBroken rule50 readOf tookOf handsOut handsOf takeOf
 by-session = refl
 
 pub all-taken : taken (fresh opening) (map (Offer.take (replicate 256 0)) transfers) ≡ map Call.transfer transfers
-unfolding pick firstFrom anyBelow frameSizeBroken payloadSizeBroken flagOf needOf transferFlags stampOf headerOf readingOf turnOf spoiltOf closedOf plusOf timedOf postOf shownOf sizesBroken fillBroken accountsBroken countsBroken rule50 readOf tookOf takeOf
+unfolding pick firstFrom anyBelow frameSizeBroken payloadSizeBroken byEof flagOf needOf transferFlags stampOf headerOf readingOf turnOf spoiltOf closedOf plusOf timedOf postOf shownOf sizesBroken fillBroken accountsBroken countsBroken rule50 readOf tookOf handsOut handsOf takeOf
 all-taken = refl
 
 -- and what each of its transfers answers
@@ -71,45 +74,137 @@ pub answers-by-rule : answersFrom [] transfers
     ∷ only (Fate.Unreadable 61)
     ∷ only (Fate.Dropped Reason.Gap)
     ∷ []
-unfolding pick firstFrom flagOf needOf transferFlags stampOf headerOf readingOf
+unfolding pick firstFrom byEof flagOf needOf transferFlags stampOf headerOf readingOf
 answers-by-rule = refl
 
 -- Stills among the film (document 02, Ten): the step of 32 goes over a stamped still, which is in its own account; then a frame that is mixed.
-abbrev pub among-film : List Call
-among-film =
-    Call.transfer (0x06 ∷ 0x86 ∷ 0xF0 ∷ 0xFF ∷ 0xFF ∷ 0xFF ∷ 0x61 ∷ 0x62 ∷ 0x63 ∷ [])
-    ∷ Call.transfer (0x06 ∷ 0xA7 ∷ 0x07 ∷ 0x00 ∷ 0x00 ∷ 0x00 ∷ 0x73 ∷ [])
-    ∷ Call.transfer (0x02 ∷ 0x82 ∷ 0x78 ∷ 0x79 ∷ [])
-    ∷ Call.transfer (0x06 ∷ 0x87 ∷ 0x10 ∷ 0x00 ∷ 0x00 ∷ 0x00 ∷ 0x7A ∷ [])
-    ∷ Call.transfer (0x06 ∷ 0x86 ∷ 0x0B ∷ 0x00 ∷ 0x00 ∷ 0x00 ∷ 0x7A ∷ [])
-    ∷ Call.lost
-    ∷ Call.transfer (0x06 ∷ 0x87 ∷ 0x03 ∷ 0x00 ∷ 0x00 ∷ 0x00 ∷ 0x71 ∷ [])
-    ∷ Call.transfer (0x06 ∷ 0x86 ∷ 0x0B ∷ 0x00 ∷ 0x00 ∷ 0x00 ∷ 0x7A ∷ 0x7A ∷ [])
-    ∷ Call.transfer (0x02 ∷ 0x81 ∷ 0x6D ∷ [])
-    ∷ Call.transfer (0x02 ∷ 0xA3 ∷ 0x6E ∷ [])
+abbrev pub asked-film : List Ask
+asked-film =
+    Ask.transfer (0x06 ∷ 0x86 ∷ 0xF0 ∷ 0xFF ∷ 0xFF ∷ 0xFF ∷ 0x61 ∷ 0x62 ∷ 0x63 ∷ [])
+    ∷ Ask.transfer (0x06 ∷ 0xA7 ∷ 0x07 ∷ 0x00 ∷ 0x00 ∷ 0x00 ∷ 0x73 ∷ [])
+    ∷ Ask.transfer (0x02 ∷ 0x82 ∷ 0x78 ∷ 0x79 ∷ [])
+    ∷ Ask.transfer (0x06 ∷ 0x87 ∷ 0x10 ∷ 0x00 ∷ 0x00 ∷ 0x00 ∷ 0x7A ∷ [])
+    ∷ Ask.transfer (0x06 ∷ 0x86 ∷ 0x0B ∷ 0x00 ∷ 0x00 ∷ 0x00 ∷ 0x7A ∷ [])
+    ∷ Ask.lost
+    ∷ Ask.transfer (0x06 ∷ 0x87 ∷ 0x03 ∷ 0x00 ∷ 0x00 ∷ 0x00 ∷ 0x71 ∷ [])
+    ∷ Ask.transfer (0x06 ∷ 0x86 ∷ 0x0B ∷ 0x00 ∷ 0x00 ∷ 0x00 ∷ 0x7A ∷ 0x7A ∷ [])
+    ∷ Ask.transfer (0x02 ∷ 0x81 ∷ 0x6D ∷ [])
+    ∷ Ask.transfer (0x02 ∷ 0xA3 ∷ 0x6E ∷ [])
     ∷ []
+
+abbrev pub among-film : List Call
+among-film = map heardOf asked-film
 
 abbrev pub billed-apart : List ℕ
 billed-apart =
     5 ∷ 9 ∷ 1 ∷ 1 ∷ 0 ∷ 0 ∷ 0 ∷ 0 ∷ 0 ∷ 0 ∷ 0 ∷ 0 ∷ 0 ∷ 0 ∷ 1 ∷ 1 ∷ 1 ∷ 2 ∷ 0 ∷ 0 ∷ 0 ∷ 0 ∷ 0 ∷ 0 ∷ 9 ∷ 42 ∷ 1 ∷ 0 ∷ 32 ∷ 1 ∷ 1 ∷ []
 
 pub stills-by-rule : numbersOf (entries opening among-film) ≡ billed-apart
-unfolding pick firstFrom flagOf needOf transferFlags stampOf headerOf readingOf
+unfolding pick firstFrom byEof flagOf needOf transferFlags stampOf headerOf readingOf
 stills-by-rule = refl
 
-pub stills-by-session : ledgerOf (after (fresh opening) (map (offerWith (replicate 256 0)) among-film)) .numbers ≡ billed-apart
-unfolding pick firstFrom anyBelow frameSizeBroken payloadSizeBroken flagOf needOf transferFlags stampOf headerOf readingOf turnOf spoiltOf closedOf plusOf timedOf postOf shownOf sizesBroken fillBroken accountsBroken countsBroken rule50 readOf tookOf takeOf lostOf
+pub stills-by-session : ledgerOf (after (fresh opening) (map (offerWith (replicate 256 0)) asked-film)) .numbers ≡ billed-apart
+unfolding pick firstFrom anyBelow frameSizeBroken payloadSizeBroken byEof flagOf needOf transferFlags stampOf headerOf readingOf turnOf spoiltOf closedOf plusOf timedOf postOf shownOf sizesBroken fillBroken accountsBroken countsBroken rule50 readOf tookOf handsOut handsOf takeOf lostOf
 stills-by-session = refl
 
 -- what its still, its mixed frame and an empty still answer
 pub still-answer : answerOf opening [] (0x06 ∷ 0xA7 ∷ 0x07 ∷ 0x00 ∷ 0x00 ∷ 0x00 ∷ 0x73 ∷ []) ≡ only (Fate.Still (record { len = 1; stamp = Stamp.At 7 }))
-unfolding pick firstFrom flagOf needOf transferFlags stampOf headerOf readingOf
+unfolding pick firstFrom byEof flagOf needOf transferFlags stampOf headerOf readingOf
 still-answer = refl
 
 pub mixed-answer : answerOf opening (Call.transfer (0x02 ∷ 0x81 ∷ 0x6D ∷ []) ∷ []) (0x02 ∷ 0xA3 ∷ 0x6E ∷ []) ≡ only (Fate.Dropped Reason.Mixed)
-unfolding pick firstFrom flagOf needOf transferFlags stampOf headerOf readingOf
+unfolding pick firstFrom byEof flagOf needOf transferFlags stampOf headerOf readingOf
 mixed-answer = refl
 
 pub empty-still : answerOf opening [] (0x02 ∷ 0xA2 ∷ []) ≡ only (Fate.Dropped Reason.Empty)
-unfolding pick firstFrom flagOf needOf transferFlags stampOf headerOf readingOf
+unfolding pick firstFrom byEof flagOf needOf transferFlags stampOf headerOf readingOf
 empty-still = refl
+
+-- A camera that sends no EOF (document 02, Two): frame size 256, payload size 62, framing 1, so that D1 is clear. Two frames are handed out, each before a transfer that is
+-- offered again; then a frame with a gap before it, an empty one, and one that close cuts. EOF is ignored.
+abbrev pub no-eof : Opening
+no-eof = record { frame = 256; payload = 62; framing = 1 }
+
+abbrev pub asked : List Ask
+asked =
+    Ask.transfer (0x02 ∷ 0x80 ∷ 0xAA ∷ [])
+    ∷ Ask.transfer (0x02 ∷ 0x82 ∷ 0xBB ∷ [])
+    ∷ Ask.transfer (0x02 ∷ 0x81 ∷ 0xCC ∷ [])
+    ∷ Ask.transfer (0x02 ∷ 0x81 ∷ 0xCC ∷ [])
+    ∷ Ask.transfer (0x02 ∷ 0x80 ∷ 0xDD ∷ [])
+    ∷ Ask.lost
+    ∷ Ask.transfer (0x02 ∷ 0x80 ∷ 0xDD ∷ [])
+    ∷ Ask.transfer (0x02 ∷ 0x80 ∷ 0x11 ∷ [])
+    ∷ Ask.transfer (0x02 ∷ 0x81 ∷ [])
+    ∷ Ask.transfer (0x02 ∷ 0x80 ∷ [])
+    ∷ Ask.transfer (0x02 ∷ 0x80 ∷ 0xEE ∷ [])
+    ∷ Ask.close
+    ∷ []
+
+-- the list that comes of it
+abbrev pub listed : List Call
+listed =
+    Call.transfer (0x02 ∷ 0x80 ∷ 0xAA ∷ [])
+    ∷ Call.transfer (0x02 ∷ 0x82 ∷ 0xBB ∷ [])
+    ∷ Call.handed
+    ∷ Call.transfer (0x02 ∷ 0x81 ∷ 0xCC ∷ [])
+    ∷ Call.handed
+    ∷ Call.lost
+    ∷ Call.transfer (0x02 ∷ 0x80 ∷ 0xDD ∷ [])
+    ∷ Call.transfer (0x02 ∷ 0x80 ∷ 0x11 ∷ [])
+    ∷ Call.transfer (0x02 ∷ 0x81 ∷ [])
+    ∷ Call.transfer (0x02 ∷ 0x80 ∷ [])
+    ∷ Call.transfer (0x02 ∷ 0x80 ∷ 0xEE ∷ [])
+    ∷ Call.close
+    ∷ []
+
+-- delivered 2 3, gap 1 2, cut 1 1, empty 1 0, headers 8 16, lost 1, untimed 2
+abbrev pub by-fid : List ℕ
+by-fid = 2 ∷ 3 ∷ 1 ∷ 2 ∷ 0 ∷ 0 ∷ 0 ∷ 0 ∷ 0 ∷ 0 ∷ 1 ∷ 1 ∷ 1 ∷ 0 ∷ 0 ∷ 0 ∷ 0 ∷ 0 ∷ 0 ∷ 0 ∷ 0 ∷ 0 ∷ 0 ∷ 0 ∷ 8 ∷ 16 ∷ 1 ∷ 0 ∷ 0 ∷ 0 ∷ 2 ∷ []
+
+pub no-eof-by-rule : numbersOf (entries no-eof listed) ≡ by-fid
+unfolding pick firstFrom byEof flagOf needOf transferFlags stampOf headerOf readingOf
+no-eof-by-rule = refl
+
+pub no-eof-by-session : ledgerOf (after (fresh no-eof) (map (offerWith (replicate 256 0)) asked)) .numbers ≡ by-fid
+unfolding pick firstFrom anyBelow frameSizeBroken payloadSizeBroken byEof flagOf needOf transferFlags stampOf headerOf readingOf turnOf spoiltOf closedOf plusOf timedOf postOf shownOf sizesBroken fillBroken accountsBroken countsBroken rule50 readOf tookOf handsOut handsOf handedOf outOf takeOf lostOf closeOf
+no-eof-by-session = refl
+
+pub no-eof-listed : taken (fresh no-eof) (map (offerWith (replicate 256 0)) asked) ≡ listed
+unfolding pick firstFrom anyBelow frameSizeBroken payloadSizeBroken byEof flagOf needOf transferFlags stampOf headerOf readingOf turnOf spoiltOf closedOf plusOf timedOf postOf shownOf sizesBroken fillBroken accountsBroken countsBroken rule50 readOf tookOf handsOut handsOf handedOf outOf takeOf lostOf closeOf
+no-eof-listed = refl
+
+-- what each take comes to by the rule, and what close answers
+abbrev outcomesFrom : List Call → List Ask → List Outcome
+outcomesFrom cs [] = []
+outcomesFrom cs (Ask.transfer t ∷ more) = outcomeOf no-eof cs t ∷ outcomesFrom (cs ++ (cond (hands no-eof cs t) Call.handed (Call.transfer t) ∷ [])) more
+outcomesFrom cs (Ask.lost ∷ more) = outcomesFrom (cs ++ (Call.lost ∷ [])) more
+outcomesFrom cs (Ask.close ∷ more) = []
+
+abbrev kept : Outcome
+kept = Outcome.Taken (only Fate.Kept)
+
+abbrev handed-film : ℕ → Outcome
+handed-film n = Outcome.Handed (record { still = false; delivery = record { len = n; stamp = Stamp.Absent } })
+
+abbrev kept-after : Reason → Outcome
+kept-after w = Outcome.Taken (record { ended = Ended.Frame w; fate = Fate.Kept })
+
+pub no-eof-outcomes : outcomesFrom [] asked
+    ≡ kept
+    ∷ kept
+    ∷ handed-film 2
+    ∷ kept
+    ∷ handed-film 1
+    ∷ kept
+    ∷ kept
+    ∷ kept-after Reason.Gap
+    ∷ kept-after Reason.Empty
+    ∷ kept
+    ∷ []
+unfolding pick firstFrom byEof flagOf needOf transferFlags stampOf headerOf readingOf
+no-eof-outcomes = refl
+
+pub no-eof-close : endingOf no-eof (Call.transfer (0x02 ∷ 0x80 ∷ 0xEE ∷ []) ∷ []) ≡ Ended.Frame Reason.Cut
+unfolding pick firstFrom byEof flagOf needOf transferFlags stampOf headerOf readingOf
+no-eof-close = refl

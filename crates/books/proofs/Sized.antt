@@ -1,5 +1,6 @@
 -- Whatever is called, a ledger keeps all its numbers.
 use Prim.Native.Nat.{ℕ, zero, suc, _-_}
+use mathlib.Core.Bool.{Bool, true, false}
 use mathlib.Core.List.{List}
 use lib.ListN.{length}
 use Rattle.rules.specs.Numbered.{firstRow}
@@ -10,15 +11,17 @@ use Rattle.frames.specs.declared.Ended.{Ended}
 use Rattle.frames.specs.declared.Ended.the-variants.{Nothing, Frame}
 use Rattle.frames.specs.declared.Fate.{Fate}
 use Rattle.frames.specs.declared.Turn.{Turn}
+use Rattle.frames.specs.declared.HandOut.{HandOut}
+use Rattle.frames.specs.Track.{handing}
 use Rattle.ledger.specs.declared.Ledger.{Ledger}
 use Rattle.ledger.specs.Entry.{Entry}
 use Rattle.ledger.specs.Ledger.{postOf, endedOf, fatedOf}
 use Rattle.session.specs.declared.Session.{Session}
 use Rattle.session.specs.Refusals.{postedOf, takeRows, lostRows, closeRows}
-use Rattle.session.specs.Session.{turned, readOf, tookBy, tookOf, takeBy, takeOf, lostBy, lostOf, closeBy, closeOf}
+use Rattle.session.specs.Session.{turned, readOf, tookBy, tookOf, handsOut, handedOf, metBy, takeBy, takeOf, lostBy, lostOf, closeBy, closeOf}
 use Rattle.books.proofs.Posts.{post-sized}
 use Rattle.ledger.proofs.Places.{Sized}
-use Rattle.frames.specs.Inner.{closedOf}
+use Rattle.frames.specs.Inner.{outOf, closedOf}
 use Rattle.session.specs.Calls.{Offer, next}
 
 module _ (s : Session) (z : Sized (postedOf s)) where
@@ -44,12 +47,22 @@ module _ (s : Session) (z : Sized (postedOf s)) where
       fated-sized (x .answer .fate) (x .bytes) (endedOf (postOf (postedOf s) (Entry.Headers (h .len))) (x .answer .ended) (x .gone))
       (ended-sized (x .answer .ended) (x .gone) (postOf (postedOf s) (Entry.Headers (h .len))) (post-sized (postedOf s) (Entry.Headers (h .len)) z))
 
+  handed-sized : Sized (postedOf (handedOf s .session))
+  unfolding handedOf
+  handed-sized =
+      let x : HandOut = outOf (s .rest .track) .frame in
+      fated-sized (handing (x .still) (x .delivery)) (x .delivery .len) (postedOf s) z
+
   pub next-sized : (x : Offer) → Sized (postedOf (next s x))
   unfolding takeOf tookOf lostOf closeOf
   next-sized (Offer.take b t) = go (firstRow (takeRows s (length b) (length t)))
     where
+      met : (b : Bool) → Sized (postedOf (metBy b s t .session))
+      met true = handed-sized
+      met false = took-sized (readingOf (s .rest .opening) t) t
+
       go : (k : ℕ) → Sized (postedOf (takeBy k s t .session))
-      go zero = took-sized (readingOf (s .rest .opening) t) t
+      go zero = met (handsOut s t)
       go (suc k) = z
   next-sized Offer.lost = go (firstRow (lostRows s))
     where

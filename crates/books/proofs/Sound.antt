@@ -1,7 +1,7 @@
 -- A session reached from a fresh one is never refused by 50.
 use Prim.Native.Nat.{ℕ, zero, suc, _+_, _-_, _*_, _^_, _≤_, _<_}
 use mathlib.Core.Path.{_≡_, refl, sym, _∙_, subst, ap}
-use mathlib.Core.Bool.{Bool, true, false, _||_}
+use mathlib.Core.Bool.{Bool, true, false, cond, _||_}
 use mathlib.Core.List.{List, [], _∷_}
 use native.Mathlib.Omega.{arith}
 use lib.ListN.{length}
@@ -16,7 +16,7 @@ use Rattle.payload.specs.declared.Reading.{Reading}
 use Rattle.payload.specs.declared.Reading.the-variants.{Idle, Unreadable, Readable}
 use Rattle.payload.specs.Transfer.{readingOf}
 use Rattle.frames.specs.declared.Reason.{Reason}
-use Rattle.frames.specs.declared.Reason.the-variants.{Gap, Error, Clock, Mixed, Long, Cut}
+use Rattle.frames.specs.declared.Reason.the-variants.{Gap, Error, Clock, Mixed, Long}
 use Rattle.frames.specs.declared.Fault.{Fault}
 use Rattle.frames.specs.declared.Fault.the-variants.{Sound, Bad}
 use Rattle.frames.specs.declared.Run.{Run}
@@ -25,16 +25,16 @@ use Rattle.frames.specs.declared.Phase.the-variants.{Fresh, Under, Past}
 use Rattle.frames.specs.declared.Ended.the-variants.{Nothing, Frame}
 use Rattle.session.specs.declared.Session.{Session}
 use Rattle.session.specs.Refusals.{recordBroken, ledgerOf, takeRows}
-use Rattle.session.specs.Session.{fresh, readOf, tookBy, tookOf}
-use Rattle.books.specs.Rule.{lostLine, idleLine, events, received}
+use Rattle.session.specs.Session.{fresh, readOf, tookBy, tookOf, handsOut, handedOf}
+use Rattle.books.specs.Rule.{Event, eventBy, events, loose, lostLine, idleLine, received}
 use Rattle.books.specs.Demands.{Right}
-use Rattle.books.proofs.Taken.{Proper, after-run}
+use Rattle.books.proofs.Taken.{Proper, listed, after-run}
 use Rattle.books.proofs.Accounts.{count-right, bytes-right, all-right}
-use Rattle.books.proofs.Bounds.{count-bound, bytes-bound, ticks-bound, backward-bound, untimed-bound}
+use Rattle.books.proofs.Bounds.{heard, count-bound, bytes-bound, ticks-bound, backward-bound, untimed-bound}
 use Rattle.books.proofs.History.{next-opening}
 use Rattle.ledger.specs.Accounts.{accountCount}
 use Rattle.sizes.specs.Sizes.{sizesBroken}
-use Rattle.frames.specs.Inner.{firstOf, clashOf, sameOf, mixedOf, whyOf, begunOf, joinedOf, filledOf, phaseOf, joinTurn, strayTurn, turnBy, turnOf, spoiltBy, spoiltOf, closedBy, closedOf}
+use Rattle.frames.specs.Inner.{firstOf, clashOf, sameOf, mixedOf, whyOf, begunOf, joinedOf, filledOf, endsOf, turnedWhy, phaseOf, joinTurn, strayTurn, turnBy, turnOf, outBy, outOf, spoiltBy, spoiltOf, closedBy, closedOf}
 use Rattle.rule_50.specs.Rule50.{rule50, unequal, fillBroken, accountBroken, accountsBroken, countsBroken}
 use Rattle.session.specs.Call.{Call}
 use Rattle.session.specs.Calls.{Offer, refusal, next, after, callOf, unless, taken, nextCall, run}
@@ -77,22 +77,27 @@ fit-join o h n x false f =
 
 fit-turn : (o : Opening) (h : Header) (n : ℕ) (ph : Phase) (b : Bool) → Fit (o .frame) ph → Fit (o .frame) (turnBy ph o b h n .track .phase)
 unfolding pick
-fit-turn o h n Fresh b f = fit-join o h n (begunOf b (h .fid) (h .still)) (h .eof) (snug-begun (o .frame) b)
+fit-turn o h n Fresh b f = fit-join o h n (begunOf b (h .fid) (h .still)) (endsOf o h) (snug-begun (o .frame) b)
 fit-turn o h n (Past g) b f = go (sameOf g (h .fid))
   where
     go : (c : Bool) → Fit (o .frame) (pick c (strayTurn g n) (joinTurn o (begunOf b (h .fid) (h .still)) h n Nothing 0) .track .phase)
     go true = tt
-    go false = fit-join o h n (begunOf b (h .fid) (h .still)) (h .eof) (snug-begun (o .frame) b)
+    go false = fit-join o h n (begunOf b (h .fid) (h .still)) (endsOf o h) (snug-begun (o .frame) b)
 fit-turn o h n (Under x) b f = go (sameOf (x .fid) (h .fid))
   where
-    go : (c : Bool) → Fit (o .frame) (pick c (joinTurn o x h n Nothing 0) (joinTurn o (begunOf b (h .fid) (h .still)) h n (Frame (whyOf (x .fault) Cut)) (x .bytes)) .track .phase)
-    go true = fit-join o h n x (h .eof) f
-    go false = fit-join o h n (begunOf b (h .fid) (h .still)) (h .eof) (snug-begun (o .frame) b)
+    go : (c : Bool) → Fit (o .frame) (pick c (joinTurn o x h n Nothing 0) (joinTurn o (begunOf b (h .fid) (h .still)) h n (Frame (whyOf (x .fault) (turnedWhy o))) (x .bytes)) .track .phase)
+    go true = fit-join o h n x (endsOf o h) f
+    go false = fit-join o h n (begunOf b (h .fid) (h .still)) (endsOf o h) (snug-begun (o .frame) b)
 
 fit-spoilt : (frame : ℕ) (ph : Phase) → Fit frame ph → Fit frame (spoiltBy ph)
 fit-spoilt frame Fresh f = f
 fit-spoilt frame (Past g) f = f
 fit-spoilt frame (Under x) f = snug-spoilt frame (x .fault) Gap (x .fill) (x .bytes) f
+
+pub fit-out : (frame : ℕ) (ph : Phase) (b : Bool) → Fit frame (outBy ph b .track .phase)
+fit-out frame Fresh b = tt
+fit-out frame (Past g) b = tt
+fit-out frame (Under x) b = tt
 
 fit-closed : (frame : ℕ) (ph : Phase) (b : Bool) → Fit frame (closedBy ph b .track .phase)
 fit-closed frame Fresh b = tt
@@ -106,9 +111,10 @@ fit-took s t (Unreadable k) f = fit-spoilt (s .rest .opening .frame) (s .rest .t
 fit-took s t (Readable h) f = fit-turn (s .rest .opening) h (length t - h .len) (s .rest .track .phase) (s .rest .track .gap) f
 
 pub fit-next : (s : Session) (c : Call) → Fit (s .rest .opening .frame) (s .rest .track .phase) → Fit (s .rest .opening .frame) (nextCall s c .rest .track .phase)
-unfolding tookOf spoiltOf closedOf
+unfolding tookOf spoiltOf closedOf handedOf outOf
 fit-next s (Call.transfer t) f = fit-took s t (readingOf (s .rest .opening) t) f
 fit-next s Call.lost f = fit-spoilt (s .rest .opening .frame) (s .rest .track .phase) f
+fit-next s Call.handed f = fit-out (s .rest .opening .frame) (s .rest .track .phase) (s .rest .track .gap)
 fit-next s Call.close f = fit-closed (s .rest .opening .frame) (s .rest .track .phase) (s .rest .track .gap)
 
 pub fit-run : (o : Opening) (cs : List Call) (s : Session) → s .rest .opening ≡ o → Fit (o .frame) (s .rest .track .phase) → Fit (o .frame) (run s cs .rest .track .phase)
@@ -140,11 +146,18 @@ took-taken s t Idle = refl
 took-taken s t (Unreadable k) = refl
 took-taken s t (Readable h) = refl
 
-pub run-taken : (o : Opening) (cs : List Call) (s : Session) → Proper cs → run s cs .rest .taken ≡ s .rest .taken + length (events o cs)
-unfolding tookOf
+event-one : (t : List ℕ) (es : List Event) (r : Reading) → length (loose (eventBy r t ∷ es)) ≡ suc (length (loose es))
+event-one t es Idle = refl
+event-one t es (Unreadable k) = refl
+event-one t es (Readable h) = refl
+
+pub run-taken : (o : Opening) (cs : List Call) (s : Session) → Proper s cs → run s cs .rest .taken ≡ s .rest .taken + heard o cs
+unfolding tookOf handedOf
 run-taken o [] s p = omega arith
-run-taken o (Call.transfer t ∷ cs) s p = omega (arith, run-taken o cs (nextCall s (Call.transfer t)) p, took-taken s t (readingOf (s .rest .opening) t))
+run-taken o (Call.transfer t ∷ cs) s p =
+    omega (arith, run-taken o cs (nextCall s (Call.transfer t)) (p .1), took-taken s t (readingOf (s .rest .opening) t), event-one t (events o cs) (readingOf o t))
 run-taken o (Call.lost ∷ cs) s p = omega (arith, run-taken o cs (nextCall s Call.lost) p)
+run-taken o (Call.handed ∷ cs) s p = run-taken o cs (nextCall s Call.handed) (p .1)
 run-taken o (Call.close ∷ []) s p = omega arith
 run-taken o (Call.close ∷ (c ∷ cs)) s p = absurd p
 
@@ -153,12 +166,14 @@ abbrev pub Small : List Call → Type 0
 Small [] = Unit {0}
 Small (Call.transfer t ∷ cs) = (length t ≤ 65536) × Small cs
 Small (Call.lost ∷ cs) = Small cs
+Small (Call.handed ∷ cs) = Small cs
 Small (Call.close ∷ cs) = Small cs
 
-small-received : (o : Opening) (cs : List Call) → Small cs → received cs ≤ 65536 * length (events o cs)
+small-received : (o : Opening) (cs : List Call) → Small cs → received cs ≤ 65536 * heard o cs
 small-received o [] h = omega arith
-small-received o (Call.transfer t ∷ cs) h = omega (arith, h .0, small-received o cs (h .1))
+small-received o (Call.transfer t ∷ cs) h = omega (arith, h .0, small-received o cs (h .1), event-one t (events o cs) (readingOf o t))
 small-received o (Call.lost ∷ cs) h = omega (arith, small-received o cs h)
+small-received o (Call.handed ∷ cs) h = small-received o cs h
 small-received o (Call.close ∷ cs) h = omega arith
 
 take-rows : (s : Session) (room n : ℕ) → Numbered (takeRows s room n)
@@ -173,9 +188,13 @@ pub taken-small : (s : Session) (xs : List Offer) → Small (taken s xs)
 taken-small s [] = tt
 taken-small s (x ∷ xs) = go x (refusal s x) refl (taken-small (next s x) xs)
   where
-    go : (y : Offer) (k : ℕ) → refusal s y ≡ k → Small (taken (next s y) xs) → Small (unless k (callOf y) (taken (next s y) xs))
+    met : (b t : List ℕ) (c : Bool) → refusal s (Offer.take b t) ≡ 0 → (cs : List Call) → Small cs → Small (cond c Call.handed (Call.transfer t) ∷ cs)
+    met b t true e cs r = r
+    met b t false e cs r = (take-small s (length b) (length t) e, r)
+
+    go : (y : Offer) (k : ℕ) → refusal s y ≡ k → Small (taken (next s y) xs) → Small (unless k (callOf s y) (taken (next s y) xs))
     go y (suc k) e r = r
-    go (Offer.take b t) zero e r = (take-small s (length b) (length t) e, r)
+    go (Offer.take b t) zero e r = rw (listed s b t (handsOut s t) e refl) (met b t (handsOut s t) e (taken (next s (Offer.take b t)) xs) r)
     go Offer.lost zero e r = r
     go Offer.close zero e r = r
 
@@ -183,11 +202,11 @@ taken-small s (x ∷ xs) = go x (refusal s x) refl (taken-small (next s x) xs)
 under : (n x m : ℕ) → x ≡ m → m ≤ n → ltb n x ≡ false
 under n x m e h = le-ltb n x (omega arith)
 
-module _ (o : Opening) (cs : List Call) (p : Proper cs) (small : Small cs) where
+module _ (o : Opening) (cs : List Call) (p : Proper (fresh o) cs) (small : Small cs) where
   abbrev at-end : Session
   at-end = run (fresh o) cs
 
-  counted : at-end .rest .taken ≡ length (events o cs)
+  counted : at-end .rest .taken ≡ heard o cs
   counted = run-taken o cs (fresh o) p ∙ omega arith
 
   account-fine : (k : ℕ) → k < accountCount → accountBroken (ledgerOf at-end) (at-end .rest .taken) k ≡ false

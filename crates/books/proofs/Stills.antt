@@ -20,7 +20,7 @@ use Rattle.ledger.specs.declared.Ledger.{Ledger}
 use Rattle.ledger.specs.Accounts.{placeOf, accountFor}
 use Rattle.ledger.specs.Entry.{Entry}
 use Rattle.session.specs.Call.{Call}
-use Rattle.books.specs.Rule.{Event, idle, unreadable, missing, readable, events, isOpen, Seen, readables, same, ahead, runs, frameOf, strayOf, complete, dataOf, firstStamp, stillOf, _or_, when, differs, faultAt, gapAfter, faultFrom, gapBefore, fault, verdict, strays, judge, nothing, judged, loose, entryOf, framesBy, entries, lineOf, oneIn, partIn, total}
+use Rattle.books.specs.Rule.{Event, idle, unreadable, missing, readable, mark, events, isOpen, Seen, readables, same, ahead, runs, closes, frameOf, strayOf, complete, dataOf, firstStamp, stillOf, _or_, when, differs, faultAt, gapAfter, faultFrom, gapBefore, fault, verdict, strays, judge, nothing, judged, loose, entryOf, framesBy, entries, lineOf, oneIn, partIn, total}
 use Rattle.books.specs.Demands.{Right, Film, NoStill, NoneStill, WithoutStills}
 use Rattle.books.proofs.History.{map-append}
 
@@ -39,6 +39,7 @@ readables-clear b (idle ∷ es) f = readables-clear b es f
 readables-clear b (unreadable n ∷ es) f = readables-clear true es f
 readables-clear b (missing ∷ es) f = readables-clear true es f
 readables-clear b (readable h d ∷ es) f = (f .0, readables-clear false es (f .1))
+readables-clear b (mark ∷ es) f = readables-clear b es f
 
 ahead-clear : (t : Seen) (rs : List (List Seen)) → t .header .still ≡ false → AllClear rs → AllClear (ahead t rs)
 ahead-clear t [] e c = ((e, tt), tt)
@@ -53,11 +54,11 @@ runs-clear : (ts : List Seen) → Clear ts → AllClear (runs ts)
 runs-clear [] c = tt
 runs-clear (t ∷ ts) c = ahead-clear t (runs ts) (c .0) (runs-clear ts (c .1))
 
-frame-clear : (r : List Seen) → Clear r → Clear (frameOf r)
-frame-clear [] c = tt
-frame-clear (t ∷ ts) c = (c .0, go (t .header .eof) (frame-clear ts (c .1)))
+frame-clear : (o : Opening) (r : List Seen) → Clear r → Clear (frameOf o r)
+frame-clear o [] c = tt
+frame-clear o (t ∷ ts) c = (c .0, go (closes o t) (frame-clear o ts (c .1)))
   where
-    go : (b : Bool) → Clear (frameOf ts) → Clear (cond b [] (frameOf ts))
+    go : (b : Bool) → Clear (frameOf o ts) → Clear (cond b [] (frameOf o ts))
     go true rec = tt
     go false rec = rec
 
@@ -102,7 +103,7 @@ module _ (o : Opening) (s : Stamp) where
   from-not n [] c = tt
   from-not n (t ∷ ts) c =
       or-not (faultAt o s false n (t .header) (length (t .load))) _ (at-not n (t .header) (length (t .load)) (c .0))
-      (or-not (when (gapAfter t) Gap) _ (when-not (gapAfter t) Gap refl) (from-not (n + length (t .load)) ts (c .1)))
+      (or-not (when (gapAfter o t) Gap) _ (when-not (gapAfter o t) Gap refl) (from-not (n + length (t .load)) ts (c .1)))
 
 fault-not : (o : Opening) (r : List Seen) → Clear r → NotMixed (fault o r)
 fault-not o r c = or-not (when (gapBefore r) Gap) _ (when-not (gapBefore r) Gap refl) (rw (still-clear r c) (from-not o (firstStamp r) 0 r c))
@@ -131,11 +132,11 @@ strays-film (t ∷ ts) = (tt, strays-film ts)
 judged-film : (o : Opening) (p : Bool) (rs : List (List Seen)) → AllClear rs → NoneStill (map entryOf (judged o p rs))
 judged-film o p [] c = tt
 judged-film o p (r ∷ rs) c =
-    let f : List Seen = frameOf r in
-    let k = frame-clear r (c .0) in
-    subst NoneStill (sym (map-append (judge o (p && nothing rs) r) (judged o p rs)))
-    (none-append (map entryOf (judge o (p && nothing rs) r)) (map entryOf (judged o p rs))
-    (verdict-film (p && nothing rs) (complete f) (fault o f) (firstStamp f) (stillOf f) (length (dataOf f)) (fault-not o f k) (still-clear f k), strays-film (strayOf r))
+    let f : List Seen = frameOf o r in
+    let k = frame-clear o r (c .0) in
+    subst NoneStill (sym (map-append (judge o p (nothing rs) r) (judged o p rs)))
+    (none-append (map entryOf (judge o p (nothing rs) r)) (map entryOf (judged o p rs))
+    (verdict-film (p && nothing rs) (complete o (nothing rs) f) (fault o f) (firstStamp f) (stillOf f) (length (dataOf f)) (fault-not o f k) (still-clear f k), strays-film (strayOf o r))
     (judged-film o p rs (c .1)))
 
 loose-film : (es : List Event) → NoneStill (loose es)
@@ -144,6 +145,7 @@ loose-film (idle ∷ es) = (tt, loose-film es)
 loose-film (unreadable n ∷ es) = (tt, loose-film es)
 loose-film (missing ∷ es) = (tt, loose-film es)
 loose-film (readable h d ∷ es) = (tt, loose-film es)
+loose-film (mark ∷ es) = loose-film es
 
 frames-film : (o : Opening) (cs : List Call) → Film (events o cs) → NoneStill (map entryOf (framesBy o cs))
 frames-film o cs f = judged-film o (isOpen cs) (runs (readables false (events o cs))) (runs-clear (readables false (events o cs)) (readables-clear false (events o cs) f))

@@ -2,8 +2,9 @@
 -- admissible sizes.
 use Prim.Native.Nat.{ℕ, zero, suc, _≤_}
 use mathlib.Core.Path.{_≡_, refl, sym, _∙_, ap, subst, fun-ext}
-use mathlib.Core.Bool.{Bool, false}
+use mathlib.Core.Bool.{Bool, true, false}
 use mathlib.Core.List.{List, [], _∷_, _++_, map}
+use mathlib.Core.Logic.{_↔_}
 use native.Mathlib.Omega.{arith}
 use lib.ListN.{length, getD, replicate}
 use lib.Dec.{eqb}
@@ -11,9 +12,12 @@ use borrow.Author.Tests.{le-ltb}
 use Rattle.rules.specs.Numbered.{firstFrom, orElse, Down}
 use Rattle.rules.proofs.Numbered.{first-zero}
 use Rattle.sizes.specs.declared.Opening.{Opening}
+use Rattle.sizes.specs.Framing.{byEof}
 use Rattle.frames.specs.declared.Answer.{Answer}
 use Rattle.frames.specs.declared.Delivery.{Delivery}
 use Rattle.frames.specs.declared.Ended.{Ended}
+use Rattle.frames.specs.declared.HandOut.{HandOut}
+use Rattle.frames.specs.Track.{handing}
 use Rattle.ledger.specs.declared.Account.{Account}
 use Rattle.session.specs.declared.Session.{Session}
 use Rattle.session.specs.declared.Start.{Start}
@@ -23,22 +27,26 @@ use Rattle.session.specs.declared.Closing.{Closing}
 use Rattle.session.specs.Refusals.{takenMost, openingFlags, recordBroken, ledgerOf}
 use Rattle.session.specs.Session.{fresh, openBy, openOf, takeOf, bufferBy, bufferOf, lostOf, closeOf}
 use Rattle.books.specs.Rule.{events, entries, numbersOf, stamps, forward, between, received}
-use Rattle.books.specs.Demands.{Right, over, allBytes, endedItems, Gains, Says, handing, Whole, Film, WithoutStills}
-use Rattle.books.specs.Answer.{answerOf, endingOf, writtenOf}
+use Rattle.books.specs.Demands.{Right, over, allBytes, endedItems, fateItems, Gains, Says, Whole, Film, WithoutStills}
+use Rattle.books.specs.HandedOut.{HandsOut, HandedWhole, MarkedBefore, EofFraming}
+use Rattle.books.specs.Answer.{answerOf, outcomeOf, endingOf, writtenOf}
 use Rattle.books.proofs.Taken.{next-refused, after-run, Proper, taken-proper, close-last}
 use Rattle.books.proofs.Accounts.{all-right}
 use Rattle.books.proofs.Received.{entries-bytes, over-all}
 use Rattle.books.proofs.Sound.{taken-small, record-sound, after-opening}
-use Rattle.books.proofs.Answers.{transfer-says, lost-says, close-says}
-use Rattle.books.proofs.ByList.{transfer-answers, transfer-writes, lost-answers, close-answers}
-use Rattle.books.proofs.Whole.{handed-whole}
+use Rattle.books.proofs.Answers.{transfer-says, handed-says, lost-says, close-says}
+use Rattle.books.proofs.ByList.{transfer-answers, transfer-writes, lost-answers, close-answers, all-marked}
+use Rattle.books.proofs.HandedOut.{handed-out, by-eof-alone, again}
+use Rattle.books.proofs.HandedOut as out
+use Rattle.books.proofs.Whole.{delivered-whole}
+use Rattle.books.proofs.Whole as buffers
 use Rattle.books.proofs.Print.{run-numbers}
 use Rattle.books.proofs.Stills.{without-stills}
 use Rattle.books.proofs.Samples.{opening, transfers, printed, by-rule, by-session}
 use Rattle.ledger.specs.Accounts.{ticksAt, accounts}
 use Rattle.sizes.specs.Sizes.{sizesBroken}
 use Rattle.rule_50.specs.Rule50.{transferMost}
-use Rattle.session.specs.Call.{Call}
+use Rattle.session.specs.Call.{Ask, Call}
 use Rattle.session.specs.Calls.{Offer, refusal, next, after, taken, run, offers, bufferAfter}
 
 -- An opening that is not refused gives a fresh session of admissible sizes.
@@ -66,9 +74,9 @@ history o xs = after-run (fresh o) xs
 
 -- close is the last of the calls taken
 pub nothing-after-close : (o : Opening) (xs : List Offer) (before rest : List Call) → taken (fresh o) xs ≡ before ++ (Call.close ∷ rest) → rest ≡ []
-nothing-after-close o xs before rest e = close-last before rest (subst Proper e (taken-proper (fresh o) xs))
+nothing-after-close o xs before rest e = close-last before rest (fresh o) (subst (Proper (fresh o)) e (taken-proper (fresh o) xs))
 
--- 2. "Each account is what document 01's rule gives from the opening sizes and the list of calls alone": every count and every byte, lost, idle, ticks, backward and untimed.
+-- 2. "Each account is what document 01's rule gives from the opening sizes (and the framing byte) and the list of calls alone": every count and every byte, lost, idle, ticks, backward and untimed.
 pub accounts-right : (o : Opening) (xs : List Offer) → Right o (taken (fresh o) xs) (ledgerOf (after (fresh o) xs))
 accounts-right o xs = subst (λ (s : Session). Right o (taken (fresh o) xs) (ledgerOf s)) (sym (history o xs)) (all-right o (taken (fresh o) xs) (taken-proper (fresh o) xs))
 
@@ -76,7 +84,7 @@ accounts-right o xs = subst (λ (s : Session). Right o (taken (fresh o) xs) (led
 pub numbers-right : (o : Opening) (xs : List Offer) → ledgerOf (after (fresh o) xs) .numbers ≡ numbersOf (entries o (taken (fresh o) xs))
 numbers-right o xs = ap (λ (s : Session). ledgerOf s .numbers) (history o xs) ∙ run-numbers o (taken (fresh o) xs) (taken-proper (fresh o) xs)
 
--- 3. "Together they are the bytes received, and the ticks are the sum of forward steps."
+-- 3. "Together they are the bytes received, and the ticks are the sum of forward steps." Bytes received are those of transfers taken.
 pub nothing-missing : (o : Opening) (xs : List Offer) → allBytes (ledgerOf (after (fresh o) xs)) ≡ received (taken (fresh o) xs)
 nothing-missing o xs =
     ap (λ (f : Account → ℕ). over f accounts) (fun-ext (accounts-right o xs .bytes)) ∙ over-all (entries o (taken (fresh o) xs)) ∙ entries-bytes o (taken (fresh o) xs)
@@ -84,9 +92,9 @@ nothing-missing o xs =
 pub ticks-right : (o : Opening) (xs : List Offer) → getD (ledgerOf (after (fresh o) xs) .numbers) ticksAt 0 ≡ between forward (stamps (entries o (taken (fresh o) xs)))
 ticks-right o xs = accounts-right o xs .ticks
 
--- 4. Each answer is one definition of the list: what became of a frame ended, and the transfer's own fate, with number, length and stamp.
+-- 4. Each answer is one definition of the list: a frame handed out; or what became of a frame ended, and the transfer's own fate, with number, length and stamp.
 pub answer-right : (o : Opening) (xs : List Offer) (buffer t : List ℕ) → refusal (after (fresh o) xs) (Offer.take buffer t) ≡ 0
-    → takeOf (after (fresh o) xs) (length buffer) t .outcome ≡ Outcome.Taken (answerOf o (taken (fresh o) xs) t)
+    → takeOf (after (fresh o) xs) (length buffer) t .outcome ≡ outcomeOf o (taken (fresh o) xs) t
 answer-right = transfer-answers
 
 pub report-right : (o : Opening) (xs : List Offer) → refusal (after (fresh o) xs) Offer.lost ≡ 0 → lostOf (after (fresh o) xs) .report ≡ Report.Noted
@@ -105,6 +113,10 @@ written-right = transfer-writes
 pub answer-gains : (o : Opening) (xs : List Offer) (buffer t : List ℕ) (a : Answer) → takeOf (after (fresh o) xs) (length buffer) t .outcome ≡ Outcome.Taken a → Says o (taken (fresh o) xs) (Call.transfer t) a
 answer-gains = transfer-says
 
+pub handed-gains : (o : Opening) (xs : List Offer) (buffer t : List ℕ) (x : HandOut) → takeOf (after (fresh o) xs) (length buffer) t .outcome ≡ Outcome.Handed x
+    → (d : List ℕ) × Gains o (taken (fresh o) xs) Call.handed (fateItems (handing (x .still) (x .delivery)) (x .delivery .len) d)
+handed-gains = handed-says
+
 pub report-gains : (o : Opening) (xs : List Offer) → lostOf (after (fresh o) xs) .report ≡ Report.Noted → Gains o (taken (fresh o) xs) Call.lost []
 report-gains = lost-says
 
@@ -113,10 +125,30 @@ pub close-gains : (o : Opening) (xs : List Offer) (e : Ended) → closeOf (after
 close-gains = close-says
 
 -- 5. "A frame handed out is exactly the payload bytes of one whole frame, in order", delivered or a still: with one buffer that nobody else writes and that is never shorter than the frame size.
-pub whole : (o : Opening) (buffer : List ℕ) (calls : List Call) → o .frame ≤ length buffer → (t : List ℕ) (a : Answer) (b : Bool) (d : Delivery)
+pub whole : (o : Opening) (buffer : List ℕ) (calls : List Ask) → o .frame ≤ length buffer → (t : List ℕ) (a : Answer) (b : Bool) (d : Delivery)
     → takeOf (after (fresh o) (offers (fresh o) buffer calls)) (length (bufferAfter (fresh o) buffer calls)) t .outcome ≡ Outcome.Taken a → a .fate ≡ handing b d
     → Whole o (taken (fresh o) (offers (fresh o) buffer calls) ++ (Call.transfer t ∷ [])) b d (bufferOf (after (fresh o) (offers (fresh o) buffer calls)) (bufferAfter (fresh o) buffer calls) t)
-whole o buffer calls room t a b d e f = handed-whole o buffer calls room t a b d e f
+whole o buffer calls room t a b d e f = delivered-whole o buffer calls room t a b d e f
+
+-- "Its data must be fetched first, so that call hands out the frame" (document 02, Two): at a hand-out the buffer's first bytes are the frame's payload bytes, in order.
+pub handed-whole : (o : Opening) (buffer : List ℕ) (calls : List Ask) → o .frame ≤ length buffer → (t : List ℕ) (x : HandOut)
+    → takeOf (after (fresh o) (offers (fresh o) buffer calls)) (length (bufferAfter (fresh o) buffer calls)) t .outcome ≡ Outcome.Handed x
+    → HandedWhole o (taken (fresh o) (offers (fresh o) buffer calls)) x (bufferOf (after (fresh o) (offers (fresh o) buffer calls)) (bufferAfter (fresh o) buffer calls) t)
+handed-whole o buffer calls room t x e = buffers.handed-whole o buffer calls room t x e
+
+-- A take that is not refused hands out exactly when the list says so: D1 clear, the transfer readable, the last run of the other FID and unmarked, its frame without fault so far
+-- and with data; and it hands out that frame.
+pub handed-exactly : (o : Opening) (xs : List Offer) (buffer t : List ℕ) (x : HandOut) → refusal (after (fresh o) xs) (Offer.take buffer t) ≡ 0
+    → (takeOf (after (fresh o) xs) (length buffer) t .outcome ≡ Outcome.Handed x) ↔ HandsOut o (taken (fresh o) xs) t x
+handed-exactly = handed-out
+
+-- "A readable transfer of the other FID arrives": no frame is passed over without being handed out.
+pub marked-before : (o : Opening) (xs : List Offer) → byEof o ≡ false → MarkedBefore o (taken (fresh o) xs)
+marked-before o xs e = all-marked o (taken (fresh o) xs) e (taken-proper (fresh o) xs)
+
+-- "With D1 set nothing changes": there are no marks, and each parameter of the rule is document 01's.
+pub eof-framing : (o : Opening) (xs : List Offer) → byEof o ≡ true → EofFraming o (taken (fresh o) xs)
+eof-framing o xs e = by-eof-alone o (taken (fresh o) xs) e (taken-proper (fresh o) xs)
 
 -- 6. A session reached from a fresh one is never refused by 50. An open one refuses a lost report by 52 alone, so it does a transfer of at most 65,536 bytes with a buffer of the
 -- frame size, and it never refuses close.
@@ -137,6 +169,16 @@ module _ (o : Opening) (sizes : sizesBroken o ≡ false) (xs : List Offer) (open
 
   pub close-never : refusal (after (fresh o) xs) Offer.close ≡ 0
   close-never = rw (never-stuck o sizes xs, open₀)
+
+-- "The caller offers it again" (document 02, Two): in a session reached from a fresh one the same transfer, offered next with the same buffer, is taken; and of every record, two
+-- hand-outs never follow each other.
+pub handed-again : (o : Opening) → sizesBroken o ≡ false → (xs : List Offer) (buffer t : List ℕ) (x : HandOut) → takeOf (after (fresh o) xs) (length buffer) t .outcome ≡ Outcome.Handed x
+    → takeOf (after (fresh o) (xs ++ (Offer.take buffer t ∷ []))) (length buffer) t .outcome ≡ Outcome.Taken (answerOf o (taken (fresh o) xs ++ (Call.handed ∷ [])) t)
+handed-again o e xs buffer t x p = again o xs buffer t x p (never-stuck o e (xs ++ (Offer.take buffer t ∷ [])))
+
+pub never-twice : (s : Session) (b t c u : List ℕ) (x y : HandOut) → takeOf s (length b) t .outcome ≡ Outcome.Handed x
+    → takeOf (takeOf s (length b) t .session) (length c) u .outcome ≡ Outcome.Handed y → ⊥
+never-twice = out.never-twice
 
 -- "Still pictures among the film" (document 02, Ten): where no readable transfer has D5, no frame is a still or mixed, and both accounts are zero.
 pub no-stills : (o : Opening) (xs : List Offer) → Film (events o (taken (fresh o) xs)) → WithoutStills o (taken (fresh o) xs) (ledgerOf (after (fresh o) xs))

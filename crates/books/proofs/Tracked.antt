@@ -1,13 +1,14 @@
 -- The tracker and the last run of the list: what each turn answers and writes is what the rule says of the last run.
 use Prim.Native.Nat.{ℕ, _+_}
 use mathlib.Core.Path.{_≡_, refl, sym, _∙_, ap, subst}
-use mathlib.Core.Bool.{Bool, true, false, cond, not, _||_, Bool·beq}
+use mathlib.Core.Bool.{Bool, true, false, cond, not, _&&_, _||_, Bool·beq}
 use mathlib.Core.List.{List, [], _∷_}
 use lib.ListN.{length, length-append}
 use lib.Seq.{paste, paste-zero}
 use lib.Dec.{ltb, eqb}
 use Rattle.rules.specs.Pick.{pick}
 use Rattle.sizes.specs.declared.Opening.{Opening}
+use Rattle.sizes.specs.Framing.{byEof}
 use Rattle.payload.specs.declared.Header.{Header}
 use Rattle.payload.specs.declared.Stamp.{Stamp}
 use Rattle.payload.specs.declared.Stamp.the-variants.{Absent}
@@ -22,25 +23,33 @@ use Rattle.frames.specs.declared.Ended.the-variants.{Nothing, Frame}
 use Rattle.frames.specs.declared.Fate.{Fate}
 use Rattle.frames.specs.declared.Delivery.{Delivery}
 use Rattle.frames.specs.declared.Turn.{Turn}
-use Rattle.frames.specs.Inner.{whyOf, sameOf, begunOf, joinedOf, completeOf, fateOf, phaseOf, joinTurn, strayTurn, turnBy}
+use Rattle.frames.specs.Inner.{whyOf, sameOf, begunOf, joinedOf, completeOf, endsOf, turnedWhy, fateOf, phaseOf, joinTurn, strayTurn, turnBy, readyOf, handsBy, outBy}
 use Rattle.frames.specs.Inner as track
 use Rattle.ledger.specs.Entry.{Entry}
-use Rattle.books.specs.Rule.{Seen, frameOf, strayOf, complete, dataOf, _orStamp_, firstStamp, stillOf, _or_, when, faultAt, fault, handedOut, verdict}
-use Rattle.books.specs.Answer.{frameEntry, reasonIn, endedIn, goesOn, fateIn, fateBy, fateOn, earlier, writtenBy, writtenIn}
+use Rattle.books.specs.Rule.{Seen, closes, frameOf, strayOf, closed, complete, dataOf, _orStamp_, firstStamp, stillOf, _or_, when, faultAt, fault, handedOut, verdict}
+use Rattle.books.specs.Answer.{frameEntry, reasonIn, endedIn, turnedIn, goesOn, fateIn, fateBy, fateOn, turns, isSound, handsIn, outOf, earlier, writtenBy, writtenIn}
 use Rattle.books.proofs.Cut.{or-sound, stamp-absent, earlier-or, same-beq, fault-or}
-use Rattle.books.proofs.Owed.{and-false, begun-fault}
+use Rattle.books.proofs.Owed.{and-false, not-false, begun-fault, Whole}
 use Rattle.books.proofs.Sound.{Snug, Fit, faultBy, snug-begun}
-use Rattle.books.proofs.OneMore.{seenWith, grown}
-use Rattle.books.proofs.Grown.{and, frame-whole, complete-frame, complete-more, frame-more, stray-none, stray-more, earlier-more, data-more, stamp-more, soFar, fault-more}
+use Rattle.books.proofs.OneMore.{seenWith, markLast, grown}
+use Rattle.books.proofs.Grown.{and, frame-whole, closed-frame, closed-more, closed-marked, frame-more, stray-none, stray-more, earlier-more, data-more, stamp-more, soFar, fault-more}
+
+or-false : (b : Bool) → (b || false) ≡ b
+or-false true = refl
+or-false false = refl
+
+-- while its run is the last, a frame is complete if something closes it
+pub complete-last : (o : Opening) (ts : List Seen) → complete o true ts ≡ closed o ts
+complete-last o ts = ap (closed o ts ||_) (and-false (not (byEof o))) ∙ or-false (closed o ts)
 
 -- a run of this FID
 abbrev pub Of : Bool → List Seen → Type 0
 Of f [] = ⊥
 Of f (t ∷ ts) = t .header .fid ≡ f
 
--- a frame part read, as the tracker holds it: r has no EOF; q is its fault so far, b its still bit
+-- a frame part read, as the tracker holds it: nothing closes r; q is its fault so far, b its still bit
 pub record Part (o : Opening) (q : Fault) (b : Bool) (x : Run) (r : List Seen) : Type 0 where
-  pub going : complete r ≡ false
+  pub going : closed o r ≡ false
   pub fault₀ : x .fault ≡ q
   pub still₀ : x .still ≡ b
   pub stamp₀ : x .stamp ≡ firstStamp r
@@ -50,7 +59,7 @@ pub record Part (o : Opening) (q : Fault) (b : Bool) (x : Run) (r : List Seen) :
 abbrev pub Tracks : Opening → Phase → List Seen → Type 0
 Tracks o Fresh r = r ≡ []
 Tracks o (Under x) r = Of (x .fid) r × Part o (fault o r) (stillOf r) x r
-Tracks o (Past f) r = Of f r × (complete r ≡ true)
+Tracks o (Past f) r = Of f r × (closed o r ≡ true)
 
 -- ---- the tracker's words and the rule's
 complete-same : (q : Fault) (s : Stamp) (b : Bool) (n : ℕ) → completeOf q n s b ≡ fateIn (verdict true true q s b n)
@@ -93,7 +102,7 @@ module _ (o : Opening) (h : Header) (d : List ℕ) (b : Bool) where
     alone : fault o (and r t) ≡ soFar o t r or faultAt o (firstStamp (and r t)) (stillOf (and r t)) (length (dataOf r)) h n
     alone =
         let f : Fault = faultAt o (firstStamp (and r t)) (stillOf (and r t)) (length (dataOf r)) h n in
-        fault-more o r t ∙ ap (λ (c : Bool). soFar o t r or (f or when c Gap)) (and-false (not (h .eof))) ∙ ap (soFar o t r or_) (or-sound f)
+        fault-more o r t ∙ ap (λ (c : Bool). soFar o t r or (f or when c Gap)) (and-false (not (endsOf o h))) ∙ ap (soFar o t r or_) (or-sound f)
 
     joined-fault : y .fault ≡ fault o (and r t)
     joined-fault =
@@ -107,28 +116,29 @@ module _ (o : Opening) (h : Header) (d : List ℕ) (b : Bool) where
     joined-bytes : y .bytes ≡ length (dataOf (and r t))
     joined-bytes = ap (_+ n) (p .bytes₀) ∙ sym (ap length (data-more r t) ∙ length-append (dataOf r) d)
 
-    joined-eof : complete (and r t) ≡ h .eof
-    joined-eof = complete-more r t ∙ ap (_|| h .eof) (p .going)
+    joined-eof : closed o (and r t) ≡ endsOf o h
+    joined-eof = closed-more o r t ∙ ap (_|| closes o t) (p .going) ∙ or-false (endsOf o h)
 
     -- its fate is the rule's
-    entry-right : frameEntry o true (and r t) ≡ verdict true (h .eof) (y .fault) (y .stamp) (y .still) (y .bytes)
+    entry-right : frameEntry o true true (and r t) ≡ verdict true (endsOf o h) (y .fault) (y .stamp) (y .still) (y .bytes)
     entry-right =
-        ap (λ (f : List Seen). verdict true (complete f) (fault o f) (firstStamp f) (stillOf f) (length (dataOf f))) (frame-more r t (p .going))
-        ∙ sym (ap (λ (q : Fault). verdict true (h .eof) q (y .stamp) (y .still) (y .bytes)) joined-fault
-        ∙ ap (λ (s : Stamp). verdict true (h .eof) (fault o (and r t)) s (y .still) (y .bytes)) joined-stamp
-        ∙ ap (λ (c : Bool). verdict true (h .eof) (fault o (and r t)) (firstStamp (and r t)) c (y .bytes)) (p .still₀)
-        ∙ ap (verdict true (h .eof) (fault o (and r t)) (firstStamp (and r t)) (stillOf (and r t))) joined-bytes
+        ap (λ (f : List Seen). verdict true (complete o true f) (fault o f) (firstStamp f) (stillOf f) (length (dataOf f))) (frame-more o r t (p .going))
+        ∙ ap (λ (e : Bool). verdict true e (fault o (and r t)) (firstStamp (and r t)) (stillOf (and r t)) (length (dataOf (and r t)))) (complete-last o (and r t))
+        ∙ sym (ap (λ (q : Fault). verdict true (endsOf o h) q (y .stamp) (y .still) (y .bytes)) joined-fault
+        ∙ ap (λ (s : Stamp). verdict true (endsOf o h) (fault o (and r t)) s (y .still) (y .bytes)) joined-stamp
+        ∙ ap (λ (c : Bool). verdict true (endsOf o h) (fault o (and r t)) (firstStamp (and r t)) c (y .bytes)) (p .still₀)
+        ∙ ap (verdict true (endsOf o h) (fault o (and r t)) (firstStamp (and r t)) (stillOf (and r t))) joined-bytes
         ∙ ap (λ (e : Bool). verdict true e (fault o (and r t)) (firstStamp (and r t)) (stillOf (and r t)) (length (dataOf (and r t)))) (sym joined-eof))
 
-    joined-fate : fateOf (h .eof) y ≡ fateOn o (and r t)
+    joined-fate : fateOf (endsOf o h) y ≡ fateOn o (and r t)
     joined-fate =
-        fate-same (h .eof) y ∙ ap fateIn (sym entry-right) ∙ ap (λ (ts : List Seen). fateBy ts (frameEntry o true (and r t))) (sym (stray-none r t (p .going)))
+        fate-same (endsOf o h) y ∙ ap fateIn (sym entry-right) ∙ ap (λ (ts : List Seen). fateBy ts (frameEntry o true true (and r t))) (sym (stray-none o r t (p .going)))
 
     -- what the tracker knows after it
-    joined-tracks : Of (x .fid) (and r t) → Tracks o (phaseOf (h .eof) y) (and r t)
-    joined-tracks f = go (h .eof) refl
+    joined-tracks : Of (x .fid) (and r t) → Tracks o (phaseOf (endsOf o h) y) (and r t)
+    joined-tracks f = go (endsOf o h) refl
       where
-        go : (e : Bool) → h .eof ≡ e → Tracks o (phaseOf e y) (and r t)
+        go : (e : Bool) → endsOf o h ≡ e → Tracks o (phaseOf e y) (and r t)
         go true e = (f, joined-eof ∙ e)
         go false e = (f, record { going = joined-eof ∙ e; fault₀ = joined-fault; still₀ = p .still₀; stamp₀ = joined-stamp; bytes₀ = joined-bytes })
 
@@ -142,29 +152,49 @@ module _ (o : Opening) (h : Header) (d : List ℕ) (b : Bool) where
         put B (y .fault) (λ e. filled (o .frame) (x .fault) (h .error) (track.clashOf (x .stamp) (h .stamp)) (track.mixedOf x h) (ltb (o .frame) (x .bytes + n)) (x .fill) (x .bytes) g e ∙ p .bytes₀)
         ∙ ap (λ (q : Fault). writtenBy [] q (length (dataOf r)) d B) joined-fault
         ∙ ap (λ (l : List Seen). writtenBy [] (fault o (and r t)) (length (dataOf l)) d B) (sym (earlier-more r t))
-        ∙ ap (λ (f : List Seen). writtenBy [] (fault o f) (length (dataOf (earlier f))) d B) (sym (frame-more r t (p .going)))
-        ∙ ap (λ (ts : List Seen). writtenBy ts (fault o (frameOf (and r t))) (length (dataOf (earlier (frameOf (and r t))))) d B) (sym (stray-none r t (p .going)))
+        ∙ ap (λ (f : List Seen). writtenBy [] (fault o f) (length (dataOf (earlier f))) d B) (sym (frame-more o r t (p .going)))
+        ∙ ap (λ (ts : List Seen). writtenBy ts (fault o (frameOf o (and r t))) (length (dataOf (earlier (frameOf o (and r t))))) d B) (sym (stray-none o r t (p .going)))
 
 -- ---- a frame that is ended
-reason-same : (q : Fault) (s : Stamp) (b : Bool) (k : ℕ) → reasonIn (verdict false false q s b k) ≡ Frame (whyOf q Cut)
-reason-same Sound s b k = refl
-reason-same (Bad w) s b k = refl
-
-pub part-ended : (o : Opening) (x : Run) (u : Seen) (us : List Seen) → Part o (fault o (u ∷ us)) (u .header .still) x (u ∷ us) → endedIn o (u ∷ us) ≡ Frame (whyOf (x .fault) Cut)
-part-ended o x u us p =
+pub part-closed : (o : Opening) (x : Run) (u : Seen) (us : List Seen) → Part o (fault o (u ∷ us)) (u .header .still) x (u ∷ us) → endedIn o false true (u ∷ us) ≡ Frame (whyOf (x .fault) Cut)
+part-closed o x u us p =
     let r : List Seen = u ∷ us in
-    let z : ℕ = length (dataOf (frameOf r)) in
-    ap (λ (c : Bool). cond c Nothing (reasonIn (verdict false c (fault o (frameOf r)) (firstStamp (frameOf r)) (stillOf (frameOf r)) z))) (complete-frame r ∙ p .going)
-    ∙ reason-same (fault o (frameOf r)) (firstStamp (frameOf r)) (stillOf (frameOf r)) z
-    ∙ ap (λ (f : List Seen). Frame (whyOf (fault o f) Cut)) (frame-whole r (p .going))
+    let f : List Seen = frameOf o r in
+    ap (λ (c : Bool). cond (closed o f) Nothing (reasonIn (verdict false c (fault o f) (firstStamp f) (stillOf f) (length (dataOf f))))) (complete-last o f)
+    ∙ ap (λ (c : Bool). cond c Nothing (reasonIn (verdict false c (fault o f) (firstStamp f) (stillOf f) (length (dataOf f))))) (closed-frame o r ∙ p .going)
+    ∙ reason-same (fault o f) (firstStamp f) (stillOf f) (length (dataOf f))
+    ∙ ap (λ (g : List Seen). Frame (whyOf (fault o g) Cut)) (frame-whole o r (p .going))
     ∙ ap (λ (q : Fault). Frame (whyOf q Cut)) (sym (p .fault₀))
+  where
+    reason-same : (q : Fault) (s : Stamp) (b : Bool) (k : ℕ) → reasonIn (verdict false false q s b k) ≡ Frame (whyOf q Cut)
+    reason-same Sound s b k = refl
+    reason-same (Bad w) s b k = refl
 
-pub past-ended : (o : Opening) (u : Seen) (us : List Seen) → complete (u ∷ us) ≡ true → endedIn o (u ∷ us) ≡ Nothing
-past-ended o u us e = ap (λ (c : Bool). cond c Nothing (reasonIn (frameEntry o false (u ∷ us)))) (complete-frame (u ∷ us) ∙ e)
+-- by another FID: with D1 clear it is complete, and would have been handed out without a fault and with data
+turned-same : (c : Bool) (q : Fault) (s : Stamp) (b : Bool) (k : ℕ) → (not c && readyOf q k) ≡ false → reasonIn (verdict false (not c && true) q s b k) ≡ Frame (whyOf q (pick c Cut Empty))
+unfolding pick
+turned-same true Sound s b k n = refl
+turned-same true (Bad w) s b k n = refl
+turned-same false (Bad w) s b k n = refl
+turned-same false Sound s b k n = rw (not-false (eqb k 0) n)
+
+part-turned : (o : Opening) (x : Run) (u : Seen) (us : List Seen) → Part o (fault o (u ∷ us)) (u .header .still) x (u ∷ us) → (not (byEof o) && readyOf (x .fault) (x .bytes)) ≡ false
+    → turnedIn o (u ∷ us) ≡ Frame (whyOf (x .fault) (turnedWhy o))
+part-turned o x u us p n =
+    let r : List Seen = u ∷ us in
+    let f : List Seen = frameOf o r in
+    ap (λ (c : Bool). cond c Nothing (reasonIn (verdict false (c || (not (byEof o) && true)) (fault o f) (firstStamp f) (stillOf f) (length (dataOf f))))) (closed-frame o r ∙ p .going)
+    ∙ ap (λ (g : List Seen). reasonIn (verdict false (not (byEof o) && true) (fault o g) (firstStamp g) (stillOf g) (length (dataOf g)))) (frame-whole o r (p .going))
+    ∙ ap (λ (q : Fault). reasonIn (verdict false (not (byEof o) && true) q (firstStamp r) (stillOf r) (length (dataOf r)))) (sym (p .fault₀))
+    ∙ ap (λ (k : ℕ). reasonIn (verdict false (not (byEof o) && true) (x .fault) (firstStamp r) (stillOf r) k)) (sym (p .bytes₀))
+    ∙ turned-same (byEof o) (x .fault) (firstStamp r) (stillOf r) (x .bytes) n
+
+pub past-ended : (o : Opening) (open₀ last : Bool) (u : Seen) (us : List Seen) → closed o (u ∷ us) ≡ true → endedIn o open₀ last (u ∷ us) ≡ Nothing
+past-ended o open₀ last u us e = ap (λ (c : Bool). cond c Nothing (reasonIn (frameEntry o open₀ last (u ∷ us)))) (closed-frame o (u ∷ us) ∙ e)
 
 -- ---- ONE TURN: what it answers, leaves and writes
 pub record Turned (o : Opening) (h : Header) (d : List ℕ) (r s : List Seen) (T : Turn) : Type 0 where
-  pub ended : T .answer .ended ≡ cond (goesOn h r) Nothing (endedIn o r)
+  pub ended : T .answer .ended ≡ cond (goesOn h r) Nothing (turnedIn o r)
   pub fate : T .answer .fate ≡ fateOn o s
   pub tracks : Tracks o (T .track .phase) s
   pub written : (B : List ℕ) → paste B (T .at) d (T .len) ≡ writtenIn o s d B
@@ -181,7 +211,7 @@ module _ (o : Opening) (h : Header) (d : List ℕ) (b : Bool) where
   begun-part : Part o (when b Gap) (h .still) (begunOf b (h .fid) (h .still)) []
   begun-part = record { going = refl; fault₀ = begun-fault b; still₀ = refl; stamp₀ = refl; bytes₀ = refl }
 
-  begun-turned : (r : List Seen) (ended : Ended) (gone : ℕ) → ended ≡ cond (goesOn h r) Nothing (endedIn o r) → Turned o h d r (t o h d b ∷ []) (joinTurn o (begunOf b (h .fid) (h .still)) h (length d) ended gone)
+  begun-turned : (r : List Seen) (ended : Ended) (gone : ℕ) → ended ≡ cond (goesOn h r) Nothing (turnedIn o r) → Turned o h d r (t o h d b ∷ []) (joinTurn o (begunOf b (h .fid) (h .still)) h (length d) ended gone)
   begun-turned r ended gone e =
       let x : Run = begunOf b (h .fid) (h .still) in
       record {
@@ -194,42 +224,80 @@ module _ (o : Opening) (h : Header) (d : List ℕ) (b : Bool) where
   joined-turned : (x : Run) (u : Seen) (us : List Seen) → u .header .fid ≡ x .fid → Part o (fault o (u ∷ us)) (u .header .still) x (u ∷ us) → Snug (o .frame) (x .fault) (x .fill) (x .bytes)
       → goesOn h (u ∷ us) ≡ true → Turned o h d (u ∷ us) (and (u ∷ us) (t o h d b)) (joinTurn o x h (length d) Nothing 0)
   joined-turned x u us f p g e = record {
-    ended = sym (ap (λ (c : Bool). cond c Nothing (endedIn o (u ∷ us))) e);
+    ended = sym (ap (λ (c : Bool). cond c Nothing (turnedIn o (u ∷ us))) e);
     fate = joined-fate o h d b x (u ∷ us) p;
     tracks = joined-tracks o h d b x (u ∷ us) p f;
     written = joined-written o h d b x (u ∷ us) p g;
   }
 
-  stray-turned : (f : Bool) (u : Seen) (us : List Seen) → u .header .fid ≡ f → complete (u ∷ us) ≡ true → goesOn h (u ∷ us) ≡ true
+  stray-turned : (f : Bool) (u : Seen) (us : List Seen) → u .header .fid ≡ f → closed o (u ∷ us) ≡ true → goesOn h (u ∷ us) ≡ true
       → Turned o h d (u ∷ us) (and (u ∷ us) (t o h d b)) (strayTurn f (length d))
   stray-turned f u us q w e =
       let r : List Seen = u ∷ us in
       let z : Seen = t o h d b in
       record {
-        ended = sym (ap (λ (c : Bool). cond c Nothing (endedIn o r)) e);
-        fate = stray-fate (strayOf r) z (frameEntry o true (and r z)) ∙ ap (λ (ts : List Seen). fateBy ts (frameEntry o true (and r z))) (sym (stray-more r z w));
-        tracks = (q, complete-more r z ∙ ap (_|| h .eof) w);
-        written = λ B. sym (paste-zero B 0 d) ∙ stray-written (strayOf r) z (fault o (frameOf (and r z))) (length (dataOf (earlier (frameOf (and r z))))) d B
-            ∙ ap (λ (ts : List Seen). writtenBy ts (fault o (frameOf (and r z))) (length (dataOf (earlier (frameOf (and r z))))) d B) (sym (stray-more r z w));
+        ended = sym (ap (λ (c : Bool). cond c Nothing (turnedIn o r)) e);
+        fate = stray-fate (strayOf o r) z (frameEntry o true true (and r z)) ∙ ap (λ (ts : List Seen). fateBy ts (frameEntry o true true (and r z))) (sym (stray-more o r z w));
+        tracks = (q, closed-more o r z ∙ ap (_|| closes o z) w);
+        written = λ B. sym (paste-zero B 0 d) ∙ stray-written (strayOf o r) z (fault o (frameOf o (and r z))) (length (dataOf (earlier (frameOf o (and r z))))) d B
+            ∙ ap (λ (ts : List Seen). writtenBy ts (fault o (frameOf o (and r z))) (length (dataOf (earlier (frameOf o (and r z))))) d B) (sym (stray-more o r z w));
       }
 
   same-run : (f : Bool) (u : Seen) → u .header .fid ≡ f → sameOf f (h .fid) ≡ Bool·beq (u .header .fid) (h .fid)
   same-run f u e = same-beq f (h .fid) ∙ ap (λ (g : Bool). Bool·beq g (h .fid)) (sym e)
 
-  pub turn-right : (ph : Phase) (r : List Seen) → Tracks o ph r → Fit (o .frame) ph → Turned o h d r (grown r (t o h d b)) (turnBy ph o b h (length d))
+  pub turn-right : (ph : Phase) (r : List Seen) → Tracks o ph r → Fit (o .frame) ph → handsBy ph o h ≡ false → Turned o h d r (grown r (t o h d b)) (turnBy ph o b h (length d))
   unfolding pick
-  turn-right Fresh r e g = subst (λ (l : List Seen). Turned o h d l (grown l (t o h d b)) (turnBy Fresh o b h (length d))) (sym e) (begun-turned [] Nothing 0 refl)
-  turn-right (Under x) [] e g = absurd (e .0)
-  turn-right (Under x) (u ∷ us) e g = rw (same-run (x .fid) u (e .0)) (go (Bool·beq (u .header .fid) (h .fid)) refl)
+  turn-right Fresh r e g n = subst (λ (l : List Seen). Turned o h d l (grown l (t o h d b)) (turnBy Fresh o b h (length d))) (sym e) (begun-turned [] Nothing 0 refl)
+  turn-right (Under x) [] e g n = absurd (e .0)
+  turn-right (Under x) (u ∷ us) e g n = rw (same-run (x .fid) u (e .0)) (go (Bool·beq (u .header .fid) (h .fid)) refl (rw (same-run (x .fid) u (e .0)) at n))
     where
-      go : (c : Bool) → goesOn h (u ∷ us) ≡ c → Turned o h d (u ∷ us) (cond c (and (u ∷ us) (t o h d b)) (t o h d b ∷ []))
-          (pick c (joinTurn o x h (length d) Nothing 0) (joinTurn o (begunOf b (h .fid) (h .still)) h (length d) (Frame (whyOf (x .fault) Cut)) (x .bytes)))
-      go true q = joined-turned x u us (e .0) (e .1) g q
-      go false q = begun-turned (u ∷ us) (Frame (whyOf (x .fault) Cut)) (x .bytes) (sym (ap (λ (c : Bool). cond c Nothing (endedIn o (u ∷ us))) q ∙ part-ended o x u us (e .1)))
-  turn-right (Past f) [] e g = absurd (e .0)
-  turn-right (Past f) (u ∷ us) e g = rw (same-run f u (e .0)) (go (Bool·beq (u .header .fid) (h .fid)) refl)
+      go : (c : Bool) → goesOn h (u ∷ us) ≡ c → (not (byEof o) && (not c && readyOf (x .fault) (x .bytes))) ≡ false → Turned o h d (u ∷ us) (cond c (and (u ∷ us) (t o h d b)) (t o h d b ∷ []))
+          (pick c (joinTurn o x h (length d) Nothing 0) (joinTurn o (begunOf b (h .fid) (h .still)) h (length d) (Frame (whyOf (x .fault) (turnedWhy o))) (x .bytes)))
+      go true q m = joined-turned x u us (e .0) (e .1) g q
+      go false q m = begun-turned (u ∷ us) (Frame (whyOf (x .fault) (turnedWhy o))) (x .bytes) (sym (ap (λ (c : Bool). cond c Nothing (turnedIn o (u ∷ us))) q ∙ part-turned o x u us (e .1) m))
+  turn-right (Past f) [] e g n = absurd (e .0)
+  turn-right (Past f) (u ∷ us) e g n = rw (same-run f u (e .0)) (go (Bool·beq (u .header .fid) (h .fid)) refl)
     where
       go : (c : Bool) → goesOn h (u ∷ us) ≡ c → Turned o h d (u ∷ us) (cond c (and (u ∷ us) (t o h d b)) (t o h d b ∷ []))
           (pick c (strayTurn f (length d)) (joinTurn o (begunOf b (h .fid) (h .still)) h (length d) Nothing 0))
       go true q = stray-turned f u us (e .0) (e .1) q
-      go false q = begun-turned (u ∷ us) Nothing 0 (sym (ap (λ (c : Bool). cond c Nothing (endedIn o (u ∷ us))) q ∙ past-ended o u us (e .1)))
+      go false q = begun-turned (u ∷ us) Nothing 0 (sym (ap (λ (c : Bool). cond c Nothing (turnedIn o (u ∷ us))) q ∙ past-ended o true false u us (e .1)))
+
+-- ---- THE HAND-OUT: the tracker finds it where the rule does, and hands out the rule's frame
+ready-same : (q : Fault) (n : ℕ) → readyOf q n ≡ (isSound q && not (eqb n 0))
+ready-same Sound n = refl
+ready-same (Bad w) n = refl
+
+pub hands-right : (o : Opening) (h : Header) (ph : Phase) (r : List Seen) → Tracks o ph r → handsBy ph o h ≡ handsIn o h r
+hands-right o h Fresh r e = sym (rw e (and-false (not (byEof o))))
+hands-right o h (Under x) [] e = absurd (e .0)
+hands-right o h (Under x) (u ∷ us) e =
+    let r : List Seen = u ∷ us in
+    let p = e .1 in
+    ap (λ (c : Bool). not (byEof o) && (not c && readyOf (x .fault) (x .bytes))) (same-beq (x .fid) (h .fid) ∙ ap (λ (g : Bool). Bool·beq g (h .fid)) (sym (e .0)))
+    ∙ ap (λ (c : Bool). not (byEof o) && (turns h r && c)) (ready-same (x .fault) (x .bytes)
+    ∙ ap (λ (q : Fault). isSound q && not (eqb (x .bytes) 0)) (p .fault₀)
+    ∙ ap (λ (k : ℕ). isSound (fault o r) && not (eqb k 0)) (p .bytes₀)
+    ∙ ap (λ (f : List Seen). isSound (fault o f) && not (eqb (length (dataOf f)) 0)) (sym (frame-whole o r (p .going)))
+    ∙ ap (λ (c : Bool). not c && (isSound (fault o (frameOf o r)) && not (eqb (length (dataOf (frameOf o r))) 0))) (sym (p .going)))
+hands-right o h (Past f) r e = sym (rw (e .1, and-false (turns h r)) (and-false (not (byEof o))))
+
+pub out-right : (o : Opening) (ph : Phase) (b : Bool) (r : List Seen) → Whole ph → Tracks o ph r → outBy ph b .frame ≡ outOf o r
+out-right o Fresh b r w e = absurd w
+out-right o (Past f) b r w e = absurd w
+out-right o (Under x) b r w e =
+    let p = e .1 in
+    sym (ap (λ (f : List Seen). record { still = stillOf f; delivery = record { len = length (dataOf f); stamp = firstStamp f } }) (frame-whole o r (p .going))
+    ∙ rw (p .still₀, p .stamp₀, p .bytes₀))
+
+noted-of : (f : Bool) (r : List Seen) → Of f r → Of f (markLast r)
+noted-of f [] e = e
+noted-of f (t ∷ []) e = e
+noted-of f (t ∷ (u ∷ us)) e = e
+
+pub out-tracks : (o : Opening) (ph : Phase) (b : Bool) (r : List Seen) → Whole ph → Tracks o ph r → Tracks o (outBy ph b .track .phase) (markLast r)
+out-tracks o Fresh b r w e = absurd w
+out-tracks o (Past f) b r w e = absurd w
+out-tracks o (Under x) b [] w e = absurd (e .0)
+out-tracks o (Under x) b (u ∷ us) w e = (noted-of (x .fid) (u ∷ us) (e .0), closed-marked o u us)

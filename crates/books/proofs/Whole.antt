@@ -15,25 +15,27 @@ use Rattle.frames.specs.declared.Fault.{Fault}
 use Rattle.frames.specs.declared.Fault.the-variants.{Sound, Bad}
 use Rattle.frames.specs.declared.Delivery.{Delivery}
 use Rattle.frames.specs.declared.Fate.{Fate}
+use Rattle.frames.specs.declared.HandOut.{HandOut}
+use Rattle.frames.specs.Track.{handing}
 use Rattle.frames.specs.declared.Answer.{Answer}
 use Rattle.ledger.specs.Entry.{Entry}
 use Rattle.session.specs.declared.Session.{Session}
 use Rattle.session.specs.declared.Outcome.{Outcome}
-use Rattle.session.specs.Session.{fresh, takeOf, bufferBy, bufferOf}
-use Rattle.session.specs.Call.{Call}
+use Rattle.session.specs.Session.{fresh, handsOut, takeOf, bufferBy, bufferOf}
+use Rattle.session.specs.Call.{Ask, Call}
 use Rattle.session.specs.Calls.{Offer, refusal, next, after, callOf, unless, taken, offerWith, bufferNext, offers, bufferAfter}
-use Rattle.books.specs.Rule.{Event, idle, unreadable, missing, readable, eventBy, events, isOpen, Seen, frameOf, strayOf, complete, dataOf, firstStamp, stillOf, fault, handedOut, verdict}
-use Rattle.books.specs.Answer.{lastRun, fateIn, fateBy, fateOn, with, answerFor, answerOf, writtenFor, writtenOf}
-use Rattle.books.specs.Demands.{handing, Whole}
-use Rattle.books.proofs.Answers.{taken-answer, same-answer, taken-more}
+use Rattle.books.specs.Rule.{Event, idle, unreadable, missing, readable, mark, eventBy, events, isOpen, Seen, frameOf, strayOf, closed, complete, dataOf, firstStamp, stillOf, fault, handedOut, verdict}
+use Rattle.books.specs.Answer.{lastRun, fateIn, fateBy, fateOn, with, answerFor, answerOf, hands, outOf, writtenFor, writtenOf}
+use Rattle.books.specs.HandedOut.{HandedWhole}
+use Rattle.books.specs.Demands.{Whole}
+use Rattle.books.proofs.Answers.{taken-answer, same-answer, handed-answer, taken-more, heard-more}
+use Rattle.books.proofs.Taken.{listed}
+use Rattle.books.proofs.Grown.{frame-whole}
+use Rattle.books.proofs.Tracked.{complete-last}
+use Rattle.books.proofs.HandedOut.{handed-out}
 use Rattle.books.proofs.OneMore.{lastIn, pending, last-more}
-use Rattle.books.proofs.Held.{Held, Left, grown-left, left-held, spoilt-held}
-use Rattle.books.proofs.ByList.{events-more, still-open, transfer-answers, transfer-writes}
-
-pub same-call : (b : List ℕ) (k : Call) → callOf (offerWith b k) ≡ k
-same-call b (Call.transfer t) = refl
-same-call b Call.lost = refl
-same-call b Call.close = refl
+use Rattle.books.proofs.Held.{Held, Left, grown-left, left-held, spoilt-held, marked-held}
+use Rattle.books.proofs.ByList.{events-more, still-open, hands-as, transfer-answers, transfer-writes}
 
 after-more : (xs : List Offer) (x : Offer) (s : Session) → after s (xs ++ (x ∷ [])) ≡ next (after s xs) x
 after-more [] x s = refl
@@ -43,22 +45,23 @@ not-open : (cs : List Call) → isOpen (cs ++ (Call.close ∷ [])) ≡ false
 not-open [] = refl
 not-open (Call.transfer t ∷ cs) = not-open cs
 not-open (Call.lost ∷ cs) = not-open cs
+not-open (Call.handed ∷ cs) = not-open cs
 not-open (Call.close ∷ cs) = refl
 
-buffer-refused : (s : Session) (B : List ℕ) (c : Call) (k : ℕ) → refusal s (offerWith B c) ≡ suc k → bufferNext s B c ≡ B
+buffer-refused : (s : Session) (B : List ℕ) (c : Ask) (k : ℕ) → refusal s (offerWith B c) ≡ suc k → bufferNext s B c ≡ B
 unfolding bufferOf
-buffer-refused s B (Call.transfer t) k e = ap (λ (n : ℕ). bufferBy n s B t) e
-buffer-refused s B Call.lost k e = refl
-buffer-refused s B Call.close k e = refl
+buffer-refused s B (Ask.transfer t) k e = ap (λ (n : ℕ). bufferBy n s B t) e
+buffer-refused s B Ask.lost k e = refl
+buffer-refused s B Ask.close k e = refl
 
 -- ---- a fate that hands a frame out
-record HandsOut (o : Opening) (r : List Seen) (b : Bool) (d : Delivery) : Type 0 where
-  pub alone : strayOf r ≡ []
-  pub ended : complete (frameOf r) ≡ true
-  pub sound : fault o (frameOf r) ≡ Sound
-  pub bit : stillOf (frameOf r) ≡ b
-  pub size : d .len ≡ length (dataOf (frameOf r))
-  pub stamp : d .stamp ≡ firstStamp (frameOf r)
+record Delivers (o : Opening) (r : List Seen) (b : Bool) (d : Delivery) : Type 0 where
+  pub alone : strayOf o r ≡ []
+  pub ended : closed o (frameOf o r) ≡ true
+  pub sound : fault o (frameOf o r) ≡ Sound
+  pub bit : stillOf (frameOf o r) ≡ b
+  pub size : d .len ≡ length (dataOf (frameOf o r))
+  pub stamp : d .stamp ≡ firstStamp (frameOf o r)
 
 module _ (o : Opening) where
   -- ---- the rule alone: what a call taken leaves in the buffer
@@ -88,6 +91,12 @@ module _ (o : Opening) where
         let l = read-left t h q in
         record { held₀ = left-held o (lastRun o (with cs t)) (writtenFor (Readable h) o cs t B) l; room₀ = l .room }
 
+    handed-keeps : Keeps (cs ++ (Call.handed ∷ [])) B
+    handed-keeps = record {
+      held₀ = rw (ap lastIn (events-more o cs Call.handed open₀) ∙ last-more mark (events o cs)) (marked-held o (lastRun o cs) B);
+      room₀ = room;
+    }
+
     lost-keeps : Keeps (cs ++ (Call.lost ∷ [])) B
     lost-keeps = record {
       held₀ = rw (ap lastIn (events-more o cs Call.lost open₀) ∙ last-more missing (events o cs)) (spoilt-held o (lastRun o cs) B held);
@@ -106,29 +115,43 @@ module _ (o : Opening) where
     kept-as : (x : Offer) (ds : List Call) (A : List ℕ) → taken (fresh o) (xs ++ (x ∷ [])) ≡ ds → (isOpen ds ≡ true → Held o (lastRun o ds) A) → o .frame ≤ length A → Kept (xs ++ (x ∷ [])) A
     kept-as x ds A e h room = record { held = subst (λ (l : List Call). isOpen l ≡ true → Held o (lastRun o l) A) (sym e) h; room = room }
 
-    kept-taken : (c : Call) → refusal (after (fresh o) xs) (offerWith B c) ≡ 0 → taken (fresh o) (xs ++ (offerWith B c ∷ [])) ≡ heard ++ (c ∷ []) → Kept (xs ++ (offerWith B c ∷ [])) (bufferNext (after (fresh o) xs) B c)
-    kept-taken (Call.transfer t) ok e =
+    abbrev now₀ : Session
+    now₀ = after (fresh o) xs
+
+    -- a transfer: taken, or a frame is handed out and no byte changes
+    kept-met : (t : List ℕ) (c : Bool) → refusal now₀ (Offer.take B t) ≡ 0 → handsOut now₀ t ≡ c → Kept (xs ++ (Offer.take B t ∷ [])) (bufferOf now₀ B t)
+    kept-met t true ok h =
+        let p = still-open o xs (Offer.take B t) ok in
+        let z = handed-keeps heard p B (k .held p) (k .room) in
+        rw (transfer-writes o xs B t ok, ← hands-as o xs B t ok, h)
+        (kept-as (Offer.take B t) (heard ++ (Call.handed ∷ [])) B (heard-more o xs (Offer.take B t) Call.handed ok (listed now₀ B t true ok h)) (λ u. z .held₀) (z .room₀))
+    kept-met t false ok h =
         let p = still-open o xs (Offer.take B t) ok in
         let z = transfer-keeps heard p B (k .held p) (k .room) t (readingOf o t) refl in
-        rw (transfer-writes o xs B t ok) (kept-as (Offer.take B t) (with heard t) (writtenOf o heard t B) e (λ u. z .held₀) (z .room₀))
-    kept-taken Call.lost ok e =
-        let p = still-open o xs Offer.lost ok in
-        kept-as Offer.lost (heard ++ (Call.lost ∷ [])) B e (λ u. lost-keeps heard p B (k .held p) (k .room) .held₀) (k .room)
-    kept-taken Call.close ok e = kept-as Offer.close (heard ++ (Call.close ∷ [])) B e (λ u. absurd (true≢false (sym u ∙ not-open heard))) (k .room)
+        rw (transfer-writes o xs B t ok, ← hands-as o xs B t ok, h)
+        (kept-as (Offer.take B t) (with heard t) (writtenFor (readingOf o t) o heard t B) (heard-more o xs (Offer.take B t) (Call.transfer t) ok (listed now₀ B t false ok h)) (λ u. z .held₀) (z .room₀))
 
-    kept-next : (c : Call) → Kept (xs ++ (offerWith B c ∷ [])) (bufferNext (after (fresh o) xs) B c)
-    kept-next c = go (refusal (after (fresh o) xs) (offerWith B c)) refl
+    kept-taken : (c : Ask) → refusal now₀ (offerWith B c) ≡ 0 → Kept (xs ++ (offerWith B c ∷ [])) (bufferNext now₀ B c)
+    kept-taken (Ask.transfer t) ok = kept-met t (handsOut now₀ t) ok refl
+    kept-taken Ask.lost ok =
+        let p = still-open o xs Offer.lost ok in
+        kept-as Offer.lost (heard ++ (Call.lost ∷ [])) B (heard-more o xs Offer.lost Call.lost ok refl) (λ u. lost-keeps heard p B (k .held p) (k .room) .held₀) (k .room)
+    kept-taken Ask.close ok =
+        kept-as Offer.close (heard ++ (Call.close ∷ [])) B (heard-more o xs Offer.close Call.close ok refl) (λ u. absurd (true≢false (sym u ∙ not-open heard))) (k .room)
+
+    kept-next : (c : Ask) → Kept (xs ++ (offerWith B c ∷ [])) (bufferNext now₀ B c)
+    kept-next c = go (refusal now₀ (offerWith B c)) refl
       where
         x : Offer
         x = offerWith B c
 
-        go : (n : ℕ) → refusal (after (fresh o) xs) x ≡ n → Kept (xs ++ (x ∷ [])) (bufferNext (after (fresh o) xs) B c)
-        go zero e = kept-taken c e (taken-more xs x (fresh o) ∙ ap (λ (n : ℕ). heard ++ unless n (callOf x) []) e ∙ ap (λ (d : Call). heard ++ (d ∷ [])) (same-call B c))
+        go : (n : ℕ) → refusal now₀ x ≡ n → Kept (xs ++ (x ∷ [])) (bufferNext now₀ B c)
+        go zero e = kept-taken c e
         go (suc n) e =
-            rw (buffer-refused (after (fresh o) xs) B c n e)
-            (kept-as x heard B (taken-more xs x (fresh o) ∙ ap (λ (m : ℕ). heard ++ unless m (callOf x) []) e ∙ append-nil heard) (k .held) (k .room))
+            rw (buffer-refused now₀ B c n e)
+            (kept-as x heard B (taken-more xs x (fresh o) ∙ ap (λ (m : ℕ). heard ++ unless m (callOf now₀ x) []) e ∙ append-nil heard) (k .held) (k .room))
 
-  kept-from : (ks : List Call) (xs : List Offer) (B : List ℕ) → Kept xs B → Kept (xs ++ offers (after (fresh o) xs) B ks) (bufferAfter (after (fresh o) xs) B ks)
+  kept-from : (ks : List Ask) (xs : List Offer) (B : List ℕ) → Kept xs B → Kept (xs ++ offers (after (fresh o) xs) B ks) (bufferAfter (after (fresh o) xs) B ks)
   kept-from [] xs B k = rw (append-nil xs) k
   kept-from (c ∷ ks) xs B k =
       let x : Offer = offerWith B c in
@@ -136,7 +159,7 @@ module _ (o : Opening) where
       subst (λ (l : List Offer). Kept l (bufferAfter (next s x) (bufferNext s B c) ks)) (append-assoc xs (x ∷ []) (offers (next s x) (bufferNext s B c) ks))
       (subst (λ (r : Session). Kept ((xs ++ (x ∷ [])) ++ offers r (bufferNext s B c) ks) (bufferAfter r (bufferNext s B c) ks)) (after-more xs x (fresh o)) (kept-from ks (xs ++ (x ∷ [])) (bufferNext s B c) (kept-next xs B k c)))
 
-  pub kept-all : (B : List ℕ) (ks : List Call) → o .frame ≤ length B → Kept (offers (fresh o) B ks) (bufferAfter (fresh o) B ks)
+  pub kept-all : (B : List ℕ) (ks : List Ask) → o .frame ≤ length B → Kept (offers (fresh o) B ks) (bufferAfter (fresh o) B ks)
   kept-all B ks room = kept-from ks [] B (record { held = λ e c f. refl; room = room })
 
 -- ---- a frame handed out
@@ -181,31 +204,31 @@ fate-handed : (b : Bool) (d : Delivery) → fateIn (handedOut b d) ≡ handing b
 fate-handed true d = refl
 fate-handed false d = refl
 
-hands-out : (o : Opening) (r : List Seen) (b : Bool) (d : Delivery) → fateOn o r ≡ handing b d → HandsOut o r b d
-hands-out o r b d = go (strayOf r) refl (complete (frameOf r)) refl (fault o (frameOf r)) refl
+delivers : (o : Opening) (r : List Seen) (b : Bool) (d : Delivery) → fateOn o r ≡ handing b d → Delivers o r b d
+delivers o r b d = go (strayOf o r) refl (complete o true (frameOf o r)) refl (fault o (frameOf o r)) refl
   where
     x : Delivery
-    x = record { len = length (dataOf (frameOf r)); stamp = firstStamp (frameOf r) }
+    x = record { len = length (dataOf (frameOf o r)); stamp = firstStamp (frameOf o r) }
 
     k : Bool
-    k = stillOf (frameOf r)
+    k = stillOf (frameOf o r)
 
-    go : (ts : List Seen) → strayOf r ≡ ts → (c : Bool) → complete (frameOf r) ≡ c → (q : Fault) → fault o (frameOf r) ≡ q
-        → fateBy ts (verdict true c q (x .stamp) k (x .len)) ≡ handing b d → HandsOut o r b d
+    go : (ts : List Seen) → strayOf o r ≡ ts → (c : Bool) → complete o true (frameOf o r) ≡ c → (q : Fault) → fault o (frameOf o r) ≡ q
+        → fateBy ts (verdict true c q (x .stamp) k (x .len)) ≡ handing b d → Delivers o r b d
     go (t ∷ ts) u c v q w e = absurd (not-handed Fate.Stray b d refl e)
     go [] u false v q w e = absurd (not-handed Fate.Kept b d refl e)
     go [] u true v (Bad y) w e = absurd (not-handed (Fate.Dropped y) b d refl e)
     go [] u true v Sound w e = full (eqb (x .len) 0) e
       where
-        full : (c : Bool) → fateIn (cond c (Entry.Dropped Empty (x .len)) (handedOut k x)) ≡ handing b d → HandsOut o r b d
+        full : (c : Bool) → fateIn (cond c (Entry.Dropped Empty (x .len)) (handedOut k x)) ≡ handing b d → Delivers o r b d
         full true f = absurd (not-handed (Fate.Dropped Empty) b d refl f)
         full false f =
             let g : handing k x ≡ handing b d = sym (fate-handed k x) ∙ f in
             let i : k ≡ b = same-bit k b x d g in
             let z : x ≡ d = same-delivery b x d (ap (λ (c : Bool). handing c x) (sym i) ∙ g) in
-            record { alone = u; ended = v; sound = w; bit = i; size = ap (λ (y : Delivery). y .len) (sym z); stamp = ap (λ (y : Delivery). y .stamp) (sym z) }
+            record { alone = u; ended = sym (complete-last o (frameOf o r)) ∙ v; sound = w; bit = i; size = ap (λ (y : Delivery). y .len) (sym z); stamp = ap (λ (y : Delivery). y .stamp) (sym z) }
 
-module _ (o : Opening) (B : List ℕ) (ks : List Call) (room : o .frame ≤ length B) where
+module _ (o : Opening) (B : List ℕ) (ks : List Ask) (room : o .frame ≤ length B) where
   abbrev pub calls : List Offer
   calls = offers (fresh o) B ks
 
@@ -221,7 +244,7 @@ module _ (o : Opening) (B : List ℕ) (ks : List Call) (room : o .frame ≤ leng
   whole-by t b d p (Unreadable k) q f = absurd (not-handed (Fate.Unreadable k) b d refl f)
   whole-by t b d p (Readable h) q f =
       let k = kept-all o B ks room in
-      let w = hands-out o (lastRun o (with cs t)) b d f in
+      let w = delivers o (lastRun o (with cs t)) b d f in
       let l = read-left o cs p buffer (k .held p) (k .room) t h q in
       record {
         ended = w .ended;
@@ -233,9 +256,29 @@ module _ (o : Opening) (B : List ℕ) (ks : List Call) (room : o .frame ≤ leng
         stamp = w .stamp;
       }
 
-  pub handed-whole : (t : List ℕ) (a : Answer) (b : Bool) (d : Delivery) → takeOf (after (fresh o) calls) (length buffer) t .outcome ≡ Outcome.Taken a → a .fate ≡ handing b d
-      → Whole o (with cs t) b d (bufferOf (after (fresh o) calls) buffer t)
-  handed-whole t a b d e f =
-      let ok = taken-answer (after (fresh o) calls) buffer t a e .0 in
-      let same : answerOf o cs t ≡ a = same-answer (answerOf o cs t) a (sym (transfer-answers o calls buffer t ok) ∙ e) in
-      rw (transfer-writes o calls buffer t ok) (whole-by t b d (still-open o calls (Offer.take buffer t) ok) (readingOf o t) refl (ap (λ (x : Answer). x .fate) same ∙ f))
+  abbrev at-end : Session
+  at-end = after (fresh o) calls
+
+  -- an answer that delivers
+  pub delivered-whole : (t : List ℕ) (a : Answer) (b : Bool) (d : Delivery) → takeOf at-end (length buffer) t .outcome ≡ Outcome.Taken a → a .fate ≡ handing b d
+      → Whole o (with cs t) b d (bufferOf at-end buffer t)
+  delivered-whole t a b d e f =
+      let w = taken-answer at-end buffer t a e in
+      let n : hands o cs t ≡ false = sym (hands-as o calls buffer t (w .ok)) ∙ w .kept in
+      let same : answerOf o cs t ≡ a = same-answer (answerOf o cs t) a (sym (transfer-answers o calls buffer t (w .ok) ∙ ap (λ (c : Bool). cond c (Outcome.Handed (outOf o (lastRun o cs))) (Outcome.Taken (answerOf o cs t))) n) ∙ e) in
+      rw (transfer-writes o calls buffer t (w .ok), n) (whole-by t b d (still-open o calls (Offer.take buffer t) (w .ok)) (readingOf o t) refl (ap (λ (x : Answer). x .fate) same ∙ f))
+
+  -- a hand-out
+  pub handed-whole : (t : List ℕ) (x : HandOut) → takeOf at-end (length buffer) t .outcome ≡ Outcome.Handed x → HandedWhole o cs x (bufferOf at-end buffer t)
+  handed-whole t x e =
+      let f = handed-answer at-end buffer t x e in
+      let n : hands o cs t ≡ true = sym (hands-as o calls buffer t (f .ok)) ∙ f .hands in
+      let p = handed-out o calls buffer t x (f .ok) .0 e in
+      let w = frame-whole o (lastRun o cs) (p .unmarked) in
+      let k = kept-all o B ks room .held (still-open o calls (Offer.take buffer t) (f .ok)) (p .unmarked) (ap (fault o) (sym w) ∙ p .sound) in
+      let size : x .delivery .len ≡ length (dataOf (frameOf o (lastRun o cs))) = ap (λ (y : HandOut). y .delivery .len) (p .frame) in
+      record {
+        frame = p .frame;
+        payload = rw (transfer-writes o calls buffer t (f .ok), n, size, w) k;
+        size = size;
+      }

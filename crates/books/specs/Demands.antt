@@ -16,7 +16,7 @@ use Rattle.ledger.specs.declared.Account.{Account}
 use Rattle.ledger.specs.Entry.{Entry}
 use Rattle.ledger.specs.declared.Ledger.{Ledger}
 use Rattle.ledger.specs.Ledger.{countOf, bytesOf}
-use Rattle.books.specs.Rule.{Event, idle, unreadable, missing, readable, frameOf, strayOf, complete, dataOf, firstStamp, stillOf, fault, Item, framesBy, entryOf, entries, lostLine, idleLine, oneIn, partIn, total, stamps, untimed, forward, back, between}
+use Rattle.books.specs.Rule.{Event, idle, unreadable, missing, readable, mark, frameOf, strayOf, closed, dataOf, firstStamp, stillOf, fault, Item, framesBy, entryOf, entries, lostLine, idleLine, oneIn, partIn, total, stamps, untimed, forward, back, between}
 use Rattle.ledger.specs.Accounts.{accounts, placeOf, lostAt, idleAt, ticksAt, backwardAt, untimedAt}
 use Rattle.session.specs.Call.{Call}
 use Rattle.books.specs.Answer.{lastRun}
@@ -76,21 +76,16 @@ pub record Says (o : Opening) (cs : List Call) (c : Call) (a : Answer) : Type 0 
   pub e : List ℕ
   pub gains : Gains o cs c (endedItems (a .ended) n d ++ fateItems (a .fate) m e)
 
--- a fate that hands a frame out: as a still, or delivered
-abbrev pub handing : Bool → Delivery → Fate
-handing true d = Fate.Still d
-handing false d = Fate.Delivered d
-
--- HANDED OUT IS WHOLE: after these calls the last run's frame is complete, without fault and has no stray after it; its still bit is b; the buffer's first bytes are
+-- DELIVERED IS WHOLE: after these calls the last run's frame has its EOF, no fault and no stray after it; its still bit is b; the buffer's first bytes are
 -- its payload bytes, in order, as many as the delivery says, and the delivery's stamp is the frame's first.
 pub record Whole (o : Opening) (cs : List Call) (b : Bool) (d : Delivery) (buffer : List ℕ) : Type 0 where
-  pub ended : complete (frameOf (lastRun o cs)) ≡ true
-  pub sound : fault o (frameOf (lastRun o cs)) ≡ Sound
-  pub alone : strayOf (lastRun o cs) ≡ []
-  pub bit : stillOf (frameOf (lastRun o cs)) ≡ b
-  pub payload : take (d .len) buffer ≡ dataOf (frameOf (lastRun o cs))
-  pub size : d .len ≡ length (dataOf (frameOf (lastRun o cs)))
-  pub stamp : d .stamp ≡ firstStamp (frameOf (lastRun o cs))
+  pub ended : closed o (frameOf o (lastRun o cs)) ≡ true
+  pub sound : fault o (frameOf o (lastRun o cs)) ≡ Sound
+  pub alone : strayOf o (lastRun o cs) ≡ []
+  pub bit : stillOf (frameOf o (lastRun o cs)) ≡ b
+  pub payload : take (d .len) buffer ≡ dataOf (frameOf o (lastRun o cs))
+  pub size : d .len ≡ length (dataOf (frameOf o (lastRun o cs)))
+  pub stamp : d .stamp ≡ firstStamp (frameOf o (lastRun o cs))
 
 -- NO STILLS: no readable transfer has D5
 abbrev pub Film : List Event → Type 0
@@ -99,6 +94,7 @@ Film (idle ∷ es) = Film es
 Film (unreadable n ∷ es) = Film es
 Film (missing ∷ es) = Film es
 Film (readable h d ∷ es) = (h .still ≡ false) × Film es
+Film (mark ∷ es) = Film es
 
 -- neither a still nor mixed
 abbrev pub NoStill : Entry → Type 0

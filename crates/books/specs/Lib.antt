@@ -2,3 +2,4 @@ pub mod Rule
 pub mod Longest
 pub mod Demands
 pub mod Answer
+pub mod HandedOut

@@ -1,11 +1,12 @@
--- Document 01, "The frame rule, from the list alone", "Steps" and the accounts, with document 02, "Ten" (stills). List functions only: no state, and nothing of the session but the reading of
--- one transfer.
+-- Document 01, "The frame rule, from the list alone", "Steps" and the accounts, with document 02, "Two" (cameras that send no EOF) and "Ten" (stills). List functions only:
+-- no state, and nothing of the session but the reading of one transfer. The framing byte is read in two places: whether EOF counts, and what a run that is not the last makes of its frame.
 use Prim.Native.Nat.{ℕ, _+_, _-_, _%_, _^_}
 use mathlib.Core.Bool.{Bool, true, false, cond, not, _&&_, _||_, Bool·beq}
 use mathlib.Core.List.{List, [], _∷_, _++_, map}
 use lib.ListN.{length, drop}
 use lib.Dec.{ltb, eqb}
 use Rattle.sizes.specs.declared.Opening.{Opening}
+use Rattle.sizes.specs.Framing.{byEof}
 use Rattle.payload.specs.declared.Header.{Header}
 use Rattle.payload.specs.declared.Stamp.{Stamp}
 use Rattle.payload.specs.declared.Stamp.the-variants.{Absent, At}
@@ -20,14 +21,16 @@ use Rattle.frames.specs.declared.Delivery.{Delivery}
 use Rattle.ledger.specs.declared.Account.{Account}
 use Rattle.ledger.specs.Accounts.{accounts, accountCount, placeOf, accountFor}
 use Rattle.ledger.specs.Entry.{Entry}
-use Rattle.session.specs.Call.{Call, transfer, lost, close}
+use Rattle.session.specs.Call.{Call, transfer, lost, handed, close}
 
--- THE LIST holds the calls taken in order. What each is: idle; unreadable, of so many bytes; lost; or readable, with its header and its data.
+-- THE LIST holds the calls taken in order, and the marks of hand-outs. What each is: idle; unreadable, of so many bytes; lost; readable, with its header and its data;
+-- or a mark.
 pub data Event : Type 0 where
   idle : Event
   unreadable : ℕ → Event
   missing : Event
   readable : Header → List ℕ → Event
+  mark : Event
 
 abbrev pub eventBy : Reading → List ℕ → Event
 eventBy Idle t = idle
@@ -38,6 +41,7 @@ abbrev pub events : Opening → List Call → List Event
 events o [] = []
 events o (transfer t ∷ cs) = eventBy (readingOf o t) t ∷ events o cs
 events o (lost ∷ cs) = missing ∷ events o cs
+events o (handed ∷ cs) = mark ∷ events o cs
 events o (close ∷ cs) = []
 
 -- the session is open until close
@@ -45,14 +49,17 @@ abbrev pub isOpen : List Call → Bool
 isOpen [] = true
 isOpen (transfer t ∷ cs) = isOpen cs
 isOpen (lost ∷ cs) = isOpen cs
+isOpen (handed ∷ cs) = isOpen cs
 isOpen (close ∷ cs) = false
 
--- THE READABLE TRANSFERS IN ORDER, each with whether an unreadable or lost one comes before it, or after it, with no readable one between.
+-- THE READABLE TRANSFERS IN ORDER, each with whether an unreadable or lost one comes before it with no readable one between; whether one comes after it with neither a
+-- readable one nor a mark between; and whether a mark comes after it with no readable one between.
 pub record Seen : Type 0 where
   pub header : Header
   pub load : List ℕ
   pub before : Bool
   pub after : Bool
+  pub marked : Bool
 
 abbrev pub spoiled : List Event → Bool
 spoiled [] = false
@@ -60,13 +67,23 @@ spoiled (idle ∷ es) = spoiled es
 spoiled (unreadable n ∷ es) = true
 spoiled (missing ∷ es) = true
 spoiled (readable h d ∷ es) = false
+spoiled (mark ∷ es) = false
+
+abbrev pub marks : List Event → Bool
+marks [] = false
+marks (idle ∷ es) = marks es
+marks (unreadable n ∷ es) = marks es
+marks (missing ∷ es) = marks es
+marks (readable h d ∷ es) = false
+marks (mark ∷ es) = true
 
 abbrev pub readables : Bool → List Event → List Seen
 readables b [] = []
 readables b (idle ∷ es) = readables b es
 readables b (unreadable n ∷ es) = readables true es
 readables b (missing ∷ es) = readables true es
-readables b (readable h d ∷ es) = record { header = h; load = d; before = b; after = spoiled es } ∷ readables false es
+readables b (readable h d ∷ es) = record { header = h; load = d; before = b; after = spoiled es; marked = marks es } ∷ readables false es
+readables b (mark ∷ es) = readables b es
 
 -- CUT INTO THE LONGEST RUNS OF EQUAL FID (proofs/Runs.antt shows that these are the longest).
 abbrev pub same : Seen → Seen → Bool
@@ -81,19 +98,29 @@ abbrev pub runs : List Seen → List (List Seen)
 runs [] = []
 runs (t ∷ ts) = ahead t (runs ts)
 
--- IN EACH RUN the part up to and including its first EOF (all of it, if none) is a frame; what follows is stray.
-abbrev pub frameOf : List Seen → List Seen
-frameOf [] = []
-frameOf (t ∷ ts) = t ∷ cond (t .header .eof) [] (frameOf ts)
+-- EOF counts with D1 of the framing byte set, and is ignored with it clear. A mark closes the frame as EOF would.
+abbrev pub eofOf : Opening → Header → Bool
+eofOf o h = byEof o && h .eof
 
-abbrev pub strayOf : List Seen → List Seen
-strayOf [] = []
-strayOf (t ∷ ts) = cond (t .header .eof) ts (strayOf ts)
+abbrev pub closes : Opening → Seen → Bool
+closes o t = eofOf o (t .header) || t .marked
 
--- a frame is complete if it has an EOF
-abbrev pub complete : List Seen → Bool
-complete [] = false
-complete (t ∷ ts) = t .header .eof || complete ts
+-- IN EACH RUN the part up to and including its first EOF, or up to its mark (all of it, if none), is a frame; what follows is stray.
+abbrev pub frameOf : Opening → List Seen → List Seen
+frameOf o [] = []
+frameOf o (t ∷ ts) = t ∷ cond (closes o t) [] (frameOf o ts)
+
+abbrev pub strayOf : Opening → List Seen → List Seen
+strayOf o [] = []
+strayOf o (t ∷ ts) = cond (closes o t) ts (strayOf o ts)
+
+-- a frame is complete if it has an EOF or its mark; with D1 clear also where its run is not the last, since a readable transfer of the other FID has come
+abbrev pub closed : Opening → List Seen → Bool
+closed o [] = false
+closed o (t ∷ ts) = closes o t || closed o ts
+
+abbrev pub complete : Opening → Bool → List Seen → Bool
+complete o last ts = closed o ts || (not (byEof o) && not last)
 
 -- its payload bytes, in order
 abbrev pub dataOf : List Seen → List ℕ
@@ -116,7 +143,7 @@ stillOf [] = false
 stillOf (t ∷ ts) = t .header .still
 
 -- FAULTS. The earliest names the frame; within one transfer the order is error, clock, mixed, long. A gap has its own moment: before the frame's first transfer, or
--- after one of it that has no EOF.
+-- after one of it that has no EOF, and before its mark.
 infixr 30 _or_
 abbrev pub _or_ : Fault → Fault → Fault
 Sound or y = y
@@ -141,13 +168,13 @@ abbrev pub faultAt : Opening → Stamp → Bool → ℕ → Header → ℕ → F
 faultAt o s b n h d =
     when (h .error) Error or when (differs s (h .stamp)) Clock or when (mixes b (h .still)) Mixed or when (ltb (o .frame) (n + d)) Long
 
-abbrev pub gapAfter : Seen → Bool
-gapAfter t = not (t .header .eof) && t .after
+abbrev pub gapAfter : Opening → Seen → Bool
+gapAfter o t = not (eofOf o (t .header)) && t .after
 
 abbrev pub faultFrom : Opening → Stamp → Bool → ℕ → List Seen → Fault
 faultFrom o s b n [] = Sound
 faultFrom o s b n (t ∷ ts) =
-    faultAt o s b n (t .header) (length (t .load)) or when (gapAfter t) Gap or faultFrom o s b (n + length (t .load)) ts
+    faultAt o s b n (t .header) (length (t .load)) or when (gapAfter o t) Gap or faultFrom o s b (n + length (t .load)) ts
 
 abbrev pub gapBefore : List Seen → Bool
 gapBefore [] = false
@@ -161,7 +188,7 @@ pub record Item : Type 0 where
   pub entry : Entry
   pub load : List ℕ
 
--- Complete: its fault, or empty if it has no data, else handed out: a still if its bit is set, and otherwise delivered. Without EOF: under way while its run is
+-- Complete: its fault, or empty if it has no data, else handed out: a still if its bit is set, and otherwise delivered. Not complete: under way while its run is
 -- the last and the session open; else ended, by its fault, or cut.
 abbrev pub handedOut : Bool → Delivery → Entry
 handedOut true d = Entry.Still d
@@ -181,10 +208,10 @@ abbrev pub strays : List Seen → List Item
 strays [] = []
 strays (t ∷ ts) = record { entry = Entry.Stray (length (t .load)); load = t .load } ∷ strays ts
 
-abbrev pub judge : Opening → Bool → List Seen → List Item
-judge o way r =
-    settled way (complete (frameOf r)) (fault o (frameOf r)) (firstStamp (frameOf r)) (stillOf (frameOf r)) (dataOf (frameOf r))
-    ∷ strays (strayOf r)
+abbrev pub judge : Opening → Bool → Bool → List Seen → List Item
+judge o open₀ last r =
+    settled (open₀ && last) (complete o last (frameOf o r)) (fault o (frameOf o r)) (firstStamp (frameOf o r)) (stillOf (frameOf o r)) (dataOf (frameOf o r))
+    ∷ strays (strayOf o r)
 
 abbrev pub nothing : List (List Seen) → Bool
 nothing [] = true
@@ -192,19 +219,20 @@ nothing (r ∷ rs) = false
 
 abbrev pub judged : Opening → Bool → List (List Seen) → List Item
 judged o open₀ [] = []
-judged o open₀ (r ∷ rs) = judge o (open₀ && nothing rs) r ++ judged o open₀ rs
+judged o open₀ (r ∷ rs) = judge o open₀ (nothing rs) r ++ judged o open₀ rs
 
 -- the frames and strays of a list, in order
 abbrev pub framesOf : Opening → Bool → List Event → List Item
 framesOf o open₀ es = judged o open₀ (runs (readables false es))
 
--- the entries of the transfers and reports by themselves: a readable one's header, and all others
+-- the entries of the transfers and reports by themselves: a readable one's header, and all others. A mark has none.
 abbrev pub loose : List Event → List Entry
 loose [] = []
 loose (idle ∷ es) = Entry.Idle ∷ loose es
 loose (unreadable n ∷ es) = Entry.Unreadable n ∷ loose es
 loose (missing ∷ es) = Entry.Lost ∷ loose es
 loose (readable h d ∷ es) = Entry.Headers (h .len) ∷ loose es
+loose (mark ∷ es) = loose es
 
 abbrev pub entryOf : Item → Entry
 entryOf x = x .entry
@@ -312,6 +340,7 @@ abbrev pub received : List Call → ℕ
 received [] = 0
 received (transfer t ∷ cs) = length t + received cs
 received (lost ∷ cs) = received cs
+received (handed ∷ cs) = received cs
 received (close ∷ cs) = 0
 
 -- THE PRINT: the numbers of the lines, in order: each account's count and bytes, then lost, idle, ticks, backward and untimed
