@@ -29,14 +29,14 @@ use Rattle.session.specs.Session as session
 use Rattle.session.specs.Refusals.{recordBroken, takeRows}
 use Rattle.rules.specs.Numbered.{NoneOf}
 use Rattle.rules.proofs.Rows.{row-none}
-use Rattle.session.specs.Call.{Call}
-use Rattle.session.specs.Calls.{Offer, refusal, next, after, taken, nextCall}
+use Rattle.session.specs.Call.{Ask, Call, heardOf}
+use Rattle.session.specs.Calls.{Offer, refusal, next, after, callOf, taken, nextCall, offerWith}
 use Rattle.books.specs.Rule.{Event, idle, unreadable, missing, readable, mark, eventBy, events, Seen, marks, readables, eofOf, closes, frameOf, closed, complete, dataOf, fault}
 use Rattle.books.specs.Answer.{lastRun, turns, isSound, handsIn, handsFor, hands, outOf, outcomeOf}
 use Rattle.books.specs.Answer as rule
 use Rattle.books.specs.HandedOut.{HandsOut, Unmarked, ByEof, EofFraming}
 use Rattle.books.proofs.Owed.{and-both}
-use Rattle.books.proofs.Taken.{Proper, next-met, listed}
+use Rattle.books.proofs.Taken.{Proper, next-met, next-taken, listed}
 use Rattle.books.proofs.History.{next-opening}
 use Rattle.books.proofs.Answers.{handed-answer, heard-more}
 use Rattle.books.proofs.ByList.{hands-as, transfer-answers}
@@ -251,3 +251,12 @@ module _ (o : Opening) (xs : List Offer) (b t : List ℕ) (x : HandOut) (e : tak
       transfer-answers o again-offers b t ok
       ∙ ap (λ (c : Bool). cond c (Outcome.Handed (outOf o (lastRun o cs))) (Outcome.Taken (rule.answerOf o cs t))) none
       ∙ ap (λ (l : List Call). Outcome.Taken (rule.answerOf o l t)) listed₀
+
+-- ---- with D1 set each call that is taken stands in the list as it was asked
+pub asked-listed : (s : Session) (b : List ℕ) (a : Ask) → byEof (s .rest .opening) ≡ true → refusal s (offerWith b a) ≡ 0 → callOf s (offerWith b a) ≡ heardOf a
+asked-listed s b (Ask.transfer t) e ok = listed s b t false ok (never-handed s t e)
+asked-listed s b Ask.lost e ok = refl
+asked-listed s b Ask.close e ok = refl
+
+pub asked-next : (s : Session) (b : List ℕ) (a : Ask) → byEof (s .rest .opening) ≡ true → refusal s (offerWith b a) ≡ 0 → next s (offerWith b a) ≡ nextCall s (heardOf a)
+asked-next s b a e ok = next-taken s (offerWith b a) ok ∙ ap (nextCall s) (asked-listed s b a e ok)

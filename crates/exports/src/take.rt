@@ -11,15 +11,16 @@ use sizes::Opening;
 pub extern "C" fn palkodhen_take(
     frame: usize,
     payload: usize,
+    framing: u8,
     size: usize,
     times: u64,
     buffer: &mut [u8],
     transfers: &[u8],
 ) -> u64
-    ensures { λ r. ⌜ r ≡ deliveredOf (tookAll size (now (transfers .entry)) (opened (record { frame = frame; payload = payload }) (now (buffer .entry))) times) ⌝ }
-    ensures { λ _. ⌜ now (buffer .exit) ≡ tookAll size (now (transfers .entry)) (opened (record { frame = frame; payload = payload }) (now (buffer .entry))) times .buffer ⌝ }
+    ensures { λ r. ⌜ r ≡ deliveredOf (tookAll size (now (transfers .entry)) (opened (record { frame = frame; payload = payload; framing = framing }) (now (buffer .entry))) times) ⌝ }
+    ensures { λ _. ⌜ now (buffer .exit) ≡ tookAll size (now (transfers .entry)) (opened (record { frame = frame; payload = payload; framing = framing }) (now (buffer .entry))) times .buffer ⌝ }
 {
-    let start = Session::open(Opening { frame, payload }, buffer);
+    let start = Session::open(Opening { frame, payload, framing }, buffer);
     let s = start.session;
     let mut numbers = s.numbers;
     let mut rest = s.rest;

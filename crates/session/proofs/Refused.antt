@@ -61,7 +61,7 @@ took-taken s t = go (readingOf (s .rest .opening) t)
     go (Unreadable k) = (_, refl)
     go (Readable h) = (_, refl)
 
-met : (s : Session) (t : List ℕ) → Met (metOf s t .outcome)
+pub met : (s : Session) (t : List ℕ) → Met (metOf s t .outcome)
 unfolding handedOf
 met s t = go (handsOut s t)
   where
@@ -69,7 +69,7 @@ met s t = go (handsOut s t)
     go true = tt
     go false = let w = took-taken s t in rw (w .1) tt
 
-not-both : (x : Outcome) (k : ℕ) → Met x → x ≡ Outcome.Refused k → ⊥
+pub not-both : (x : Outcome) (k : ℕ) → Met x → x ≡ Outcome.Refused k → ⊥
 not-both x k p q = rw q at p
 
 module _ (s : Session) (t : List ℕ) where

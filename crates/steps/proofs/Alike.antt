@@ -7,11 +7,13 @@ use Rattle.payload.specs.declared.Reading.{Reading}
 use Rattle.payload.specs.declared.Reading.the-variants.{Idle, Unreadable, Readable}
 use Rattle.payload.specs.Transfer.{readingOf}
 use Rattle.frames.specs.declared.Track.{Track}
-use Rattle.frames.specs.Inner.{spoiltOf, closedOf}
+use Rattle.frames.specs.Inner.{spoiltOf, outOf, closedOf}
 use Rattle.session.specs.declared.Session.{Session}
-use Rattle.session.specs.Session.{readOf, tookBy, tookOf}
+use Rattle.session.specs.Session.{readOf, tookBy, tookOf, handsFor, handsOut, handedOf}
 use Rattle.session.specs.Call.{Call}
 use Rattle.session.specs.Calls.{nextCall, run}
+use Rattle.books.proofs.Taken.{Proper}
+use Rattle.books.proofs.Owed.{outItems}
 use Rattle.books.proofs.History.{itemsBy, dataBy, callItems, dataNext, items, dataRun, next-opening}
 
 pub record Alike (s r : Session) : Type 0 where
@@ -26,10 +28,11 @@ module _ (s r : Session) (a : Alike s r) where
   took-track t (Readable h) = rw (a .opening, a .track) refl
 
   next-track : (c : Call) → nextCall s c .rest .track ≡ nextCall r c .rest .track
-  unfolding tookOf
+  unfolding tookOf handedOf
   next-track (Call.transfer t) =
       took-track t (readingOf (s .rest .opening) t) ∙ ap (λ (o : Opening). tookBy (readingOf o t) r t .session .rest .track) (a .opening)
   next-track Call.lost = ap spoiltOf (a .track)
+  next-track Call.handed = ap (λ (w : Track). outOf w .track) (a .track)
   next-track Call.close = ap (λ (w : Track). closedOf w .track) (a .track)
 
   pub next-alike : (c : Call) → Alike (nextCall s c) (nextCall r c)
@@ -50,12 +53,35 @@ module _ (s r : Session) (a : Alike s r) where
     call-items (Call.transfer t) =
         by-items t (readingOf (s .rest .opening) t) ∙ ap (λ (o : Opening). itemsBy (readingOf o t) r D t) (a .opening)
     call-items Call.lost = refl
+    call-items Call.handed = ap (λ (w : Track). outItems (w .phase) D) (a .track)
     call-items Call.close = rw (a .track) refl
 
     call-data : (c : Call) → dataNext s D c ≡ dataNext r D c
     call-data (Call.transfer t) = by-data t (readingOf (s .rest .opening) t) ∙ ap (λ (o : Opening). dataBy (readingOf o t) r D t) (a .opening)
     call-data Call.lost = refl
+    call-data Call.handed = refl
     call-data Call.close = refl
+
+-- and so does whether a frame is handed out
+hands-alike : (s r : Session) → Alike s r → (t : List ℕ) → handsOut s t ≡ handsOut r t
+unfolding handsOut
+hands-alike s r a t = ap (λ (o : Opening). handsFor (readingOf o t) s) (a .opening) ∙ go (readingOf (r .rest .opening) t)
+  where
+    go : (x : Reading) → handsFor x s ≡ handsFor x r
+    go Idle = refl
+    go (Unreadable k) = refl
+    go (Readable h) = rw (a .opening, a .track) refl
+
+pub proper-alike : (cs : List Call) (s r : Session) → Alike s r → Proper s cs → Proper r cs
+proper-alike [] s r a p = tt
+proper-alike (Call.transfer t ∷ cs) s r a p =
+    (sym (hands-alike s r a t) ∙ p .0, proper-alike cs (nextCall s (Call.transfer t)) (nextCall r (Call.transfer t)) (next-alike s r a (Call.transfer t)) (p .1))
+proper-alike (Call.lost ∷ cs) s r a p = proper-alike cs (nextCall s Call.lost) (nextCall r Call.lost) (next-alike s r a Call.lost) p
+proper-alike (Call.handed ∷ cs) s r a p =
+    let h = p .0 in
+    ((h .0, sym (hands-alike s r a (h .0)) ∙ h .1), proper-alike cs (nextCall s Call.handed) (nextCall r Call.handed) (next-alike s r a Call.handed) (p .1))
+proper-alike (Call.close ∷ []) s r a p = tt
+proper-alike (Call.close ∷ (c ∷ cs)) s r a p = absurd p
 
 pub items-alike : (cs : List Call) (s r : Session) (D : List ℕ) → Alike s r → items s D cs ≡ items r D cs
 items-alike [] s r D a = refl

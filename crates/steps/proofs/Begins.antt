@@ -10,7 +10,6 @@ use Rattle.payload.specs.declared.Header.{Header}
 use Rattle.payload.specs.declared.Reading.{Reading}
 use Rattle.payload.specs.declared.Reading.the-variants.{Idle, Unreadable, Readable}
 use Rattle.payload.specs.Transfer.{readingOf}
-use Rattle.frames.specs.declared.Reason.the-variants.{Cut}
 use Rattle.frames.specs.declared.Phase.{Phase}
 use Rattle.frames.specs.declared.Phase.the-variants.{Fresh, Under, Past}
 use Rattle.frames.specs.declared.Ended.the-variants.{Nothing, Frame}
@@ -18,21 +17,21 @@ use Rattle.frames.specs.declared.Run.{Run}
 use Rattle.frames.specs.declared.Track.{Track}
 use Rattle.frames.specs.declared.Turn.{Turn}
 use Rattle.frames.specs.declared.Delivery.{Delivery}
-use Rattle.frames.specs.Inner.{sameOf, whyOf, begunOf, phaseOf, joinTurn, strayTurn, turnBy, turnOf, spoiltBy, spoiltOf}
+use Rattle.frames.specs.Inner.{sameOf, whyOf, begunOf, endsOf, turnedWhy, phaseOf, joinTurn, strayTurn, turnBy, turnOf, handsOf, outBy, outOf, spoiltBy, spoiltOf}
 use Rattle.ledger.specs.Entry.{Entry}
 use Rattle.session.specs.declared.Session.{Session}
-use Rattle.session.specs.Session.{fresh, readOf, tookBy, tookOf}
+use Rattle.session.specs.Session.{fresh, readOf, tookBy, tookOf, handsFor, handsOut, handedOf}
 use Rattle.session.specs.Call.{Call}
 use Rattle.session.specs.Calls.{nextCall, run}
 use Rattle.books.specs.Rule.{Event, eventBy, events, isOpen, Item, framesBy}
 use Rattle.books.specs.Demands.{endedItems}
 use Rattle.books.proofs.Made.{base}
 use Rattle.books.proofs.Taken.{Proper}
-use Rattle.books.proofs.History.{callItems, dataNext, items, dataRun, afoot, next-opening, turn-gap}
+use Rattle.books.proofs.History.{callItems, dataNext, items, dataRun, afoot, next-opening, turn-gap, out-gap}
 use Rattle.books.proofs.Accounts.{frames-made}
 use Rattle.books.proofs.Sound.{run-opening}
 use Rattle.steps.specs.Cut.{LastFid, none, of, lastFid, spoiltSince, Other}
-use Rattle.steps.proofs.Alike.{Alike, items-alike, data-alike, run-alike, run-append, data-append, items-append}
+use Rattle.steps.proofs.Alike.{Alike, proper-alike, items-alike, data-alike, run-alike, run-append, data-append, items-append}
 
 -- ---- what a session knows of the transfers before: the FID of the last readable one, and whether it is spoilt since
 abbrev phaseFid : Phase → LastFid
@@ -52,23 +51,28 @@ ended-fid false x = refl
 
 turn-fid : (o : Opening) (h : Header) (n : ℕ) (ph : Phase) (b : Bool) → phaseFid (turnBy ph o b h n .track .phase) ≡ of (h .fid)
 unfolding pick
-turn-fid o h n Fresh b = ended-fid (h .eof) _
+turn-fid o h n Fresh b = ended-fid (endsOf o h) _
 turn-fid o h n (Past f) b = go (sameOf f (h .fid)) refl
   where
     go : (c : Bool) → sameOf f (h .fid) ≡ c → phaseFid (pick c (strayTurn f n) (joinTurn o (begunOf b (h .fid) (h .still)) h n Nothing 0) .track .phase) ≡ of (h .fid)
     go true e = ap of (same-fid f (h .fid) e)
-    go false e = ended-fid (h .eof) _
+    go false e = ended-fid (endsOf o h) _
 turn-fid o h n (Under x) b = go (sameOf (x .fid) (h .fid)) refl
   where
     go : (c : Bool) → sameOf (x .fid) (h .fid) ≡ c →
-        phaseFid (pick c (joinTurn o x h n Nothing 0) (joinTurn o (begunOf b (h .fid) (h .still)) h n (Frame (whyOf (x .fault) Cut)) (x .bytes)) .track .phase) ≡ of (h .fid)
-    go true e = ended-fid (h .eof) _ ∙ ap of (same-fid (x .fid) (h .fid) e)
-    go false e = ended-fid (h .eof) _
+        phaseFid (pick c (joinTurn o x h n Nothing 0) (joinTurn o (begunOf b (h .fid) (h .still)) h n (Frame (whyOf (x .fault) (turnedWhy o))) (x .bytes)) .track .phase) ≡ of (h .fid)
+    go true e = ended-fid (endsOf o h) _ ∙ ap of (same-fid (x .fid) (h .fid) e)
+    go false e = ended-fid (endsOf o h) _
 
 spoilt-fid : (ph : Phase) → phaseFid (spoiltBy ph) ≡ phaseFid ph
 spoilt-fid Fresh = refl
 spoilt-fid (Under x) = refl
 spoilt-fid (Past f) = refl
+
+out-fid : (ph : Phase) (b : Bool) → phaseFid (outBy ph b .track .phase) ≡ phaseFid ph
+out-fid Fresh b = refl
+out-fid (Under x) b = refl
+out-fid (Past f) b = refl
 
 took-fid : (s : Session) (t : List ℕ) (es : List Event) (x : Reading) →
     lastFid (phaseFid (tookBy x s t .session .rest .track .phase)) es ≡ lastFid (phaseFid (s .rest .track .phase)) (eventBy x t ∷ es)
@@ -88,7 +92,7 @@ took-gap s t es (Readable h) =
 
 run-fid : (cs : List Call) (s : Session) → isOpen cs ≡ true →
     phaseFid (run s cs .rest .track .phase) ≡ lastFid (phaseFid (s .rest .track .phase)) (events (s .rest .opening) cs)
-unfolding tookOf spoiltOf
+unfolding tookOf spoiltOf handedOf outOf
 run-fid [] s p = refl
 run-fid (Call.transfer t ∷ cs) s p =
     run-fid cs (nextCall s (Call.transfer t)) p
@@ -96,17 +100,21 @@ run-fid (Call.transfer t ∷ cs) s p =
     ∙ took-fid s t (events (s .rest .opening) cs) (readingOf (s .rest .opening) t)
 run-fid (Call.lost ∷ cs) s p =
     run-fid cs (nextCall s Call.lost) p ∙ ap (λ (f : LastFid). lastFid f (events (s .rest .opening) cs)) (spoilt-fid (s .rest .track .phase))
+run-fid (Call.handed ∷ cs) s p =
+    run-fid cs (nextCall s Call.handed) p ∙ ap (λ (f : LastFid). lastFid f (events (s .rest .opening) cs)) (out-fid (s .rest .track .phase) (s .rest .track .gap))
 run-fid (Call.close ∷ cs) s p = absurd (true≢false (sym p))
 
 run-gap : (cs : List Call) (s : Session) → isOpen cs ≡ true →
     run s cs .rest .track .gap ≡ spoiltSince (s .rest .track .gap) (events (s .rest .opening) cs)
-unfolding tookOf spoiltOf
+unfolding tookOf spoiltOf handedOf outOf
 run-gap [] s p = refl
 run-gap (Call.transfer t ∷ cs) s p =
     run-gap cs (nextCall s (Call.transfer t)) p
     ∙ ap (λ (o : Opening). spoiltSince (nextCall s (Call.transfer t) .rest .track .gap) (events o cs)) (next-opening s (Call.transfer t))
     ∙ took-gap s t (events (s .rest .opening) cs) (readingOf (s .rest .opening) t)
 run-gap (Call.lost ∷ cs) s p = run-gap cs (nextCall s Call.lost) p
+run-gap (Call.handed ∷ cs) s p =
+    run-gap cs (nextCall s Call.handed) p ∙ ap (λ (b : Bool). spoiltSince b (events (s .rest .opening) cs)) (out-gap (s .rest .track .phase) (s .rest .track .gap))
 run-gap (Call.close ∷ cs) s p = absurd (true≢false (sym p))
 
 -- ---- a readable transfer of another FID, where nothing is spoilt: its turn is that of a fresh session, but for the frame that it ends
@@ -162,18 +170,30 @@ starts o s D t h e g p q =
     }
 
 -- ---- so the frames of a list that goes on with such a transfer are those before it and those from it on
-pub proper-open : (before : List Call) (c : Call) (rest : List Call) → Proper (before ++ (c ∷ rest)) → isOpen before ≡ true
-proper-open [] c rest p = refl
-proper-open (Call.transfer t ∷ before) c rest p = proper-open before c rest p
-proper-open (Call.lost ∷ before) c rest p = proper-open before c rest p
-proper-open (Call.close ∷ []) c rest p = absurd p
-proper-open (Call.close ∷ (x ∷ before)) c rest p = absurd p
+pub proper-open : (before : List Call) (c : Call) (rest : List Call) (s : Session) → Proper s (before ++ (c ∷ rest)) → isOpen before ≡ true
+proper-open [] c rest s p = refl
+proper-open (Call.transfer t ∷ before) c rest s p = proper-open before c rest (nextCall s (Call.transfer t)) (p .1)
+proper-open (Call.lost ∷ before) c rest s p = proper-open before c rest (nextCall s Call.lost) p
+proper-open (Call.handed ∷ before) c rest s p = proper-open before c rest (nextCall s Call.handed) (p .1)
+proper-open (Call.close ∷ []) c rest s p = absurd p
+proper-open (Call.close ∷ (x ∷ before)) c rest s p = absurd p
 
-pub proper-from : (before rest : List Call) → isOpen before ≡ true → Proper (before ++ rest) → Proper rest
-proper-from [] rest e p = p
-proper-from (Call.transfer t ∷ before) rest e p = proper-from before rest e p
-proper-from (Call.lost ∷ before) rest e p = proper-from before rest e p
-proper-from (Call.close ∷ before) rest e p = absurd (true≢false (sym e))
+proper-from : (before rest : List Call) (s : Session) → isOpen before ≡ true → Proper s (before ++ rest) → Proper (run s before) rest
+proper-from [] rest s e p = p
+proper-from (Call.transfer t ∷ before) rest s e p = proper-from before rest (nextCall s (Call.transfer t)) e (p .1)
+proper-from (Call.lost ∷ before) rest s e p = proper-from before rest (nextCall s Call.lost) e p
+proper-from (Call.handed ∷ before) rest s e p = proper-from before rest (nextCall s Call.handed) e (p .1)
+proper-from (Call.close ∷ before) rest s e p = absurd (true≢false (sym e))
+
+-- a fresh session hands nothing out
+fresh-hands : (o : Opening) (t : List ℕ) → handsOut (fresh o) t ≡ false
+unfolding handsOut handsOf
+fresh-hands o t = go (readingOf o t)
+  where
+    go : (x : Reading) → handsFor x (fresh o) ≡ false
+    go Idle = refl
+    go (Unreadable k) = refl
+    go (Readable h) = refl
 
 module _ (o : Opening) (before : List Call) (t : List ℕ) (h : Header) (reads : readingOf o t ≡ Readable h)
     (other : Other (h .fid) (lastFid none (events o before))) (unspoilt : spoiltSince false (events o before) ≡ false) (open₀ : isOpen before ≡ true) where
@@ -217,14 +237,17 @@ module _ (o : Opening) (before : List Call) (t : List ℕ) (h : Header) (reads :
     all-track =
         ap (λ (x : Session). x .rest .track) (run-append before (c ∷ rest) (fresh o)) ∙ run-alike rest (nextCall s c) (nextCall (fresh o) c) (begun .alike) .track
 
-    pub frames-from : Proper (before ++ (c ∷ rest)) → framesBy o (before ++ (c ∷ rest)) ≡ earlier ++ framesBy o (c ∷ rest)
+    pub proper-later : Proper (fresh o) (before ++ (c ∷ rest)) → Proper (fresh o) (c ∷ rest)
+    proper-later p = (fresh-hands o t, proper-alike rest (nextCall s c) (nextCall (fresh o) c) (begun .alike) (proper-from before (c ∷ rest) (fresh o) open₀ p .1))
+
+    pub frames-from : Proper (fresh o) (before ++ (c ∷ rest)) → framesBy o (before ++ (c ∷ rest)) ≡ earlier ++ framesBy o (c ∷ rest)
     frames-from p =
         frames-made o (before ++ (c ∷ rest)) p
         ∙ ap (_++ afoot (run (fresh o) (before ++ (c ∷ rest)) .rest .track .phase) (dataRun (fresh o) [] (before ++ (c ∷ rest)))) all-items
         ∙ ap (λ (w : Track). (earlier ++ items (fresh o) [] (c ∷ rest)) ++ afoot (w .phase) (dataRun (fresh o) [] (before ++ (c ∷ rest)))) all-track
         ∙ ap (λ (d : List ℕ). (earlier ++ items (fresh o) [] (c ∷ rest)) ++ afoot (run (fresh o) (c ∷ rest) .rest .track .phase) d) all-data
         ∙ append-assoc earlier (items (fresh o) [] (c ∷ rest)) _
-        ∙ ap (earlier ++_) (sym (frames-made o (c ∷ rest) (proper-from before (c ∷ rest) open₀ p)))
+        ∙ ap (earlier ++_) (sym (frames-made o (c ∷ rest) (proper-later p)))
 
 -- ---- a list that is one frame, ended: what is called after it is entered after it
 ended-alone : (xs : List Item) (ph : Phase) (D : List ℕ) (m : Item) (d : Delivery) → m .entry ≡ Entry.Delivered d → xs ++ afoot ph D ≡ m ∷ [] → xs ≡ m ∷ []
@@ -234,7 +257,7 @@ ended-alone [] (Under x) D m d e q = cc
 ended-alone (y ∷ []) (Under x) D m d e q = cc
 ended-alone (y ∷ (z ∷ xs)) (Under x) D m d e q = cc
 
-pub frames-after : (o : Opening) (cs after : List Call) (m : Item) (d : Delivery) → m .entry ≡ Entry.Delivered d → framesBy o cs ≡ m ∷ [] → Proper cs → Proper (cs ++ after) →
+pub frames-after : (o : Opening) (cs after : List Call) (m : Item) (d : Delivery) → m .entry ≡ Entry.Delivered d → framesBy o cs ≡ m ∷ [] → Proper (fresh o) cs → Proper (fresh o) (cs ++ after) →
     (rest : List Item) × (framesBy o (cs ++ after) ≡ m ∷ rest)
 frames-after o cs after m d e q p r = (
   _,

@@ -9,14 +9,15 @@ use Rattle.rules.specs.Pick.{pick}
 use Rattle.rules.specs.Numbered.{firstFrom, anyBelow}
 use Rattle.sizes.specs.Sizes.{frameSizeBroken, payloadSizeBroken, sizesBroken}
 use Rattle.sizes.specs.declared.Opening.{Opening}
+use Rattle.sizes.specs.Framing.{byEof}
 use Rattle.payload.specs.declared.Stamp.the-variants.{At}
 use Rattle.payload.specs.Transfer.{flagOf, needOf, transferFlags, stampOf, headerOf, readingOf}
-use Rattle.frames.specs.Inner.{turnOf, spoiltOf, closedOf}
+use Rattle.frames.specs.Inner.{turnOf, handsOf, spoiltOf, closedOf}
 use Rattle.ledger.specs.Entry.{Entry}
 use Rattle.ledger.specs.Ledger.{plusOf, timedOf, postOf, shownOf}
 use Rattle.ledger.specs.Accounts.{ticksAt, backwardAt, untimedAt}
 use Rattle.rule_50.specs.Rule50.{rule50, fillBroken, accountsBroken, countsBroken}
-use Rattle.session.specs.Session.{readOf, tookOf, takeOf}
+use Rattle.session.specs.Session.{readOf, tookOf, handsOut, takeOf}
 use Rattle.session.specs.Call.{Call}
 use Rattle.session.specs.Calls.{Offer}
 use Rattle.steps.specs.Signed.{signed, lowest}
@@ -75,7 +76,7 @@ abbrev second-half : List Offer
 second-half = offered (middle ∷ others)
 
 at-middle : Middle opening (Call.transfer first ∷ []) middle []
-unfolding pick firstFrom anyBelow frameSizeBroken payloadSizeBroken flagOf needOf transferFlags stampOf headerOf readingOf turnOf spoiltOf closedOf plusOf timedOf postOf shownOf sizesBroken fillBroken accountsBroken countsBroken rule50 readOf tookOf takeOf
+unfolding pick firstFrom anyBelow frameSizeBroken payloadSizeBroken byEof flagOf needOf transferFlags stampOf headerOf readingOf turnOf spoiltOf closedOf plusOf timedOf postOf shownOf sizesBroken fillBroken accountsBroken countsBroken rule50 readOf tookOf handsOut handsOf takeOf
 at-middle =
     record {
       header = headerOf middle;
@@ -91,11 +92,11 @@ at-middle =
     }
 
 in-halves : BillAsWhole (job opening whole) (job opening first-half) (job opening second-half)
-unfolding pick firstFrom anyBelow frameSizeBroken payloadSizeBroken flagOf needOf transferFlags stampOf headerOf readingOf turnOf spoiltOf closedOf plusOf timedOf postOf shownOf sizesBroken fillBroken accountsBroken countsBroken rule50 readOf tookOf takeOf
+unfolding pick firstFrom anyBelow frameSizeBroken payloadSizeBroken byEof flagOf needOf transferFlags stampOf headerOf readingOf turnOf spoiltOf closedOf plusOf timedOf postOf shownOf sizesBroken fillBroken accountsBroken countsBroken rule50 readOf tookOf handsOut handsOf takeOf
 in-halves =
     halves .of-calls opening whole first-half second-half (Call.transfer first ∷ []) middle [] (map Call.transfer others) at-middle refl refl refl
 
 -- forward 32 in the first half and 20 in the second, once backward and once untimed
 numbers : (billed (job opening whole) ticksAt ≡ 52) × (billed (job opening whole) backwardAt ≡ 1) × (billed (job opening whole) untimedAt ≡ 1)
-unfolding pick firstFrom anyBelow frameSizeBroken payloadSizeBroken flagOf needOf transferFlags stampOf headerOf readingOf turnOf spoiltOf closedOf plusOf timedOf postOf shownOf sizesBroken fillBroken accountsBroken countsBroken rule50 readOf tookOf takeOf
+unfolding pick firstFrom anyBelow frameSizeBroken payloadSizeBroken byEof flagOf needOf transferFlags stampOf headerOf readingOf turnOf spoiltOf closedOf plusOf timedOf postOf shownOf sizesBroken fillBroken accountsBroken countsBroken rule50 readOf tookOf handsOut handsOf takeOf
 numbers = (refl, refl, refl)

@@ -14,7 +14,7 @@ use Rattle.ledger.specs.Entry.{Entry}
 use Rattle.session.specs.Session.{fresh}
 use Rattle.session.specs.Call.{Call}
 use Rattle.session.specs.Calls.{Offer, taken}
-use Rattle.books.specs.Rule.{Event, idle, unreadable, missing, readable, Item, events, isOpen, loose, entryOf, entries, framesBy, total, stamps, stampList, untimed, noStamp, forward, back, between}
+use Rattle.books.specs.Rule.{Event, idle, unreadable, missing, readable, mark, Item, events, isOpen, loose, entryOf, entries, framesBy, total, stamps, stampList, untimed, noStamp, forward, back, between}
 use Rattle.books.proofs.Taken.{Proper, taken-proper}
 use Rattle.books.proofs.Posts.{total-append}
 use Rattle.books.proofs.History.{map-append, stamps-append}
@@ -22,7 +22,7 @@ use Rattle.books.proofs.Accounts.{loose-stamped}
 use Rattle.books.proofs.Theorems.{accounts-right}
 use Rattle.steps.specs.Cut.{Middle}
 use Rattle.steps.specs.Halves.{StampHalves, EntryHalves, Job, job, framesIn, Split, billed, BillAsWhole, Halves}
-use Rattle.steps.proofs.Begins.{proper-open, proper-from, earlier, frames-from, frames-after}
+use Rattle.steps.proofs.Begins.{proper-open, proper-later, earlier, frames-from, frames-after}
 
 -- ---- stamps: what is added up between neighbours, of two parts that share one
 between-shared : (f : ℕ → ℕ → ℕ) (before : List ℕ) (m : ℕ) (after : List ℕ) →
@@ -65,6 +65,7 @@ loose-timed (idle ∷ es) = zero-add _ ∙ loose-timed es
 loose-timed (unreadable n ∷ es) = zero-add _ ∙ loose-timed es
 loose-timed (missing ∷ es) = zero-add _ ∙ loose-timed es
 loose-timed (readable h d ∷ es) = zero-add _ ∙ loose-timed es
+loose-timed (mark ∷ es) = loose-timed es
 
 -- a job's time, from the entries of its frames alone
 record Timed (j : Job) (es : List Entry) : Type 0 where
@@ -114,17 +115,17 @@ module _ (whole first second : Job) (p : Split whole first second) where
 module _ (o : Opening) (whole first second : List Offer) (before : List Call) (t : List ℕ) (own after : List Call) (m : Middle o before t own)
     (w : taken (fresh o) whole ≡ before ++ (Call.transfer t ∷ (own ++ after))) (f : taken (fresh o) first ≡ before ++ (Call.transfer t ∷ own))
     (s : taken (fresh o) second ≡ Call.transfer t ∷ (own ++ after)) where
-  proper-first : Proper (before ++ (Call.transfer t ∷ own))
-  proper-first = subst Proper f (taken-proper (fresh o) first)
+  proper-first : Proper (fresh o) (before ++ (Call.transfer t ∷ own))
+  proper-first = subst (Proper (fresh o)) f (taken-proper (fresh o) first)
 
   open₀ : isOpen before ≡ true
-  open₀ = proper-open before (Call.transfer t) own proper-first
+  open₀ = proper-open before (Call.transfer t) own (fresh o) proper-first
 
   -- the frames of a list that goes on with the middle one's first transfer
   abbrev frames-before : List Item
   frames-before = earlier o before t (m .header) (m .reads) (m .other) (m .unspoilt) open₀
 
-  from-middle : (rest : List Call) → Proper (before ++ (Call.transfer t ∷ rest)) →
+  from-middle : (rest : List Call) → Proper (fresh o) (before ++ (Call.transfer t ∷ rest)) →
       framesBy o (before ++ (Call.transfer t ∷ rest)) ≡ frames-before ++ framesBy o (Call.transfer t ∷ rest)
   from-middle rest p = frames-from o before t (m .header) (m .reads) (m .other) (m .unspoilt) open₀ rest p
 
@@ -132,12 +133,12 @@ module _ (o : Opening) (whole first second : List Offer) (before : List Call) (t
   split-calls =
       let second-frames =
       frames-after o (Call.transfer t ∷ own) after (m .item) (m .delivery) (m .delivered) (m .alone)
-      (proper-from before (Call.transfer t ∷ own) open₀ proper-first) (subst Proper s (taken-proper (fresh o) second)) in
+      (proper-later o before t (m .header) (m .reads) (m .other) (m .unspoilt) open₀ own proper-first) (subst (Proper (fresh o)) s (taken-proper (fresh o) second)) in
       record {
         before = frames-before;
         middle = m .item;
         after = second-frames .0;
-        all = ap (framesBy o) w ∙ from-middle (own ++ after) (subst Proper w (taken-proper (fresh o) whole)) ∙ ap (frames-before ++_) (second-frames .1);
+        all = ap (framesBy o) w ∙ from-middle (own ++ after) (subst (Proper (fresh o)) w (taken-proper (fresh o) whole)) ∙ ap (frames-before ++_) (second-frames .1);
         up-to = ap (framesBy o) f ∙ from-middle own proper-first ∙ ap (frames-before ++_) (m .alone);
         from = ap (framesBy o) s ∙ second-frames .1;
         delivery = m .delivery;

@@ -12,7 +12,7 @@ use Rattle.payload.specs.Transfer.{readingOf}
 use Rattle.frames.specs.declared.Delivery.{Delivery}
 use Rattle.ledger.specs.Entry.{Entry}
 use Rattle.session.specs.Call.{Call}
-use Rattle.books.specs.Rule.{Event, idle, unreadable, missing, readable, events, Item, framesBy}
+use Rattle.books.specs.Rule.{Event, idle, unreadable, missing, readable, mark, events, Item, framesBy}
 
 -- the FID of the last readable transfer, if there is one
 pub data LastFid : Type 0 where
@@ -25,6 +25,7 @@ lastFid f (idle ∷ es) = lastFid f es
 lastFid f (unreadable n ∷ es) = lastFid f es
 lastFid f (missing ∷ es) = lastFid f es
 lastFid f (readable h d ∷ es) = lastFid (of (h .fid)) es
+lastFid f (mark ∷ es) = lastFid f es
 
 -- whether an unreadable or lost transfer has come since
 abbrev pub spoiltSince : Bool → List Event → Bool
@@ -33,13 +34,14 @@ spoiltSince b (idle ∷ es) = spoiltSince b es
 spoiltSince b (unreadable n ∷ es) = spoiltSince true es
 spoiltSince b (missing ∷ es) = spoiltSince true es
 spoiltSince b (readable h d ∷ es) = spoiltSince false es
+spoiltSince b (mark ∷ es) = spoiltSince b es
 
 abbrev pub Other : Bool → LastFid → Type 0
 Other f none = Unit
 Other f (of g) = g ≡ f → ⊥
 
 -- THE MIDDLE FRAME: t and the calls `own` after it. t is readable, has another FID than the last readable transfer before it, and nothing unreadable or lost has
--- come since that one; and the frame's calls, by themselves, are one frame, delivered and stamped.
+-- come since that one; and the frame's calls, by themselves, are one frame, delivered and stamped (with D1 clear, its mark is among them).
 pub record Middle (o : Opening) (before : List Call) (t : List ℕ) (own : List Call) : Type 0 where
   pub header : Header
   pub reads : readingOf o t ≡ Readable header

@@ -4,13 +4,15 @@ use mathlib.Core.Path.{_≡_, refl, sym, _∙_, ap}
 use mathlib.Core.Bool.{Bool, true, false, _||_}
 use mathlib.Core.List.{List, [], _∷_, map}
 use native.Mathlib.Omega.{arith}
+use Rattle.sizes.specs.Framing.{byEof}
 use Rattle.session.specs.declared.Session.{Session}
 use Rattle.session.specs.Refusals.{ledgerOf}
 use Rattle.session.specs.Session.{fresh}
 use Rattle.books.specs.Rule.{entries, numbersOf}
 use Rattle.books.proofs.Theorems.{numbers-right}
-use Rattle.books.proofs.Whole.{same-call}
-use Rattle.trace.specs.Record.{recordBad, recordCall}
+use Rattle.books.proofs.HandedOut.{asked-listed, asked-next}
+use Rattle.books.proofs.History.{next-opening}
+use Rattle.trace.specs.Record.{recordBad, recordAsk, recordCall}
 use Rattle.trace.specs.Trace.{sizes, newTrace, numberOf, offered, readBy, stepOf, keptBy, stepBuffer, traced}
 use Rattle.trace.specs.declared.State.the-variants.{Good, Bad, Refused}
 use Rattle.trace.specs.declared.Trace.{Trace}
@@ -39,8 +41,8 @@ state-of e = ap (λ (t : Trace). t .state) e
 
 -- ---- a good trace: all its calls are taken
 pub record Taken (s : Session) (b : List ℕ) (rs : List (List ℕ)) : Type 0 where
-  pub session : traced (record { session = s; state = Good }) b rs .session ≡ after s (offers s b (map recordCall rs))
-  pub calls : taken s (offers s b (map recordCall rs)) ≡ map recordCall rs
+  pub session : traced (record { session = s; state = Good }) b rs .session ≡ after s (offers s b (map recordAsk rs))
+  pub calls : taken s (offers s b (map recordAsk rs)) ≡ map recordCall rs
 
 abbrev pub good : Session → Trace
 good s = record { session = s; state = Good }
@@ -49,54 +51,63 @@ good s = record { session = s; state = Good }
 module _ (s : Session) (b r : List ℕ) where
   pub step-bad : (s .rest .closed || recordBad r) ≡ true → stepOf (good s) b r ≡ record { session = s; state = Bad (numberOf s) }
   unfolding stepOf
-  step-bad e = ap (λ (x : Bool). readBy x s b (recordCall r)) e
+  step-bad e = ap (λ (x : Bool). readBy x s b (recordAsk r)) e
 
   module _ (e : (s .rest .closed || recordBad r) ≡ false) where
-    pub step-refused : (k : ℕ) → refusal s (offerWith b (recordCall r)) ≡ suc k → stepOf (good s) b r ≡ record { session = s; state = Refused (suc k) (numberOf s) }
+    pub step-refused : (k : ℕ) → refusal s (offerWith b (recordAsk r)) ≡ suc k → stepOf (good s) b r ≡ record { session = s; state = Refused (suc k) (numberOf s) }
     unfolding stepOf
-    step-refused k q = ap (λ (x : Bool). readBy x s b (recordCall r)) e ∙ ap (λ (n : ℕ). offered n s (next s (offerWith b (recordCall r)))) q
+    step-refused k q = ap (λ (x : Bool). readBy x s b (recordAsk r)) e ∙ ap (λ (n : ℕ). offered n s (next s (offerWith b (recordAsk r)))) q
 
-    pub step-good : refusal s (offerWith b (recordCall r)) ≡ 0 → stepOf (good s) b r ≡ good (next s (offerWith b (recordCall r)))
+    pub step-good : refusal s (offerWith b (recordAsk r)) ≡ 0 → stepOf (good s) b r ≡ good (next s (offerWith b (recordAsk r)))
     unfolding stepOf
-    step-good q = ap (λ (x : Bool). readBy x s b (recordCall r)) e ∙ ap (λ (n : ℕ). offered n s (next s (offerWith b (recordCall r)))) q
+    step-good q = ap (λ (x : Bool). readBy x s b (recordAsk r)) e ∙ ap (λ (n : ℕ). offered n s (next s (offerWith b (recordAsk r)))) q
 
-    pub buffer-good : stepBuffer (good s) b r ≡ bufferNext s b (recordCall r)
+    pub buffer-good : stepBuffer (good s) b r ≡ bufferNext s b (recordAsk r)
     unfolding stepBuffer
-    buffer-good = ap (λ (x : Bool). keptBy x s b (recordCall r)) e
+    buffer-good = ap (λ (x : Bool). keptBy x s b (recordAsk r)) e
 
     -- a good record that is taken: the rest of the trace goes on from there
-    pub on-good : refusal s (offerWith b (recordCall r)) ≡ 0 → (rs : List (List ℕ)) → traced (good s) b (r ∷ rs) ≡ traced (good (next s (offerWith b (recordCall r)))) (bufferNext s b (recordCall r)) rs
-    on-good q rs = ap (λ (t : Trace). traced t (stepBuffer (good s) b r) rs) (step-good q) ∙ ap (λ (x : List ℕ). traced (good (next s (offerWith b (recordCall r)))) x rs) buffer-good
+    pub on-good : refusal s (offerWith b (recordAsk r)) ≡ 0 → (rs : List (List ℕ)) → traced (good s) b (r ∷ rs) ≡ traced (good (next s (offerWith b (recordAsk r)))) (bufferNext s b (recordAsk r)) rs
+    on-good q rs = ap (λ (t : Trace). traced t (stepBuffer (good s) b r) rs) (step-good q) ∙ ap (λ (x : List ℕ). traced (good (next s (offerWith b (recordAsk r)))) x rs) buffer-good
 
-    pub on-refused : (k : ℕ) → refusal s (offerWith b (recordCall r)) ≡ suc k → (rs : List (List ℕ)) → traced (good s) b (r ∷ rs) ≡ record { session = s; state = Refused (suc k) (numberOf s) }
+    pub on-refused : (k : ℕ) → refusal s (offerWith b (recordAsk r)) ≡ suc k → (rs : List (List ℕ)) → traced (good s) b (r ∷ rs) ≡ record { session = s; state = Refused (suc k) (numberOf s) }
     on-refused k q rs = ap (λ (t : Trace). traced t (stepBuffer (good s) b r) rs) (step-refused k q) ∙ stays-refused rs s (suc k) (numberOf s) (stepBuffer (good s) b r)
 
   pub on-bad : (s .rest .closed || recordBad r) ≡ true → (rs : List (List ℕ)) → traced (good s) b (r ∷ rs) ≡ record { session = s; state = Bad (numberOf s) }
   on-bad e rs = ap (λ (t : Trace). traced t (stepBuffer (good s) b r) rs) (step-bad e) ∙ stays-bad rs s (numberOf s) (stepBuffer (good s) b r)
 
-pub good-taken : (rs : List (List ℕ)) (s : Session) (b : List ℕ) → traced (good s) b rs .state ≡ Good → Taken s b rs
-good-taken [] s b e = record { session = refl; calls = refl }
-good-taken (r ∷ rs) s b e =
-    go (s .rest .closed || recordBad r) refl (refusal s (offerWith b (recordCall r))) refl (good-taken rs (next s (offerWith b (recordCall r))) (bufferNext s b (recordCall r)))
+pub good-taken : (rs : List (List ℕ)) (s : Session) (b : List ℕ) → byEof (s .rest .opening) ≡ true → traced (good s) b rs .state ≡ Good → Taken s b rs
+good-taken [] s b d e = record { session = refl; calls = refl }
+good-taken (r ∷ rs) s b d e =
+    go (s .rest .closed || recordBad r) refl (refusal s (offerWith b (recordAsk r))) refl (λ z. good-taken rs (next s (offerWith b (recordAsk r))) (bufferNext s b (recordAsk r)) (eof-next z))
   where
-    go : (x : Bool) → (s .rest .closed || recordBad r) ≡ x → (k : ℕ) → refusal s (offerWith b (recordCall r)) ≡ k
-        → (traced (good (next s (offerWith b (recordCall r)))) (bufferNext s b (recordCall r)) rs .state ≡ Good → Taken (next s (offerWith b (recordCall r))) (bufferNext s b (recordCall r)) rs)
+    -- the framing stays
+    eof-next : refusal s (offerWith b (recordAsk r)) ≡ 0 → byEof (next s (offerWith b (recordAsk r)) .rest .opening) ≡ true
+    eof-next z = ap (λ (x : Session). byEof (x .rest .opening)) (asked-next s b (recordAsk r) d z) ∙ ap byEof (next-opening s (recordCall r)) ∙ d
+
+    go : (x : Bool) → (s .rest .closed || recordBad r) ≡ x → (k : ℕ) → refusal s (offerWith b (recordAsk r)) ≡ k
+        → (refusal s (offerWith b (recordAsk r)) ≡ 0 → traced (good (next s (offerWith b (recordAsk r)))) (bufferNext s b (recordAsk r)) rs .state ≡ Good → Taken (next s (offerWith b (recordAsk r))) (bufferNext s b (recordAsk r)) rs)
         → Taken s b (r ∷ rs)
     go true q k z rec = absurd (good-bad (numberOf s) (sym (state-of (on-bad s b r q rs)) ∙ e))
     go false q (suc k) z rec = absurd (good-refused (suc k) (numberOf s) (sym (state-of (on-refused s b r q k z rs)) ∙ e))
     go false q zero z rec =
-        let i = rec (sym (state-of (on-good s b r q z rs)) ∙ e) in
+        let i = rec z (sym (state-of (on-good s b r q z rs)) ∙ e) in
         record {
           session = ap (λ (t : Trace). t .session) (on-good s b r q z rs) ∙ i .session;
-          calls = ap (λ (k : ℕ). unless k (callOf (offerWith b (recordCall r))) (taken (next s (offerWith b (recordCall r))) (offers (next s (offerWith b (recordCall r))) (bufferNext s b (recordCall r)) (map recordCall rs)))) z
-              ∙ ap (λ (c : Call). c ∷ taken (next s (offerWith b (recordCall r))) (offers (next s (offerWith b (recordCall r))) (bufferNext s b (recordCall r)) (map recordCall rs))) (same-call b (recordCall r))
+          calls = ap (λ (k : ℕ). unless k (callOf s (offerWith b (recordAsk r))) (taken (next s (offerWith b (recordAsk r))) (offers (next s (offerWith b (recordAsk r))) (bufferNext s b (recordAsk r)) (map recordAsk rs)))) z
+              ∙ ap (λ (c : Call). c ∷ taken (next s (offerWith b (recordAsk r))) (offers (next s (offerWith b (recordAsk r))) (bufferNext s b (recordAsk r)) (map recordAsk rs))) (asked-listed s b (recordAsk r) d z)
               ∙ ap (recordCall r ∷_) (i .calls);
         }
+
+-- every trace is read with D1 set
+pub reads-eof : byEof sizes ≡ true
+unfolding byEof
+reads-eof = refl
 
 -- THE LEDGER of a good trace is the frame rule's, for the calls that its records stand for.
 pub trace-right : (b : List ℕ) (rs : List (List ℕ)) → traced newTrace b rs .state ≡ Good → ledgerOf (traced newTrace b rs .session) .numbers ≡ numbersOf (entries sizes (map recordCall rs))
 trace-right b rs e =
-    let t : Taken (fresh sizes) b rs = good-taken rs (fresh sizes) b e in
+    let t : Taken (fresh sizes) b rs = good-taken rs (fresh sizes) b reads-eof e in
     ap (λ (s : Session). ledgerOf s .numbers) (t .session)
-    ∙ numbers-right sizes (offers (fresh sizes) b (map recordCall rs))
+    ∙ numbers-right sizes (offers (fresh sizes) b (map recordAsk rs))
     ∙ ap (λ (cs : List Call). numbersOf (entries sizes cs)) (t .calls)

@@ -14,7 +14,7 @@ use Rattle.session.specs.declared.Session.{Session}
 use Rattle.session.specs.Refusals.{postedOf}
 use Rattle.session.specs.declared.Rest.{Rest}
 use Rattle.books.proofs.Sized.{next-sized}
-use Rattle.trace.specs.Record.{recordBad, recordCall, recordsBy, recordsOf}
+use Rattle.trace.specs.Record.{recordBad, recordAsk, recordsBy, recordsOf}
 use Rattle.trace.specs.Trace.{offered, readBy, stepOf, stepBuffer, traced, tracedBuffer, goodOf}
 use Rattle.trace.specs.declared.State.{State}
 use Rattle.trace.specs.declared.State.the-variants.{Good, Bad, Refused}
@@ -128,9 +128,9 @@ module _ (s : Session) (z : Sized (postedOf s)) where
       by-row zero n h = h
       by-row (suc k) n h = z
 
-      go : (x : Bool) → Sized (postedOf (readBy x s b (recordCall r) .session))
+      go : (x : Bool) → Sized (postedOf (readBy x s b (recordAsk r) .session))
       go true = z
-      go false = by-row (refusal s (offerWith b (recordCall r))) (next s (offerWith b (recordCall r))) (next-sized s z (offerWith b (recordCall r)))
+      go false = by-row (refusal s (offerWith b (recordAsk r))) (next s (offerWith b (recordAsk r))) (next-sized s z (offerWith b (recordAsk r)))
 
 -- ---- the loop
 -- what is still to be read, from where the trace stands, leads to the same as all of it

@@ -1,6 +1,6 @@
 -- What each branch of the code says of the definitions.
 use Prim.Native.Nat.{ℕ, zero, suc, _+_, _≤_, _<_}
-use mathlib.Core.Path.{_≡_, refl, sym, _∙_, ap}
+use mathlib.Core.Path.{_≡_, refl, sym, _∙_, ap, subst}
 use mathlib.Core.Bool.{Bool, true, false, _||_, _&&_, not}
 use mathlib.Core.List.{List, []}
 use native.Mathlib.Omega.{arith}
@@ -15,6 +15,7 @@ use Rattle.ledger.specs.declared.Ledger.{Ledger}
 use Rattle.ledger.specs.Ledger.{noLedger}
 use Rattle.frames.specs.declared.Answer.{Answer}
 use Rattle.frames.specs.declared.Ended.{Ended}
+use Rattle.frames.specs.declared.HandOut.{HandOut}
 use Rattle.session.specs.declared.Session.{Session}
 use Rattle.session.specs.declared.Rest.{Rest}
 use Rattle.session.specs.declared.RestTaken.{RestTaken}
@@ -28,12 +29,10 @@ use Rattle.session.specs.declared.Closed.{Closed}
 use Rattle.session.specs.declared.Closing.{Closing}
 use Rattle.session.specs.declared.Opened.{Opened}
 use Rattle.session.specs.Refusals.{openingFlags, takeRows, lostRows, closeRows, ledgerOf}
-use Rattle.session.specs.Session.{fresh, openOf, readOf, tookBy, tookOf, takeBy, takeOf, lostBy, lostOf, closeBy, closeOf}
-use Rattle.payload.specs.declared.Reading.{Reading}
-use Rattle.payload.specs.declared.Reading.the-variants.{Idle, Unreadable, Readable}
-use Rattle.payload.specs.Transfer.{readingOf}
+use Rattle.session.specs.Session.{fresh, openOf, takeBy, takeOf, lostBy, lostOf, closeBy, closeOf}
+use Rattle.session.proofs.Refused.{Met, met, not-both}
 use Rattle.rules.proofs.Rows.{or-first, or-second}
-use Rattle.trace.specs.Record.{kindAt, lengthAt, anySet, recordBad, callBy, recordCall}
+use Rattle.trace.specs.Record.{kindAt, lengthAt, anySet, recordBad, askBy, recordAsk}
 use Rattle.trace.specs.Trace.{sizes, newTrace, numberOf, offered, readCall, readBy, keptBy, stepBy, stepBufferBy, stepOf, stepBuffer, printBy, reportOf}
 use Rattle.trace.specs.declared.State.{State}
 use Rattle.trace.specs.declared.State.the-variants.{Good, Bad, Refused}
@@ -41,7 +40,7 @@ use Rattle.trace.specs.declared.Trace.{Trace}
 use Rattle.trace.specs.declared.Going.{Going}
 use Rattle.trace.specs.declared.Printed.{Printed}
 use Rattle.session.specs.Inner.{wholeOf, takenWith, reportedWith, closedWith}
-use Rattle.session.specs.Call.{Call}
+use Rattle.session.specs.Call.{Ask}
 use Rattle.session.specs.Calls.{bufferNext}
 use Rattle.trace.specs.Inner.{goingWith, numberRest, answeredBy}
 
@@ -70,23 +69,16 @@ module _ (s : Session) (n k : ℕ) (e : k ≡ n) (r : Rest) (l : List ℕ) (g : 
       go (suc j) h = ap (λ (z : Session). record { session = z; state = Refused (suc j) (numberOf z) }) (h j refl)
 
 -- ---- a transfer
-took-taken : (s : Session) (t : List ℕ) (r : Reading) (k : ℕ) → tookBy r s t .outcome ≡ Outcome.Refused k → ⊥
-unfolding readOf
-took-taken s t Idle k e = let z : _≡_ {A = ℕ} 0 1 = cc in omega arith
-took-taken s t (Unreadable n) k e = let z : _≡_ {A = ℕ} 0 1 = cc in omega arith
-took-taken s t (Readable h) k e = let z : _≡_ {A = ℕ} 0 1 = cc in omega arith
-
 same-refused : (j k : ℕ) → Outcome.Refused j ≡ Outcome.Refused k → k ≡ j
 same-refused j k e = cc
 
 take-refused : (s : Session) (t : List ℕ) (n k : ℕ) → takeBy n s t .outcome ≡ Outcome.Refused k → k ≡ n
-unfolding tookOf
-take-refused s t zero k e = absurd (took-taken s t (readingOf (s .rest .opening) t) k e)
+take-refused s t zero k e = absurd (not-both _ k (met s t) e)
 take-refused s t (suc n) k e = same-refused (suc n) k e
 
-take-taken : (s : Session) (t : List ℕ) (n : ℕ) (a : Answer) → takeBy n s t .outcome ≡ Outcome.Taken a → 0 ≡ n
-take-taken s t zero a e = refl
-take-taken s t (suc n) a e = absurd (let z : _≡_ {A = ℕ} 0 1 = cc in omega arith)
+take-met : (s : Session) (t : List ℕ) (n : ℕ) → Met (takeBy n s t .outcome) → 0 ≡ n
+take-met s t zero e = refl
+take-met s t (suc n) e = absurd e
 
 module _ (s : Session) (b t : List ℕ) (x : RestTaken) (l : List ℕ) (e : takenWith x l ≡ takeOf s (length b) t) (g : Going) where
   abbrev row : ℕ
@@ -96,17 +88,23 @@ module _ (s : Session) (b t : List ℕ) (x : RestTaken) (l : List ℕ) (e : take
   unfolding takeOf
   taken-same j q = ap (λ (y : Taken). y .session) e ∙ ap (λ (i : ℕ). takeBy i s t .session) q
 
-  by-row : (k : ℕ) → k ≡ row → g ≡ answeredBy k (x .rest) → goingWith g l ≡ readCall s b (Call.transfer t)
+  by-row : (k : ℕ) → k ≡ row → g ≡ answeredBy k (x .rest) → goingWith g l ≡ readCall s b (Ask.transfer t)
   by-row k q f =
       as-offered s row k q (x .rest) l g f taken-same ∙ ap (λ (y : Taken). offered row s (y .session)) e
 
-  pub transfer-refused : (k : ℕ) → x .outcome ≡ Outcome.Refused k → g ≡ answeredBy k (x .rest) → goingWith g l ≡ readCall s b (Call.transfer t)
+  pub transfer-refused : (k : ℕ) → x .outcome ≡ Outcome.Refused k → g ≡ answeredBy k (x .rest) → goingWith g l ≡ readCall s b (Ask.transfer t)
   unfolding takeOf
   transfer-refused k q f = by-row k (take-refused s t row k (ap (λ (y : Taken). y .outcome) (sym e) ∙ q)) f
 
-  pub transfer-taken : (a : Answer) → x .outcome ≡ Outcome.Taken a → g ≡ answeredBy 0 (x .rest) → goingWith g l ≡ readCall s b (Call.transfer t)
+  transfer-met : Met (x .outcome) → g ≡ answeredBy 0 (x .rest) → goingWith g l ≡ readCall s b (Ask.transfer t)
   unfolding takeOf
-  transfer-taken a q f = by-row 0 (take-taken s t row a (ap (λ (y : Taken). y .outcome) (sym e) ∙ q)) f
+  transfer-met q f = by-row 0 (take-met s t row (subst Met (ap (λ (y : Taken). y .outcome) e) q)) f
+
+  pub transfer-taken : (a : Answer) → x .outcome ≡ Outcome.Taken a → g ≡ answeredBy 0 (x .rest) → goingWith g l ≡ readCall s b (Ask.transfer t)
+  transfer-taken a q f = transfer-met (rw q tt) f
+
+  pub transfer-handed : (a : HandOut) → x .outcome ≡ Outcome.Handed a → g ≡ answeredBy 0 (x .rest) → goingWith g l ≡ readCall s b (Ask.transfer t)
+  transfer-handed a q f = transfer-met (rw q tt) f
 
 -- ---- a lost report
 lost-refused₀ : (s : Session) (n k : ℕ) → lostBy n s .report ≡ Report.Refused k → k ≡ n
@@ -125,15 +123,15 @@ module _ (s : Session) (b : List ℕ) (x : RestReported) (l : List ℕ) (e : rep
   unfolding lostOf
   reported-same j q = ap (λ (y : Reported). y .session) e ∙ ap (λ (i : ℕ). lostBy i s .session) q
 
-  by-lost-row : (k : ℕ) → k ≡ lost-row → g ≡ answeredBy k (x .rest) → goingWith g l ≡ readCall s b Call.lost
+  by-lost-row : (k : ℕ) → k ≡ lost-row → g ≡ answeredBy k (x .rest) → goingWith g l ≡ readCall s b Ask.lost
   by-lost-row k q f =
       as-offered s lost-row k q (x .rest) l g f reported-same ∙ ap (λ (y : Reported). offered lost-row s (y .session)) e
 
-  pub lost-refused : (k : ℕ) → x .report ≡ Report.Refused k → g ≡ answeredBy k (x .rest) → goingWith g l ≡ readCall s b Call.lost
+  pub lost-refused : (k : ℕ) → x .report ≡ Report.Refused k → g ≡ answeredBy k (x .rest) → goingWith g l ≡ readCall s b Ask.lost
   unfolding lostOf
   lost-refused k q f = by-lost-row k (lost-refused₀ s lost-row k (ap (λ (y : Reported). y .report) (sym e) ∙ q)) f
 
-  pub lost-noted : x .report ≡ Report.Noted → g ≡ answeredBy 0 (x .rest) → goingWith g l ≡ readCall s b Call.lost
+  pub lost-noted : x .report ≡ Report.Noted → g ≡ answeredBy 0 (x .rest) → goingWith g l ≡ readCall s b Ask.lost
   unfolding lostOf
   lost-noted q f = by-lost-row 0 (lost-noted₀ s lost-row (ap (λ (y : Reported). y .report) (sym e) ∙ q)) f
 
@@ -154,15 +152,15 @@ module _ (s : Session) (b : List ℕ) (x : RestClosed) (l : List ℕ) (e : close
   unfolding closeOf
   closed-same j q = ap (λ (y : Closed). y .session) e ∙ ap (λ (i : ℕ). closeBy i s .session) q
 
-  by-close-row : (k : ℕ) → k ≡ close-row → g ≡ answeredBy k (x .rest) → goingWith g l ≡ readCall s b Call.close
+  by-close-row : (k : ℕ) → k ≡ close-row → g ≡ answeredBy k (x .rest) → goingWith g l ≡ readCall s b Ask.close
   by-close-row k q f =
       as-offered s close-row k q (x .rest) l g f closed-same ∙ ap (λ (y : Closed). offered close-row s (y .session)) e
 
-  pub close-refused : (k : ℕ) → x .closing ≡ Closing.Refused k → g ≡ answeredBy k (x .rest) → goingWith g l ≡ readCall s b Call.close
+  pub close-refused : (k : ℕ) → x .closing ≡ Closing.Refused k → g ≡ answeredBy k (x .rest) → goingWith g l ≡ readCall s b Ask.close
   unfolding closeOf
   close-refused k q f = by-close-row k (close-refused₀ s close-row k (ap (λ (y : Closed). y .closing) (sym e) ∙ q)) f
 
-  pub close-closed : (a : Ended) → x .closing ≡ Closing.Closed a → g ≡ answeredBy 0 (x .rest) → goingWith g l ≡ readCall s b Call.close
+  pub close-closed : (a : Ended) → x .closing ≡ Closing.Closed a → g ≡ answeredBy 0 (x .rest) → goingWith g l ≡ readCall s b Ask.close
   unfolding closeOf
   close-closed a q f = by-close-row 0 (close-closed₀ s close-row a (ap (λ (y : Closed). y .closing) (sym e) ∙ q)) f
 
@@ -229,26 +227,26 @@ fine r e =
 
 -- ---- a good record's call
 abbrev Called : Session → List ℕ → List ℕ → Trace → List ℕ → Type 0
-Called s b r x y = (x ≡ readCall s b (recordCall r)) × (y ≡ bufferNext s b (recordCall r))
+Called s b r x y = (x ≡ readCall s b (recordAsk r)) × (y ≡ bufferNext s b (recordAsk r))
 
 module _ (s : Session) (b r : List ℕ) where
-  as-call : (c : Call) (x : Trace) (y : List ℕ) → recordCall r ≡ c → x ≡ readCall s b c → y ≡ bufferNext s b c → Called s b r x y
+  as-call : (c : Ask) (x : Trace) (y : List ℕ) → recordAsk r ≡ c → x ≡ readCall s b c → y ≡ bufferNext s b c → Called s b r x y
   as-call c x y e u v = (u ∙ sym (ap (readCall s b) e), v ∙ sym (ap (bufferNext s b) e))
 
-  pub call-transfer : (n m : ℕ) (x : Trace) (y : List ℕ) → kindAt r ≡ 0 → n ≡ lengthAt r → m ≡ n → x ≡ readCall s b (Call.transfer (take m (drop 2 r))) → y ≡ bufferNext s b (Call.transfer (take m (drop 2 r))) → Called s b r x y
+  pub call-transfer : (n m : ℕ) (x : Trace) (y : List ℕ) → kindAt r ≡ 0 → n ≡ lengthAt r → m ≡ n → x ≡ readCall s b (Ask.transfer (take m (drop 2 r))) → y ≡ bufferNext s b (Ask.transfer (take m (drop 2 r))) → Called s b r x y
   call-transfer n m x y k e f u v =
-      as-call (Call.transfer (take m (drop 2 r))) x y (ap (λ (i : ℕ). callBy i r) k ∙ ap (λ (i : ℕ). Call.transfer (take i (drop 2 r))) (sym (f ∙ e))) u v
+      as-call (Ask.transfer (take m (drop 2 r))) x y (ap (λ (i : ℕ). askBy i r) k ∙ ap (λ (i : ℕ). Ask.transfer (take i (drop 2 r))) (sym (f ∙ e))) u v
 
-  pub call-lost : (x : Trace) → kindAt r ≡ 1 → x ≡ readCall s [] Call.lost → Called s b r x b
-  call-lost x k u = as-call Call.lost x b (ap (λ (i : ℕ). callBy i r) k) u refl
+  pub call-lost : (x : Trace) → kindAt r ≡ 1 → x ≡ readCall s [] Ask.lost → Called s b r x b
+  call-lost x k u = as-call Ask.lost x b (ap (λ (i : ℕ). askBy i r) k) u refl
 
-  closes-by : (i : ℕ) → (i ≡ 0 → ⊥) → (i ≡ 1 → ⊥) → callBy i r ≡ Call.close
+  closes-by : (i : ℕ) → (i ≡ 0 → ⊥) → (i ≡ 1 → ⊥) → askBy i r ≡ Ask.close
   closes-by zero f g = absurd (f refl)
   closes-by (suc zero) f g = absurd (g refl)
   closes-by (suc (suc i)) f g = refl
 
-  pub call-close : (x : Trace) → (kindAt r ≡ 0 → ⊥) → (kindAt r ≡ 1 → ⊥) → x ≡ readCall s [] Call.close → Called s b r x b
-  call-close x f g u = as-call Call.close x b (closes-by (kindAt r) f g) u refl
+  pub call-close : (x : Trace) → (kindAt r ≡ 0 → ⊥) → (kindAt r ≡ 1 → ⊥) → x ≡ readCall s [] Ask.close → Called s b r x b
+  call-close x f g u = as-call Ask.close x b (closes-by (kindAt r) f g) u refl
 
 -- ---- a step
 abbrev Stepped : Trace → List ℕ → List ℕ → Trace → List ℕ → Type 0
@@ -256,13 +254,13 @@ Stepped t b r x y = (x ≡ stepOf t b r) × (y ≡ stepBuffer t b r)
 
 module _ (t : Trace) (b r : List ℕ) where
   module _ (e : t .state ≡ Good) where
-    read-law : (x : Bool) → (t .session .rest .closed || recordBad r) ≡ x → stepOf t b r ≡ readBy x (t .session) b (recordCall r)
+    read-law : (x : Bool) → (t .session .rest .closed || recordBad r) ≡ x → stepOf t b r ≡ readBy x (t .session) b (recordAsk r)
     unfolding stepOf
-    read-law x q = ap (λ (z : State). stepBy z (t .session) b r) e ∙ ap (λ (z : Bool). readBy z (t .session) b (recordCall r)) q
+    read-law x q = ap (λ (z : State). stepBy z (t .session) b r) e ∙ ap (λ (z : Bool). readBy z (t .session) b (recordAsk r)) q
 
-    kept-law : (x : Bool) → (t .session .rest .closed || recordBad r) ≡ x → stepBuffer t b r ≡ keptBy x (t .session) b (recordCall r)
+    kept-law : (x : Bool) → (t .session .rest .closed || recordBad r) ≡ x → stepBuffer t b r ≡ keptBy x (t .session) b (recordAsk r)
     unfolding stepBuffer
-    kept-law x q = ap (λ (z : State). stepBufferBy z (t .session) b r) e ∙ ap (λ (z : Bool). keptBy z (t .session) b (recordCall r)) q
+    kept-law x q = ap (λ (z : State). stepBufferBy z (t .session) b r) e ∙ ap (λ (z : Bool). keptBy z (t .session) b (recordAsk r)) q
 
     worst : (n : ℕ) → (t .session .rest .closed || recordBad r) ≡ true → n ≡ numberOf (t .session) → Stepped t b r (record { session = t .session; state = Bad n }) b
     worst n q m = (ap (λ (k : ℕ). record { session = t .session; state = Bad k }) m ∙ sym (read-law true q), sym (kept-law true q))
@@ -273,7 +271,7 @@ module _ (t : Trace) (b r : List ℕ) where
     pub step-worst : (n : ℕ) (x : Bool) → t .session .rest .closed ≡ false → x ≡ recordBad r → x ≡ true → n ≡ numberOf (t .session) → Stepped t b r (record { session = t .session; state = Bad n }) b
     step-worst n x c f g m = worst n (ap (λ (z : Bool). z || recordBad r) c ∙ (sym f ∙ g)) m
 
-    pub step-called : (x : Bool) (y : Trace) (z : List ℕ) → t .session .rest .closed ≡ false → x ≡ recordBad r → x ≡ false → y ≡ readCall (t .session) b (recordCall r) → z ≡ bufferNext (t .session) b (recordCall r) → Stepped t b r y z
+    pub step-called : (x : Bool) (y : Trace) (z : List ℕ) → t .session .rest .closed ≡ false → x ≡ recordBad r → x ≡ false → y ≡ readCall (t .session) b (recordAsk r) → z ≡ bufferNext (t .session) b (recordAsk r) → Stepped t b r y z
     step-called x y z c f g u v =
         let q : (t .session .rest .closed || recordBad r) ≡ false = ap (λ (w : Bool). w || recordBad r) c ∙ (sym f ∙ g) in
         (u ∙ sym (read-law false q), v ∙ sym (kept-law false q))

@@ -4,7 +4,7 @@ use mathlib.Core.List.{List, [], _∷_}
 use mathlib.Core.Bool.{Bool, false, _||_, not, _&&_}
 use lib.ListN.{length, getD, take, drop}
 use lib.Dec.{ltb, eqb}
-use Rattle.session.specs.Call.{Call}
+use Rattle.session.specs.Call.{Ask, Call, heardOf}
 
 -- kind (0 transfer, 1 lost, 2 close), length 0 to 62, the bytes, zero fill
 abbrev pub kindAt : List ℕ → ℕ
@@ -30,14 +30,17 @@ recordBad r =
     || ((not (eqb (kindAt r) 0) && not (eqb (lengthAt r) 0))
     || anySet (drop (2 + lengthAt r) r))))
 
--- the call that a good record stands for
-abbrev pub callBy : ℕ → List ℕ → Call
-callBy zero r = Call.transfer (bytesAt r)
-callBy (suc zero) r = Call.lost
-callBy (suc (suc k)) r = Call.close
+-- the call that a good record stands for, and how it stands in the list
+abbrev pub askBy : ℕ → List ℕ → Ask
+askBy zero r = Ask.transfer (bytesAt r)
+askBy (suc zero) r = Ask.lost
+askBy (suc (suc k)) r = Ask.close
+
+abbrev pub recordAsk : List ℕ → Ask
+recordAsk r = askBy (kindAt r) r
 
 abbrev pub recordCall : List ℕ → Call
-recordCall r = callBy (kindAt r) r
+recordCall r = heardOf (recordAsk r)
 
 -- THE RECORDS of a trace: 64 bytes each, and the last one what is left
 abbrev pub recordsBy : ℕ → List ℕ → List (List ℕ)

@@ -9,15 +9,15 @@ use Rattle.ledger.specs.Ledger.{noLedger}
 use Rattle.session.specs.declared.Session.{Session}
 use Rattle.session.specs.Refusals.{ledgerOf}
 use Rattle.session.specs.Session.{fresh}
-use Rattle.trace.specs.Record.{recordBad, recordCall}
+use Rattle.trace.specs.Record.{recordBad, recordAsk}
 use Rattle.trace.specs.declared.State.{State}
 use Rattle.trace.specs.declared.State.the-variants.{Good, Bad, Refused}
 use Rattle.trace.specs.declared.Trace.{Trace}
 use Rattle.trace.specs.declared.Printed.{Printed}
-use Rattle.session.specs.Call.{Call}
+use Rattle.session.specs.Call.{Ask}
 use Rattle.session.specs.Calls.{refusal, next, offerWith, bufferNext}
 
--- frame size 256, payload size 62
+-- frame size 256, payload size 62, and framing 3: frames end by EOF
 abbrev pub sizes : Opening
 sizes = record { frame = 256; payload = 62; framing = 3 }
 
@@ -37,16 +37,16 @@ abbrev pub offered : ℕ → Session → Session → Trace
 offered zero s n = record { session = n; state = Good }
 offered (suc k) s n = record { session = s; state = Refused (suc k) (numberOf s) }
 
-abbrev pub readCall : Session → List ℕ → Call → Trace
+abbrev pub readCall : Session → List ℕ → Ask → Trace
 readCall s buffer c = offered (refusal s (offerWith buffer c)) s (next s (offerWith buffer c))
 
 -- a bad record, or anything after close: bad
-abbrev pub readBy : Bool → Session → List ℕ → Call → Trace
+abbrev pub readBy : Bool → Session → List ℕ → Ask → Trace
 readBy true s buffer c = record { session = s; state = Bad (numberOf s) }
 readBy false s buffer c = readCall s buffer c
 
 abbrev pub stepBy : State → Session → List ℕ → List ℕ → Trace
-stepBy Good s buffer r = readBy (s .rest .closed || recordBad r) s buffer (recordCall r)
+stepBy Good s buffer r = readBy (s .rest .closed || recordBad r) s buffer (recordAsk r)
 stepBy (Bad n) s buffer r = record { session = s; state = Bad n }
 stepBy (Refused k n) s buffer r = record { session = s; state = Refused k n }
 
@@ -55,12 +55,12 @@ unfoldable pub stepOf : Trace → List ℕ → List ℕ → Trace
 stepOf t buffer r = stepBy (t .state) (t .session) buffer r
 
 -- the buffer after it
-abbrev pub keptBy : Bool → Session → List ℕ → Call → List ℕ
+abbrev pub keptBy : Bool → Session → List ℕ → Ask → List ℕ
 keptBy true s buffer c = buffer
 keptBy false s buffer c = bufferNext s buffer c
 
 abbrev pub stepBufferBy : State → Session → List ℕ → List ℕ → List ℕ
-stepBufferBy Good s buffer r = keptBy (s .rest .closed || recordBad r) s buffer (recordCall r)
+stepBufferBy Good s buffer r = keptBy (s .rest .closed || recordBad r) s buffer (recordAsk r)
 stepBufferBy (Bad n) s buffer r = buffer
 stepBufferBy (Refused k n) s buffer r = buffer
 

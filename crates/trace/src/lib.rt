@@ -6,10 +6,10 @@ ghost use Prim.Native.Nat.{_≤_};
 ghost use mathlib.Core.List.{[]};
 ghost use lib.ListN.{length};
 ghost use Rattle.ledger.specs.Accounts.{numberCount};
-ghost use Rattle.trace.specs.Record.{lengthAt, recordCall, recordsOf};
+ghost use Rattle.trace.specs.Record.{lengthAt, recordAsk, recordsOf};
 ghost use Rattle.trace.specs.Trace.{newTrace, readCall, stepOf, stepBuffer, traced, tracedBuffer, goodOf, reportOf};
 ghost use Rattle.session.specs.Inner.{wholeOf};
-ghost use Rattle.session.specs.Call.{Call};
+ghost use Rattle.session.specs.Call.{Ask};
 ghost use Rattle.session.specs.Calls.{bufferNext};
 ghost use Rattle.trace.specs.Inner.{endOf, goingWith, goodWith, numberRest, answeredBy, isDecided};
 use ledger::Ledger;
@@ -21,10 +21,11 @@ use session::Rest;
 use session::Session;
 use sizes::Opening;
 
-// The sizes that every trace is read with.
+// What every trace is read with: its sizes, and frames that end by EOF.
 const SIZES: Opening = Opening {
     frame: 256,
     payload: 62,
+    framing: 3,
 };
 
 // How a trace stands.
@@ -83,8 +84,8 @@ fn answered(k: u8, next: Rest) -> Going
 
 fn transfer(s: Rest, m: &mut Numbers, buffer: &mut [u8], t: &[u8]) -> Going
     requires { ⌜ length (now m) ≡ numberCount ⌝ }
-    ensures { λ r. ⌜ goingWith r (now (m .exit)) ≡ readCall (wholeOf s (now (m .entry))) (now (buffer .entry)) (Call.transfer (now (t .entry))) ⌝ }
-    ensures { λ _. ⌜ now (buffer .exit) ≡ bufferNext (wholeOf s (now (m .entry))) (now (buffer .entry)) (Call.transfer (now (t .entry))) ⌝ }
+    ensures { λ r. ⌜ goingWith r (now (m .exit)) ≡ readCall (wholeOf s (now (m .entry))) (now (buffer .entry)) (Ask.transfer (now (t .entry))) ⌝ }
+    ensures { λ _. ⌜ now (buffer .exit) ≡ bufferNext (wholeOf s (now (m .entry))) (now (buffer .entry)) (Ask.transfer (now (t .entry))) ⌝ }
 {
     let taken = s.take(m, buffer, t);
     let outcome = taken.outcome;
@@ -92,12 +93,14 @@ fn transfer(s: Rest, m: &mut Numbers, buffer: &mut [u8], t: &[u8]) -> Going
     match outcome {
         Outcome::Refused(k) => answered(k, next),
         Outcome::Taken(_) => answered(0, next),
+        // With the framing that every trace is read with, no frame is handed out.
+        Outcome::Handed(_) => answered(0, next),
     }
 }
 
 fn lost(s: Rest, m: &mut Numbers) -> Going
     requires { ⌜ length (now m) ≡ numberCount ⌝ }
-    ensures { λ r. ⌜ goingWith r (now (m .exit)) ≡ readCall (wholeOf s (now (m .entry))) [] Call.lost ⌝ }
+    ensures { λ r. ⌜ goingWith r (now (m .exit)) ≡ readCall (wholeOf s (now (m .entry))) [] Ask.lost ⌝ }
 {
     let reported = s.lost(m);
     let report = reported.report;
@@ -110,7 +113,7 @@ fn lost(s: Rest, m: &mut Numbers) -> Going
 
 fn close(s: Rest, m: &mut Numbers) -> Going
     requires { ⌜ length (now m) ≡ numberCount ⌝ }
-    ensures { λ r. ⌜ goingWith r (now (m .exit)) ≡ readCall (wholeOf s (now (m .entry))) [] Call.close ⌝ }
+    ensures { λ r. ⌜ goingWith r (now (m .exit)) ≡ readCall (wholeOf s (now (m .entry))) [] Ask.close ⌝ }
 {
     let closed = s.close(m);
     let closing = closed.closing;
@@ -124,8 +127,8 @@ fn close(s: Rest, m: &mut Numbers) -> Going
 // The call of a good record.
 fn call(s: Rest, m: &mut Numbers, buffer: &mut [u8], r: &[u8]) -> Going
     requires { ⌜ (length (now r) ≡ 64) × (lengthAt (now r) ≤ 62) × (length (now m) ≡ numberCount) ⌝ }
-    ensures { λ x. ⌜ goingWith x (now (m .exit)) ≡ readCall (wholeOf s (now (m .entry))) (now (buffer .entry)) (recordCall (now (r .entry))) ⌝ }
-    ensures { λ _. ⌜ now (buffer .exit) ≡ bufferNext (wholeOf s (now (m .entry))) (now (buffer .entry)) (recordCall (now (r .entry))) ⌝ }
+    ensures { λ x. ⌜ goingWith x (now (m .exit)) ≡ readCall (wholeOf s (now (m .entry))) (now (buffer .entry)) (recordAsk (now (r .entry))) ⌝ }
+    ensures { λ _. ⌜ now (buffer .exit) ≡ bufferNext (wholeOf s (now (m .entry))) (now (buffer .entry)) (recordAsk (now (r .entry))) ⌝ }
 {
     let kind = r[0];
     match kind {

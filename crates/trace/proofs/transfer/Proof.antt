@@ -1,5 +1,5 @@
 use denote.Ref.{now}
-use Rattle.trace.proofs.Steps.{transfer-refused, transfer-taken}
+use Rattle.trace.proofs.Steps.{transfer-refused, transfer-taken, transfer-handed}
 use borrow.Author.Needs.{needs}
 use Rattle.trace.proofs.transfer.Statement.{statement}
 use Rattle.session.specs.Inner.{wholeOf}
@@ -19,6 +19,12 @@ enum-told c = search needs
 
 answered-requires-2 : tie.Need-answered-requires-2
 answered-requires-2 c κs = search needs
+
+enum-told-2 : tie.Need-enum-told-2
+enum-told-2 c = search needs
+
+answered-requires-3 : tie.Need-answered-requires-3
+answered-requires-3 c κs = search needs
 
 same-length : tie.Need-same-length
 same-length c = search needs
@@ -42,6 +48,17 @@ returns-2 c =
       c .before .before .before .before .before .before .take .ensures .1,
     )
 
+same-length-3 : tie.Need-same-length-3
+same-length-3 c = search needs
+
+returns-3 : tie.Need-returns-3
+returns-3 c =
+    let s = c .before .before .before .before .before .before .before .before .before .before .before in (
+      transfer-handed (wholeOf (s .args .s) (now (s .args .m))) (now (s .args .buffer)) (now (s .args .t)) _ _ (c .before .before .before .before .before .before .take .ensures .0) _ _ (c .before .enum-told2 .given .1)
+          (c .answered3 .ensures),
+      c .before .before .before .before .before .before .take .ensures .1,
+    )
+
 pub transfer-spec : {M : Type 1} → statement M
 transfer-spec =
     tie.close
@@ -51,7 +68,11 @@ transfer-spec =
     answered-requires
     enum-told
     answered-requires-2
+    enum-told-2
+    answered-requires-3
     same-length
     returns
     same-length-2
-    returns-2)
+    returns-2
+    same-length-3
+    returns-3)

@@ -10,12 +10,12 @@ use Rattle.session.specs.Inner.{wholeOf}
 use Rattle.exports.proofs.take.palkodhen_take.Tie as tie
 
 abbrev Inv-loop : tie.InvT-loop
-Inv-loop frame payload size times buffer₀ transfers numbers₀ rest₀ i₀ at₀ buffer numbers rest i at =
+Inv-loop frame payload framing size times buffer₀ transfers numbers₀ rest₀ i₀ at₀ buffer numbers rest i at =
     (length buffer ≡ length buffer₀) × (0 < size) × (at + size ≤ length transfers) × (i ≤ times)
-    × Going size times transfers (opened (record { frame = frame; payload = payload }) buffer₀) buffer (wholeOf rest numbers) i at
+    × Going size times transfers (opened (record { frame = frame; payload = payload; framing = framing }) buffer₀) buffer (wholeOf rest numbers) i at
 
 abbrev μ-loop : tie.MeasureT-loop
-μ-loop frame payload size times buffer₀ transfers numbers₀ rest₀ i₀ at₀ buffer numbers rest i at = (times - i) * (length transfers + 1) + (length transfers - at)
+μ-loop frame payload framing size times buffer₀ transfers numbers₀ rest₀ i₀ at₀ buffer numbers rest i at = (times - i) * (length transfers + 1) + (length transfers - at)
 
 open-requires : tie.Need-open-requires Inv-loop μ-loop
 open-requires c κs = search needs
