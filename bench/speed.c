@@ -10,14 +10,14 @@
 /* A slice is handed over as a pointer and a length. */
 uint64_t palkodhen_control(const uint8_t *block, size_t length);
 uint64_t palkodhen_streaming(const uint8_t *control, size_t control_length, const uint8_t *block, size_t length);
-uint64_t palkodhen_take(size_t frame, size_t payload, size_t size, uint64_t times, uint8_t *buffer, size_t room, const uint8_t *transfers,
-                        size_t length);
+uint64_t palkodhen_take(size_t frame, size_t payload, uint8_t framing, size_t size, uint64_t times, uint8_t *buffer, size_t room,
+                        const uint8_t *transfers, size_t length);
 
 /* session.c once more, with memcpy for its copying loop */
 unsigned memcpy_open(struct session *s, size_t frame, size_t payload, size_t room);
 struct answer memcpy_take(struct session *s, uint8_t *buffer, size_t room, const uint8_t *t, size_t n);
 
-enum { RUNS = 11, FRAME = 1048576, PAYLOAD = 65536, ROUND = 8, SIZE_MOST = 16384, CONTROL_MOST = 4096, STREAMING_MOST = 16384 };
+enum { RUNS = 11, FRAME = 1048576, PAYLOAD = 65536, FRAMING = 3, ROUND = 8, SIZE_MOST = 16384, CONTROL_MOST = 4096, STREAMING_MOST = 16384 };
 
 static double now(void) {
     struct timespec t;
@@ -51,7 +51,7 @@ static uint8_t random_byte(void) {
 static uint8_t transfers[ROUND * SIZE_MOST];
 
 static uint64_t ours(size_t size, uint64_t times, uint8_t *buffer) {
-    return palkodhen_take(FRAME, PAYLOAD, size, times, buffer, FRAME, transfers, ROUND * size);
+    return palkodhen_take(FRAME, PAYLOAD, FRAMING, size, times, buffer, FRAME, transfers, ROUND * size);
 }
 
 typedef unsigned opening(struct session *s, size_t frame, size_t payload, size_t room);

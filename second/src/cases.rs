@@ -8,10 +8,10 @@
 //!   P check      part control block, part streaming block, part probe block
 //!   W write      byte revision, part probe block, part room
 //!   A revision is 0 for 1.0, 1 for 1.1 and 2 for 1.5.
-//!   T calls      four bytes frame size, four bytes payload size, part buffer, four bytes number of calls, and each call:
+//!   T calls      four bytes frame size, four bytes payload size, byte framing, part buffer, four bytes number of calls, and each call:
 //!                byte 0 and part transfer, byte 1 (lost), byte 2 (close)
 //!   F forged     session record, part buffer, part transfer
-//! The record: eight bytes frame size, eight bytes payload size, byte closed, four bytes taken, the phase, byte gap, 31 numbers of eight
+//! The record: eight bytes frame size, eight bytes payload size, byte framing, byte closed, four bytes taken, the phase, byte gap, 31 numbers of eight
 //! bytes, the last stamp. A stamp: byte present and four bytes. The phase: byte 0 fresh; 1 under way and byte FID, byte fault (0 none,
 //! 1 gap to 6 empty), eight bytes data so far, eight bytes fill, the stamp, byte still; 2 past a frame and byte FID.
 
@@ -30,7 +30,7 @@ pub enum Case {
     Hostile(u8, Revision, Vec<Place>, Vec<u8>),
     Check(Vec<u8>, Vec<u8>, Vec<u8>),
     Write(Revision, Vec<u8>, Vec<u8>),
-    Calls { frame: u32, payload: u32, buffer: Vec<u8>, calls: Vec<Call> },
+    Calls { frame: u32, payload: u32, framing: u8, buffer: Vec<u8>, calls: Vec<Call> },
     Forged(Record, Vec<u8>, Vec<u8>),
 }
 
@@ -47,7 +47,7 @@ fn stamp(out: &mut Vec<u8>, s: Option<u32>) {
 fn record(out: &mut Vec<u8>, r: &Record) {
     out.extend(r.frame.to_le_bytes());
     out.extend(r.payload.to_le_bytes());
-    out.push(u8::from(r.closed));
+    out.extend([r.framing, u8::from(r.closed)]);
     out.extend(r.taken.to_le_bytes());
     match r.phase {
         Phase::Fresh => out.push(0),
@@ -121,9 +121,10 @@ impl Case {
                 part(&mut out, probe);
                 part(&mut out, room);
             }
-            Case::Calls { frame, payload, buffer, calls } => {
+            Case::Calls { frame, payload, framing, buffer, calls } => {
                 out.extend(frame.to_le_bytes());
                 out.extend(payload.to_le_bytes());
+                out.push(*framing);
                 part(&mut out, buffer);
                 out.extend((calls.len() as u32).to_le_bytes());
                 for call in calls {
@@ -134,6 +135,7 @@ impl Case {
                         }
                         Call::Lost => out.push(1),
                         Call::Close => out.push(2),
+                        Call::Mark => unreachable!("no caller asks for a mark"),
                     }
                 }
             }
@@ -160,7 +162,7 @@ impl Case {
             }
             Case::Check(control, block, probe) => verdict("check", &streaming::check(&table(control), block, probe)),
             Case::Write(revision, probe, room) => write_answer(*revision, probe, room),
-            Case::Calls { frame, payload, buffer, calls } => session::calls(*frame, *payload, buffer, calls),
+            Case::Calls { frame, payload, framing, buffer, calls } => session::calls(*frame, *payload, *framing, buffer, calls),
             Case::Forged(r, buffer, transfer) => session::forged(r, buffer, transfer),
         }
     }

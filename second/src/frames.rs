@@ -5,6 +5,23 @@ pub enum Call {
     Transfer(Vec<u8>),
     Lost,
     Close,
+    /// The mark of a hand-out, which no caller asks for.
+    Mark,
+}
+
+/// What a session is opened with.
+#[derive(Clone, Copy, Debug)]
+pub struct Opening {
+    pub frame: usize,
+    pub payload: usize,
+    pub framing: u8,
+}
+
+impl Opening {
+    /// D1 of the framing byte: the camera sends EOF.
+    pub fn sends_eof(&self) -> bool {
+        self.framing & 2 != 0
+    }
 }
 
 #[derive(Clone, Copy, Debug, PartialEq, Eq)]
@@ -60,9 +77,11 @@ struct Piece {
     error: bool,
     stamp: Option<u32>,
     data: usize,
-    /// An unreadable or lost transfer comes straight before, or straight after, with no readable one between.
+    /// An unreadable or lost transfer comes straight before, or straight after, with no readable one between (nor, after it, a mark).
     before: bool,
     after: bool,
+    /// A mark comes straight after, with no readable transfer between.
+    marked: bool,
 }
 
 #[derive(Clone, Copy, Debug, PartialEq)]
@@ -93,7 +112,8 @@ pub struct Verdict {
     pub lost: u64,
 }
 
-pub fn judge(calls: &[Call], frame_size: usize, payload: usize) -> Verdict {
+pub fn judge(calls: &[Call], opening: &Opening) -> Verdict {
+    let eofs = opening.sends_eof();
     let mut v = Verdict::default();
     let mut pieces: Vec<Piece> = Vec::new();
     let mut spoilt = false;
@@ -108,7 +128,11 @@ pub fn judge(calls: &[Call], frame_size: usize, payload: usize) -> Verdict {
                 v.lost += 1;
                 true
             }
-            Call::Transfer(t) => match sort(t, payload) {
+            Call::Mark => {
+                pieces.last_mut().unwrap().marked = true;
+                false
+            }
+            Call::Transfer(t) => match sort(t, opening.payload) {
                 Sort::Idle => {
                     v.idle += 1;
                     false
@@ -120,7 +144,18 @@ pub fn judge(calls: &[Call], frame_size: usize, payload: usize) -> Verdict {
                 Sort::Readable { fid, eof, still, error, stamp, header } => {
                     v.headers.push(header);
                     let data = t.len() - header;
-                    pieces.push(Piece { place, fid, eof, still, error, stamp, data, before: spoilt, after: false });
+                    pieces.push(Piece {
+                        place,
+                        fid,
+                        eof: eof && eofs,
+                        still,
+                        error,
+                        stamp,
+                        data,
+                        before: spoilt,
+                        after: false,
+                        marked: false,
+                    });
                     spoilt = false;
                     false
                 }
@@ -128,8 +163,9 @@ pub fn judge(calls: &[Call], frame_size: usize, payload: usize) -> Verdict {
         };
         if missing {
             spoilt = true;
-            if let Some(p) = pieces.last_mut() {
-                p.after = true;
+            match pieces.last_mut() {
+                Some(p) if !p.marked => p.after = true,
+                _ => {}
             }
         }
     }
@@ -142,15 +178,17 @@ pub fn judge(calls: &[Call], frame_size: usize, payload: usize) -> Verdict {
     }
     let last = runs.len();
     for (i, run) in runs.iter().enumerate() {
-        let end = run.iter().position(|p| p.eof).map_or(run.len(), |e| e + 1);
-        let (frame, stray) = run.split_at(end);
-        v.frames.push(one(frame, frame_size, i + 1 < last || closed));
+        let end = run.iter().position(|p| p.eof || p.marked);
+        let (frame, stray) = run.split_at(end.map_or(run.len(), |e| e + 1));
+        // Without EOF the transfer of the other FID completes the frame, and close alone cuts one.
+        let turned = i + 1 < last;
+        v.frames.push(one(frame, opening.frame, end.is_some() || (turned && !eofs), turned || closed));
         v.strays.extend(stray.iter().map(|p| p.data));
     }
     v
 }
 
-fn one(frame: &[Piece], frame_size: usize, over: bool) -> Judged {
+fn one(frame: &[Piece], frame_size: usize, complete: bool, over: bool) -> Judged {
     let first_stamp = frame.iter().find_map(|p| p.stamp);
     // Faults with how many transfers come before them, in the order of their moments:
     // before the first transfer, then at each transfer, then straight after it.
@@ -177,7 +215,6 @@ fn one(frame: &[Piece], frame_size: usize, over: bool) -> Judged {
             faults.push((i + 1, Reason::Gap));
         }
     }
-    let complete = frame.last().unwrap().eof;
     let fault = faults.first().copied();
     let becomes = match (complete, fault) {
         (true, Some((_, r))) => Becomes::Dropped(r),
@@ -254,7 +291,7 @@ pub fn reason_name(r: Reason) -> &'static str {
 
 /// What the last call of a list answers, from what the list came to without it and with it:
 /// the reason of the frame that it ended, and, for a transfer, its own fate.
-pub fn answer(calls: &[Call], old: &Verdict, new: &Verdict, payload: usize) -> (Option<Reason>, String) {
+pub fn answer(calls: &[Call], old: &Verdict, new: &Verdict, opening: &Opening) -> (Option<Reason>, String) {
     let place = calls.len() - 1;
     let ended = match old.frames.last() {
         Some(f) if f.becomes == Becomes::UnderWay => {
@@ -267,8 +304,8 @@ pub fn answer(calls: &[Call], old: &Verdict, new: &Verdict, payload: usize) -> (
         _ => None,
     };
     let fate = match &calls[place] {
-        Call::Close | Call::Lost => String::new(),
-        Call::Transfer(t) => match sort(t, payload) {
+        Call::Close | Call::Lost | Call::Mark => String::new(),
+        Call::Transfer(t) => match sort(t, opening.payload) {
             Sort::Idle => "idle".into(),
             Sort::Unreadable(k) => format!("unreadable {k}"),
             Sort::Readable { .. } => {
@@ -279,14 +316,42 @@ pub fn answer(calls: &[Call], old: &Verdict, new: &Verdict, payload: usize) -> (
                     match last.becomes {
                         Becomes::UnderWay => "kept".into(),
                         Becomes::Dropped(r) => format!("dropped {}", reason_name(r)),
-                        Becomes::Delivered(s) => format!("delivered {} {}", last.bytes, stamp_or_dash(s)),
-                        Becomes::Still(s) => format!("still {} {}", last.bytes, stamp_or_dash(s)),
+                        whole => handed_out(whole, last.bytes).unwrap(),
                     }
                 }
             }
         },
     };
     (ended, fate)
+}
+
+/// A frame that is delivered, or a still, with its length and stamp.
+pub fn handed_out(becomes: Becomes, bytes: usize) -> Option<String> {
+    match becomes {
+        Becomes::Delivered(s) => Some(format!("delivered {bytes} {}", stamp_or_dash(s))),
+        Becomes::Still(s) => Some(format!("still {bytes} {}", stamp_or_dash(s))),
+        _ => None,
+    }
+}
+
+/// What is handed out before a transfer is taken, if anything is: the camera sends no EOF, the transfer is readable, of another FID than the last
+/// readable one taken, and the frame under way would be delivered, or be a still, if a mark stood here.
+pub fn hand_out(calls: &[Call], old: &Verdict, transfer: &[u8], opening: &Opening) -> Option<String> {
+    let fid_of = |t: &[u8]| match sort(t, opening.payload) {
+        Sort::Readable { fid, .. } => Some(fid),
+        _ => None,
+    };
+    let fid = fid_of(transfer)?;
+    let last = calls.iter().rev().find_map(|c| match c {
+        Call::Transfer(t) => fid_of(t),
+        _ => None,
+    })?;
+    if opening.sends_eof() || fid == last || old.frames.last()?.becomes != Becomes::UnderWay {
+        return None;
+    }
+    let marked = judge(&[calls, &[Call::Mark]].concat(), opening);
+    let frame = marked.frames.last()?;
+    handed_out(frame.becomes, frame.bytes)
 }
 
 fn stamp_or_dash(stamp: Option<u32>) -> String {

@@ -2,7 +2,7 @@
 
 use crate::cases::{controls, table};
 use crate::control;
-use crate::frames::{judge, ledger, Call};
+use crate::frames::{judge, ledger, Call, Opening};
 use crate::streaming;
 use crate::Refusal;
 use std::fmt::Write;
@@ -125,8 +125,8 @@ const ACCOUNTS: [&str; 13] =
 const COUNTS: [&str; 5] = ["lost", "idle", "ticks", "backward", "untimed"];
 
 pub const RECORD: usize = 64;
-const FRAME: usize = 256;
 const PAYLOAD: usize = 62;
+const OPENING: Opening = Opening { frame: 256, payload: PAYLOAD, framing: 3 };
 
 /// The calls of a trace, or the number of its first bad record.
 fn calls(trace: &[u8]) -> Result<Vec<Call>, usize> {
@@ -156,7 +156,7 @@ pub fn trace(bytes: &[u8]) -> Printed {
     match calls(bytes) {
         Err(n) => Printed { text: format!("bad record {n}\n"), status: 1 },
         Ok(calls) => {
-            let numbers = ledger(&judge(&calls, FRAME, PAYLOAD));
+            let numbers = ledger(&judge(&calls, &OPENING));
             let (pairs, counts) = numbers.split_at(2 * ACCOUNTS.len());
             let mut out = String::new();
             for (name, pair) in ACCOUNTS.iter().zip(pairs.chunks(2)) {

@@ -23,6 +23,7 @@ fn record(call: &Call) -> Vec<u8> {
         Call::Transfer(t) => [&[0, t.len() as u8], &t[..]].concat(),
         Call::Lost => vec![1],
         Call::Close => vec![2],
+        Call::Mark => unreachable!("no caller asks for a mark"),
     };
     r.resize(RECORD, 0);
     r

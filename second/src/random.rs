@@ -434,6 +434,7 @@ pub fn calls(r: &mut Random, most: usize) -> Case {
         _ => (frame as usize).min(300) + r.below(8),
     };
     let buffer = r.bytes(room);
+    let framing = framing(r);
     let n = r.below(most + 1);
     let eofs = 1 + r.below(6);
     let turns = 1 + r.below(8);
@@ -502,7 +503,15 @@ pub fn calls(r: &mut Random, most: usize) -> Case {
             _ => r.below(frame.min(60) as usize / 3 + 2),
         };
         let data = r.bytes(size);
-        list.push(Call::Transfer(blocks::transfer(flags, s, more, &data)));
+        let offered = Call::Transfer(blocks::transfer(flags, s, more, &data));
+        // A hand-out does not take the transfer: it is offered again, mostly at once.
+        if framing & 2 == 0 && r.once_in(2) {
+            list.push(offered.clone());
+            if r.once_in(6) {
+                list.push(r.pick(&[Call::Lost, Call::Transfer(vec![]), Call::Transfer(vec![2])]));
+            }
+        }
+        list.push(offered);
     }
     if r.once_in(2) {
         list.push(Call::Close);
@@ -514,7 +523,16 @@ pub fn calls(r: &mut Random, most: usize) -> Case {
         let at = r.below(list.len().min(4) + 1);
         list.insert(at, Call::Transfer(vec![2; 65_536 + r.below(2)]));
     }
-    Case::Calls { frame, payload, buffer, calls: list }
+    Case::Calls { frame, payload, framing, buffer, calls: list }
+}
+
+/// A framing byte: that of the trace programs, or one with D1 clear, or any.
+fn framing(r: &mut Random) -> u8 {
+    match r.below(5) {
+        0 | 1 => 3,
+        2 | 3 => r.pick(&[0, 1]),
+        _ => r.byte(),
+    }
 }
 
 /// A record that holds, then mostly with one number at or past an edge.
@@ -551,6 +569,7 @@ pub fn record(r: &mut Random) -> Record {
     let mut it = Record {
         frame,
         payload: 2 + r.below(60) as u64,
+        framing: framing(r),
         closed: r.once_in(8),
         taken,
         phase,

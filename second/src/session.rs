@@ -1,6 +1,6 @@
 //! Opening, the calls on a session, and the refusals that are no part of its history.
 
-use crate::frames::{answer, judge, ledger, reason_name, sort, written, Call, Reason, Sort};
+use crate::frames::{answer, hand_out, handed_out, judge, ledger, reason_name, sort, written, Becomes, Call, Opening, Reason, Sort};
 use crate::streaming::sizes;
 use std::fmt::Write;
 
@@ -16,6 +16,7 @@ pub enum Phase {
 pub struct Record {
     pub frame: u64,
     pub payload: u64,
+    pub framing: u8,
     pub closed: bool,
     pub taken: u32,
     pub phase: Phase,
@@ -37,7 +38,7 @@ fn why(reason: Option<Reason>) -> &'static str {
 }
 
 /// All that is printed of a list of calls.
-pub fn calls(frame: u32, payload: u32, initial: &[u8], list: &[Call]) -> String {
+pub fn calls(frame: u32, payload: u32, framing: u8, initial: &[u8], list: &[Call]) -> String {
     let mut out = String::new();
     let mut buffer = initial.to_vec();
     let opening = match sizes(u64::from(frame), u64::from(payload)) {
@@ -49,9 +50,9 @@ pub fn calls(frame: u32, payload: u32, initial: &[u8], list: &[Call]) -> String 
         Some(k) => writeln!(out, "open refused {k}").unwrap(),
         None => writeln!(out, "open").unwrap(),
     }
-    let (frame, payload) = (frame as usize, payload as usize);
+    let given = Opening { frame: frame as usize, payload: payload as usize, framing };
     let mut taken: Vec<Call> = Vec::new();
-    let mut old = judge(&taken, frame, payload);
+    let mut old = judge(&taken, &given);
     for call in list {
         // What a refused opening leaves behind has no sizes; 51 and 52 cannot be met here.
         let refused = if opening.is_some() {
@@ -64,12 +65,21 @@ pub fn calls(frame: u32, payload: u32, initial: &[u8], list: &[Call]) -> String 
                 _ => None,
             }
         };
+        let handed = match call {
+            Call::Transfer(t) => hand_out(&taken, &old, t, &given),
+            _ => None,
+        };
         if let Some(k) = refused {
             write!(out, "refused {k}").unwrap();
+        } else if let Some(frame) = handed {
+            // The mark stands in the list, and the transfer does not.
+            taken.push(Call::Mark);
+            old = judge(&taken, &given);
+            write!(out, "handed {frame}").unwrap();
         } else {
             taken.push(call.clone());
-            let new = judge(&taken, frame, payload);
-            let (ended, fate) = answer(&taken, &old, &new, payload);
+            let new = judge(&taken, &given);
+            let (ended, fate) = answer(&taken, &old, &new, &given);
             if let Some((at, data)) = written(&taken, &new) {
                 buffer[at..at + data.len()].copy_from_slice(data);
             }
@@ -77,6 +87,7 @@ pub fn calls(frame: u32, payload: u32, initial: &[u8], list: &[Call]) -> String 
                 Call::Transfer(_) => write!(out, "taken ended {} fate {fate}", why(ended)),
                 Call::Lost => write!(out, "lost noted"),
                 Call::Close => write!(out, "closed {}", why(ended)),
+                Call::Mark => unreachable!("no caller asks for a mark"),
             }
             .unwrap();
             old = new;
@@ -168,12 +179,25 @@ fn place(r: &Record, transfer: &[u8]) -> Option<(usize, usize)> {
     None
 }
 
+/// The frame that a record hands out before it takes the transfer.
+fn given_up(r: &Record, transfer: &[u8]) -> Option<String> {
+    match (&r.phase, sort(transfer, r.payload as usize)) {
+        (&Phase::Under { fid: f, fault: 0, bytes, stamp, still, .. }, Sort::Readable { fid, .. })
+            if r.framing & 2 == 0 && f != fid && bytes > 0 =>
+        {
+            handed_out(if still { Becomes::Still(stamp) } else { Becomes::Delivered(stamp) }, bytes as usize)
+        }
+        _ => None,
+    }
+}
+
 /// What take, lost and close say to a record as it stands.
 pub fn forged(r: &Record, buffer: &[u8], transfer: &[u8]) -> String {
     let mut buffer = buffer.to_vec();
     let say = |k: Option<u8>| k.map_or("taken".to_string(), |k| format!("refused {k}"));
     let take = refusal(r, true, Some((buffer.len(), transfer.len())));
-    if take.is_none() {
+    let handed = if take.is_none() { given_up(r, transfer) } else { None };
+    if take.is_none() && handed.is_none() {
         if let Some((at, header)) = place(r, transfer) {
             let data = &transfer[header..];
             buffer[at..at + data.len()].copy_from_slice(data);
@@ -181,5 +205,6 @@ pub fn forged(r: &Record, buffer: &[u8], transfer: &[u8]) -> String {
     }
     let lost = refusal(r, true, None);
     let close = refusal(r, false, None);
-    format!("take {} hash {}\nlost {}\nclose {}\n", say(take), hash(&buffer), say(lost), say(close))
+    let taken = handed.map_or_else(|| say(take), |frame| format!("handed {frame}"));
+    format!("take {taken} hash {}\nlost {}\nclose {}\n", hash(&buffer), say(lost), say(close))
 }

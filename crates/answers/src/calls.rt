@@ -5,6 +5,7 @@ use frames::Answer;
 use frames::Delivery;
 use frames::Ended;
 use frames::Fate;
+use frames::HandOut;
 use frames::Reason;
 use ledger::Ledger;
 use ledger::Numbers;
@@ -25,17 +26,23 @@ struct Next {
 pub fn run() -> bool {
     let frame = input::word() as usize;
     let payload = input::word() as usize;
+    let framing = input::byte();
     let mut buffer = [0u8; 70000];
     let part = input::part(&mut buffer);
     let n = part.count;
     if !part.fine {
         return false;
     }
-    listed(frame, payload, &mut buffer[..n])
+    let opening = Opening {
+        frame,
+        payload,
+        framing,
+    };
+    listed(opening, &mut buffer[..n])
 }
 
-fn listed(frame: usize, payload: usize, buffer: &mut [u8]) -> bool {
-    let opened = Session::open(Opening { frame, payload }, buffer);
+fn listed(opening: Opening, buffer: &mut [u8]) -> bool {
+    let opened = Session::open(opening, buffer);
     let start = opened.start;
     let session = opened.session;
     started(start);
@@ -117,6 +124,7 @@ fn take(s: Session, buffer: &mut [u8], transfer: &mut [u8]) -> Next {
     match outcome {
         Outcome::Refused(number) => refused(number),
         Outcome::Taken(a) => answer(a),
+        Outcome::Handed(x) => handed(x),
     }
     Next {
         session,
@@ -167,6 +175,17 @@ fn answer(a: Answer) {
     print::text(b" fate");
     let f = a.fate;
     fate(f);
+}
+
+pub fn handed(x: HandOut) {
+    print::text(b"handed");
+    if x.still {
+        print::text(b" still");
+    } else {
+        print::text(b" delivered");
+    }
+    let d = x.delivery;
+    delivery(d);
 }
 
 fn ended(e: Ended) {

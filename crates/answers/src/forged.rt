@@ -1,9 +1,10 @@
 // A session record as it stands in the input, and what take, lost and close say to it.
 //
-// The record: eight bytes frame size, eight bytes payload size, byte closed, four bytes taken, the phase, byte gap,
+// The record: eight bytes frame size, eight bytes payload size, byte framing, byte closed, four bytes taken, the phase, byte gap,
 // the ledger's numbers of eight bytes each, the last stamp. A stamp: byte present and four bytes. The phase: byte 0 fresh, 2 past and byte FID, or
 // any other and byte FID, byte fault (1 gap, 2 error, 3 clock, 4 long, 5 cut, 6 empty, any other none), eight bytes data so far, eight bytes fill, the stamp,
 // byte still.
+use crate::calls;
 use cases::input;
 use cases::print;
 use frames::Fault;
@@ -44,6 +45,7 @@ pub fn run() -> bool {
 fn record() -> Session {
     let frame = input::long() as usize;
     let payload = input::long() as usize;
+    let framing = input::byte();
     let closed = input::flag();
     let taken = input::word();
     let phase = phase();
@@ -52,7 +54,11 @@ fn record() -> Session {
     let last = stamp();
     Session {
         rest: Rest {
-            opening: Opening { frame, payload },
+            opening: Opening {
+                frame,
+                payload,
+                framing,
+            },
             closed,
             taken,
             track: Track { phase, gap },
@@ -122,6 +128,10 @@ fn take(s: Session, buffer: &mut [u8], transfer: &[u8]) {
     match outcome {
         Outcome::Refused(number) => refused(b"take", number),
         Outcome::Taken(_) => print::text(b"take taken"),
+        Outcome::Handed(x) => {
+            print::text(b"take ");
+            calls::handed(x);
+        }
     }
     print::hash(buffer);
 }

@@ -7,7 +7,7 @@
 //   H hostile    byte count, 32 entities (byte ID, byte kind, two bytes type, two bytes offset), part streaming block
 //   P check      part control block, part streaming block, part probe block
 //   W write      part probe block, part room: read, and what was read is written into the room
-//   T calls      four bytes frame size, four bytes payload size, part buffer, four bytes number of calls, and each call:
+//   T calls      four bytes frame size, four bytes payload size, byte framing, part buffer, four bytes number of calls, and each call:
 //                byte 0 and part transfer, byte 1 (lost), byte 2 (close)
 //   F forged     session record (forged.rt), part buffer, part transfer: which of take, lost and close are refused on this record
 // A case that is cut short, a part that is too long and an unknown kind end the run with one line.

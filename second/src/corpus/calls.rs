@@ -9,13 +9,18 @@ pub fn all() -> Vec<Case> {
     all.extend(frames());
     all.extend(fault_pairs());
     all.extend(stills());
+    all.extend(no_eof());
     all.extend(earlier_boxes());
     all.extend(openings());
     all
 }
 
 fn session(frame: u32, payload: u32, room: usize, calls: Vec<Call>) -> Case {
-    Case::Calls { frame, payload, buffer: vec![0xAA; room], calls }
+    framed(frame, payload, 3, room, calls)
+}
+
+fn framed(frame: u32, payload: u32, framing: u8, room: usize, calls: Vec<Call>) -> Case {
+    Case::Calls { frame, payload, framing, buffer: vec![0xAA; room], calls }
 }
 
 fn send(flags: u8, data: &[u8]) -> Call {
@@ -255,6 +260,95 @@ fn stills() -> Vec<Case> {
         add(vec![stamped(EOF, a, &[1]), send(FID | STILL | EOF, &[2]), stamped(EOF, c, &[3])]);
         add(vec![stamped(STILL | EOF, a, &[1]), stamped(FID | STILL | EOF, b, &[2]), stamped(EOF, c, &[3])]);
     }
+    all
+}
+
+/// Cameras that send no EOF: D1 of the framing byte is clear.
+fn no_eof() -> Vec<Case> {
+    let mut all = Vec::new();
+    let mut add = |calls: Vec<Call>| {
+        for framing in [0, 1, 0xFD, 2, 3] {
+            all.push(framed(8, 32, framing, 12, calls.clone()));
+        }
+        let mut closed = calls;
+        closed.push(Call::Close);
+        for framing in [1, 3] {
+            all.push(framed(8, 32, framing, 12, closed.clone()));
+        }
+    };
+    let turn = || send(FID, &[7]);
+    // After a hand-out every kind of call: the same transfer, another of that FID, the old FID, unreadable, lost, idle, and the next frame after it.
+    let kinds = || {
+        vec![
+            turn(),
+            send(FID, &[8, 9]),
+            send(FID | ERROR, &[8]),
+            send(FID | EOF, &[8]),
+            send(0, &[5]),
+            send(EOF | ERROR, &[5; 20]),
+            Call::Transfer(vec![2]),
+            Call::Transfer(vec![2, FID]),
+            Call::Lost,
+            Call::Transfer(vec![]),
+            Call::Close,
+        ]
+    };
+    for next in kinds() {
+        add(vec![send(0, &[1]), send(0, &[2]), turn(), next.clone()]);
+        add(vec![send(0, &[1]), turn(), next.clone(), turn(), send(FID, &[6]), send(0, &[4]), send(0, &[4])]);
+        for last in kinds() {
+            add(vec![send(0, &[1]), turn(), next.clone(), last, turn(), send(0, &[3]), send(0, &[3])]);
+        }
+    }
+    // A frame that is dropped where the FID turns needs no second offer: each fault, and empty. At close it is cut, unless a fault names it.
+    for first in [
+        vec![send(ERROR, &[1])],
+        vec![Call::Lost, send(0, &[1])],
+        vec![send(0, &[1]), Call::Lost],
+        vec![send(0, &[1]), Call::Transfer(vec![2])],
+        vec![stamped(0, 5, &[1]), stamped(0, 6, &[2])],
+        vec![send(0, &[1]), send(STILL, &[2])],
+        vec![send(0, &[1; 9])],
+        vec![send(0, &[])],
+        vec![send(EOF, &[]), send(0, &[])],
+        vec![send(0, &[]), Call::Transfer(vec![])],
+    ] {
+        let mut calls = first.clone();
+        add(calls.clone());
+        calls.extend([turn(), turn(), send(0, &[3]), send(0, &[3])]);
+        add(calls);
+    }
+    // EOF is ignored: the frame goes on after it, and a gap after it is the frame's.
+    add(vec![send(EOF, &[1]), send(EOF, &[2]), turn(), turn()]);
+    add(vec![send(EOF, &[1]), Call::Lost, send(0, &[2]), turn()]);
+    add(vec![send(EOF, &[]), turn(), turn()]);
+    // Stills, stamps and steps of frames that are handed out; just as long as the frame size.
+    add(vec![send(STILL, &[1]), send(FID, &[2]), send(FID, &[2]), send(0, &[3])]);
+    add(vec![
+        stamped(0, 10, &[1]),
+        stamped(FID, 42, &[2]),
+        stamped(FID, 42, &[2]),
+        stamped(0, 37, &[3]),
+        stamped(0, 37, &[3]),
+        stamped(FID, 9, &[4]),
+    ]);
+    add(vec![send(0, &[1]), stamped(0, 5, &[2; 7]), send(FID, &[3]), send(FID, &[3; 8]), send(0, &[4]), send(0, &[4])]);
+    // The sample of request Two's readings.
+    let sample = vec![
+        send(0, &[0xAA]),
+        send(EOF, &[0xBB]),
+        send(FID, &[0xCC]),
+        send(FID, &[0xCC]),
+        send(0, &[0xDD]),
+        Call::Lost,
+        send(0, &[0xDD]),
+        send(0, &[0x11]),
+        send(FID, &[]),
+        send(0, &[]),
+        send(0, &[0xEE]),
+        Call::Close,
+    ];
+    all.push(framed(256, 62, 1, 256, sample));
     all
 }
 

@@ -43,7 +43,7 @@ fn covered(answers: &[String]) -> Result<(), String> {
     for line in answers.iter().flat_map(|a| a.lines()) {
         let words: Vec<&str> = line.split(' ').collect();
         for pair in words.windows(2) {
-            if ["refused", "unreadable", "ended", "closed", "fate", "dropped"].contains(&pair[0]) {
+            if ["refused", "unreadable", "ended", "closed", "fate", "dropped", "handed"].contains(&pair[0]) {
                 seen.insert(pair.join(" "));
             }
             if pair[1] == "accepted" {
@@ -56,7 +56,8 @@ fn covered(answers: &[String]) -> Result<(), String> {
     wanted.extend((61..=66).map(|n| format!("unreadable {n}")));
     wanted.extend(["idle", "kept", "stray", "delivered", "still", "dropped", "unreadable"].map(|f| format!("fate {f}")));
     wanted.extend(["gap", "error", "clock", "mixed", "long", "empty"].map(|f| format!("dropped {f}")));
-    wanted.extend(["none", "gap", "error", "clock", "mixed", "long", "cut"].map(|f| format!("ended {f}")));
+    wanted.extend(["none", "gap", "error", "clock", "mixed", "long", "cut", "empty"].map(|f| format!("ended {f}")));
+    wanted.extend(["delivered", "still"].map(|f| format!("handed {f}")));
     wanted.extend(["none", "gap", "error", "clock", "mixed", "long", "cut"].map(|f| format!("closed {f}")));
     wanted.extend(["control", "streaming", "check", "probe", "write"].map(|f| format!("{f} accepted")));
     let missing: Vec<String> = wanted.into_iter().filter(|w| !seen.contains(w)).collect();

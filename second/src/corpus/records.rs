@@ -5,7 +5,7 @@ use crate::cases::Case;
 use crate::session::{Phase, Record};
 
 fn plain_record() -> Record {
-    Record { frame: 8, payload: 32, closed: false, taken: 10, phase: Phase::Fresh, gap: false, numbers: [0; 31], last: None }
+    Record { frame: 8, payload: 32, framing: 3, closed: false, taken: 10, phase: Phase::Fresh, gap: false, numbers: [0; 31], last: None }
 }
 
 /// 50, and 53, 52, 51, 55 in their order.
@@ -87,6 +87,26 @@ pub fn all() -> Vec<Case> {
         }
     }
     add(&Record { gap: true, ..plain_record() }, 8, &good);
+    // A frame under way and a transfer of its FID or the other, with D1 of the framing byte set and clear; no framing breaks 50.
+    for framing in [0, 1, 2, 3, 0xFD, 0xFE, 0xFF] {
+        for (fault, bytes) in [(0, 0), (0, 2), (1, 2), (6, 2)] {
+            for flags in [0, FID, FID | EOF, EOF] {
+                for still in [false, true] {
+                    let phase = Phase::Under { fid: false, fault, bytes, fill: bytes, stamp: Some(7), still };
+                    add(&Record { framing, phase, ..plain_record() }, 9, &transfer(END | flags, 0, 0, &[1, 2]));
+                }
+            }
+        }
+        let phase = Phase::Under { fid: false, fault: 0, bytes: 2, fill: 2, stamp: None, still: false };
+        // Nothing is handed out for what is idle or unreadable, nor where the call is refused: 52 comes first.
+        for t in [&[][..], &[2][..], &[2, FID][..]] {
+            add(&Record { framing, phase: phase.clone(), ..plain_record() }, 9, t);
+        }
+        add(&Record { framing, phase: phase.clone(), taken: u32::MAX, ..plain_record() }, 9, &transfer(END | FID, 0, 0, &[1]));
+        add(&Record { framing, phase: phase.clone(), closed: true, ..plain_record() }, 9, &transfer(END | FID, 0, 0, &[1]));
+        add(&Record { framing, phase, ..plain_record() }, 7, &transfer(END | FID, 0, 0, &[1]));
+        add(&Record { framing, phase: Phase::Past(false), ..plain_record() }, 9, &transfer(END | FID, 0, 0, &[1]));
+    }
     // Which of several refusals is given.
     for closed in [false, true] {
         for taken in [10, u32::MAX - 1, u32::MAX] {
