@@ -203,9 +203,11 @@ handed-says o xs b t x e =
     let D : List ℕ = dataRun (fresh o) [] (taken (fresh o) xs) in
     let as-call : callOf s (Offer.take b t) ≡ Call.handed = listed s b t true (f .ok) (f .hands) in
     let g : outBy (run (fresh o) (taken (fresh o) xs) .rest .track .phase) false .frame ≡ x =
-        ap (λ (r : Session). outBy (r .rest .track .phase) false .frame) (sym (after-run (fresh o) xs)) ∙ out-same (s .rest .track .phase) (s .rest .track .gap) ∙ f .frame in
-    (D, gained o xs (Offer.take b t) Call.handed (f .ok) as-call (fateItems (handing (x .still) (x .delivery)) (x .delivery .len) D)
-    (ap (λ (y : HandOut). fateItems (handing (y .still) (y .delivery)) (y .delivery .len) D) g))
+    ap (λ (r : Session). outBy (r .rest .track .phase) false .frame) (sym (after-run (fresh o) xs)) ∙ out-same (s .rest .track .phase) (s .rest .track .gap) ∙ f .frame in (
+      D,
+      gained o xs (Offer.take b t) Call.handed (f .ok) as-call (fateItems (handing (x .still) (x .delivery)) (x .delivery .len) D)
+          (ap (λ (y : HandOut). fateItems (handing (y .still) (y .delivery)) (y .delivery .len) D) g),
+    )
 
 -- ---- a lost report answers none
 not-noted : (k : ℕ) → Report.Refused k ≡ Report.Noted → ⊥

@@ -1,7 +1,7 @@
 -- Handed out exactly when the list says so; and with D1 set never.
 use Prim.Native.Nat.{ℕ}
 use mathlib.Core.Path.{_≡_, refl, sym, _∙_, ap, subst}
-use mathlib.Core.Bool.{Bool, true, false, cond, not, _&&_, _||_, true≢false, Bool·beq}
+use mathlib.Core.Bool.{Bool, true, false, cond, not, _&&_, _||_, true≢false}
 use mathlib.Core.List.{List, [], _∷_, _++_}
 use mathlib.Core.Logic.{_↔_}
 use native.Mathlib.Omega.{arith}
@@ -31,8 +31,8 @@ use Rattle.rules.specs.Numbered.{NoneOf}
 use Rattle.rules.proofs.Rows.{row-none}
 use Rattle.session.specs.Call.{Ask, Call, heardOf}
 use Rattle.session.specs.Calls.{Offer, refusal, next, after, callOf, taken, nextCall, offerWith}
-use Rattle.books.specs.Rule.{Event, idle, unreadable, missing, readable, mark, eventBy, events, Seen, marks, readables, eofOf, closes, frameOf, closed, complete, dataOf, fault}
-use Rattle.books.specs.Answer.{lastRun, turns, isSound, handsIn, handsFor, hands, outOf, outcomeOf}
+use Rattle.books.specs.Rule.{Event, idle, unreadable, missing, readable, mark, eventBy, events, Seen, marks, readables, frameOf, closed, dataOf, fault}
+use Rattle.books.specs.Answer.{lastRun, turns, isSound, handsIn, handsFor, hands, outOf}
 use Rattle.books.specs.Answer as rule
 use Rattle.books.specs.HandedOut.{HandsOut, Unmarked, ByEof, EofFraming}
 use Rattle.books.proofs.Owed.{and-both}

@@ -25,7 +25,7 @@ use Rattle.session.specs.Session.{fresh, handsOut, takeOf, bufferBy, bufferOf}
 use Rattle.session.specs.Call.{Ask, Call}
 use Rattle.session.specs.Calls.{Offer, refusal, next, after, callOf, unless, taken, offerWith, bufferNext, offers, bufferAfter}
 use Rattle.books.specs.Rule.{Event, idle, unreadable, missing, readable, mark, eventBy, events, isOpen, Seen, frameOf, strayOf, closed, complete, dataOf, firstStamp, stillOf, fault, handedOut, verdict}
-use Rattle.books.specs.Answer.{lastRun, fateIn, fateBy, fateOn, with, answerFor, answerOf, hands, outOf, writtenFor, writtenOf}
+use Rattle.books.specs.Answer.{lastRun, fateIn, fateBy, fateOn, with, answerFor, answerOf, hands, outOf, writtenFor}
 use Rattle.books.specs.HandedOut.{HandedWhole}
 use Rattle.books.specs.Demands.{Whole}
 use Rattle.books.proofs.Answers.{taken-answer, same-answer, handed-answer, taken-more, heard-more}

@@ -20,7 +20,14 @@ pub extern "C" fn palkodhen_take(
     ensures { λ r. ⌜ r ≡ deliveredOf (tookAll size (now (transfers .entry)) (opened (record { frame = frame; payload = payload; framing = framing }) (now (buffer .entry))) times) ⌝ }
     ensures { λ _. ⌜ now (buffer .exit) ≡ tookAll size (now (transfers .entry)) (opened (record { frame = frame; payload = payload; framing = framing }) (now (buffer .entry))) times .buffer ⌝ }
 {
-    let start = Session::open(Opening { frame, payload, framing }, buffer);
+    let start = Session::open(
+        Opening {
+            frame,
+            payload,
+            framing,
+        },
+        buffer,
+    );
     let s = start.session;
     let mut numbers = s.numbers;
     let mut rest = s.rest;

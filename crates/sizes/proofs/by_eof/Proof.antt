@@ -1,7 +1,6 @@
 use mathlib.Core.Path.{ap}
 use Prim.Native.Nat.{ℕ, _/_, _^_}
 use lib.Dec.{eqb}
-use borrow.Author.Needs.{needs}
 use lib.Bits.{and-mask}
 use Rattle.sizes.specs.Framing.{byEof}
 use Rattle.sizes.proofs.by_eof.Statement.{statement}
