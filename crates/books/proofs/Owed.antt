@@ -10,6 +10,7 @@ use Rattle.rules.specs.Pick.{pick}
 use Rattle.sizes.specs.declared.Opening.{Opening}
 use Rattle.sizes.specs.Framing.{byEof}
 use Rattle.payload.specs.declared.Header.{Header}
+use Rattle.payload.specs.declared.Stamp.{Stamp}
 use Rattle.payload.specs.declared.Stamp.the-variants.{Absent}
 use Rattle.frames.specs.declared.Reason.the-variants.{Gap, Cut, Empty}
 use Rattle.frames.specs.declared.Fault.{Fault}
@@ -141,21 +142,25 @@ hands-whole (Under x) o h e = ready-whole (x .fault) (x .bytes) (and-both (not (
 abbrev pub outItems : Phase → List ℕ → List Item
 outItems ph D = fateItems (handing (outBy ph false .frame .still) (outBy ph false .frame .delivery)) (outBy ph false .frame .delivery .len) D
 
+handed-law : (way : Bool) (q : Fault) (s : Stamp) (b : Bool) (D : List ℕ) (rest : List Item) → q ≡ Sound → (length D ≡ 0 → ⊥)
+    → settled way true q s b D ∷ rest ≡ fateItems (handing b (record { len = length D; stamp = s })) (length D) D ++ rest
+handed-law way q s b D rest e n = rw (e, ne-eqb (length D) 0 n) (go b)
+  where
+    d : Delivery
+    d = record { len = length D; stamp = s }
+
+    go : (c : Bool) → record { entry = handedOut c d; load = D } ∷ rest ≡ fateItems (handing c d) (length D) D ++ rest
+    go true = refl
+    go false = refl
+
 pub mark-law : (o : Opening) (p : Bool) (ph : Phase) (b : Bool) (D : List ℕ) (es : List Event) → Holds ph D → Whole ph
     → owed o p ph b D (mark ∷ es) ≡ outItems ph D ++ owed o p (outBy ph b .track .phase) b D es
 mark-law o p Fresh b D es e w = absurd w
 mark-law o p (Past f) b D es e w = absurd w
-mark-law o p (Under x) b D es e w = rw (w .0, append-nil D, stamp-absent (x .stamp), e, ne-eqb (length D) 0 (λ z. w .1 (e ∙ z))) (go (x .still))
-  where
-    d : Delivery
-    d = record { len = length D; stamp = x .stamp }
-
-    then : List Item
-    then = pass o p (first (x .fid) (readables b es)) (runs (later (x .fid) (readables b es)))
-
-    go : (c : Bool) → record { entry = handedOut c d; load = D } ∷ then ≡ fateItems (handing c d) (length D) D ++ then
-    go true = refl
-    go false = refl
+mark-law o p (Under x) b D es e w =
+    let rs : List (List Seen) = runs (later (x .fid) (readables b es)) in
+    rw (append-nil D, stamp-absent (x .stamp), e)
+    (handed-law (p && nothing rs) ((x .fault or Sound) or Sound) (x .stamp) (x .still) D (pass o p (first (x .fid) (readables b es)) rs) (rw (w .0) refl) (λ z. w .1 (e ∙ z)))
 
 -- an idle transfer changes nothing owed; an unreadable or lost one spoils
 pub idle-law : (o : Opening) (p : Bool) (ph : Phase) (b : Bool) (D : List ℕ) (es : List Event) → owed o p ph b D (idle ∷ es) ≡ owed o p ph b D es
