@@ -6,7 +6,7 @@
 
 #include "session.h"
 
-enum { FRAME = 256, PAYLOAD = 62, RECORD = 64, INPUT = 65536 };
+enum { FRAME = 256, PAYLOAD = 62, FRAMING = 3, RECORD = 64, INPUT = 65536 };
 
 static const char *const names[ACCOUNTS] = {"delivered", "gap",   "error",     "clock", "long",       "cut",    "empty",
                                             "still",     "mixed", "under way", "stray", "unreadable", "headers"};
@@ -53,7 +53,7 @@ int main(int argc, char **argv) {
     static uint8_t input[INPUT];
     size_t have = 0;
     int fd = argc > 1 ? open(argv[1], O_RDONLY) : 0;
-    session_open(&s, FRAME, PAYLOAD, FRAME);
+    session_open(&s, FRAME, PAYLOAD, FRAMING, FRAME);
     for (;;) {
         ssize_t got = read(fd, input + have, INPUT - have);
         if (got < 0) {

@@ -52,11 +52,14 @@ static void spoil(struct session *s) {
         s->fault = GAP;
 }
 
-/* ends a frame under way without its EOF */
-static enum account cut(struct session *s) {
+/* D1 of the framing byte: frames end by EOF */
+static int by_eof(const struct session *s) { return s->framing >> 1 & 1; }
+
+/* ends a frame under way without its EOF; other names one without fault */
+static enum account end(struct session *s, enum account other) {
     if (s->phase != UNDER)
         return DELIVERED;
-    enum account reason = s->fault == DELIVERED ? CUT : s->fault;
+    enum account reason = s->fault == DELIVERED ? other : s->fault;
     post(s, reason, s->bytes);
     return reason;
 }
@@ -102,11 +105,24 @@ static void put(uint8_t *to, const uint8_t *from, size_t n) {
 #endif
 }
 
+/* a frame without fault and with data: delivered, or a still */
+static void whole(struct session *s, struct answer *a) {
+    s->phase = PAST;
+    if (s->still)
+        post(s, STILL, s->bytes);
+    else
+        delivered(s);
+    a->fate = s->still ? FATE_STILL : FATE_DELIVERED;
+    a->length = s->bytes;
+    a->stamped = s->stamped;
+    a->stamp = s->stamp;
+}
+
 /* a readable transfer with n bytes of data */
 static void readable(struct session *s, uint8_t *buffer, const uint8_t *t, const uint8_t *data, size_t n, struct answer *a) {
     int flags = t[1], fid = flags & 1, still = flags & 0x20;
     if (s->phase == FRESH || s->fid != fid) {
-        a->ended = cut(s);
+        a->ended = end(s, by_eof(s) ? CUT : EMPTY);
         s->phase = UNDER;
         s->fid = fid;
         s->still = still;
@@ -142,26 +158,19 @@ static void readable(struct session *s, uint8_t *buffer, const uint8_t *t, const
     }
     s->bytes += n;
     a->fate = FATE_KEPT;
-    if (!(flags & 2))
+    if (!(flags & 2) || !by_eof(s))
         return;
-    s->phase = PAST;
     if (s->fault == DELIVERED && s->bytes != 0) {
-        if (s->still)
-            post(s, STILL, s->bytes);
-        else
-            delivered(s);
-        a->fate = s->still ? FATE_STILL : FATE_DELIVERED;
-        a->length = s->bytes;
-        a->stamped = s->stamped;
-        a->stamp = s->stamp;
+        whole(s, a);
     } else {
+        s->phase = PAST;
         a->reason = s->fault == DELIVERED ? EMPTY : s->fault;
         post(s, a->reason, s->bytes);
         a->fate = FATE_DROPPED;
     }
 }
 
-unsigned session_open(struct session *s, size_t frame, size_t payload, size_t room) {
+unsigned session_open(struct session *s, size_t frame, size_t payload, uint8_t framing, size_t room) {
     unsigned number = (unsigned)sizes_broken(frame, payload);
     memset(s, 0, sizeof *s);
     if (number == 0 && room < frame)
@@ -172,6 +181,7 @@ unsigned session_open(struct session *s, size_t frame, size_t payload, size_t ro
     }
     s->frame = frame;
     s->payload = payload;
+    s->framing = framing;
     return 0;
 }
 
@@ -180,13 +190,19 @@ struct answer session_take(struct session *s, uint8_t *buffer, size_t room, cons
     a.refused = take_refusal(s, room, n);
     if (a.refused)
         return a;
-    s->taken++;
     if (n == 0) {
+        s->taken++;
         s->idle++;
         a.fate = FATE_IDLE;
         return a;
     }
     a.number = unreadable(s, t, n);
+    if (!a.number && !by_eof(s) && s->phase == UNDER && s->fid != (t[1] & 1) && s->fault == DELIVERED && s->bytes != 0) {
+        a.handed = 1;
+        whole(s, &a);
+        return a;
+    }
+    s->taken++;
     if (a.number) {
         post(s, UNREADABLE, n);
         spoil(s);
@@ -214,7 +230,7 @@ struct answer session_close(struct session *s) {
     a.refused = close_refusal(s);
     if (a.refused)
         return a;
-    a.ended = cut(s);
+    a.ended = end(s, CUT);
     s->phase = PAST;
     s->closed = 1;
     return a;

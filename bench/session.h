@@ -13,6 +13,7 @@ enum phase { FRESH, UNDER, PAST };
 
 struct session {
     size_t frame, payload;
+    uint8_t framing;
     int closed;
     uint32_t taken;
     enum phase phase;
@@ -35,6 +36,7 @@ enum fate { FATE_IDLE, FATE_KEPT, FATE_STRAY, FATE_DELIVERED, FATE_STILL, FATE_D
 
 struct answer {
     unsigned refused;    /* the number of the refusal, and nothing else is said; or 0 */
+    int handed;          /* the frame under way is handed out, as its fate says, and the transfer is not taken */
     enum account ended;  /* the reason of a frame that this call ended before the transfer; DELIVERED for none */
     enum fate fate;      /* of the transfer itself */
     enum account reason; /* of a dropped frame */
@@ -45,7 +47,7 @@ struct answer {
 };
 
 /* 0, 45, 46 or 47 */
-unsigned session_open(struct session *s, size_t frame, size_t payload, size_t room);
+unsigned session_open(struct session *s, size_t frame, size_t payload, uint8_t framing, size_t room);
 struct answer session_take(struct session *s, uint8_t *buffer, size_t room, const uint8_t *t, size_t n);
 struct answer session_lost(struct session *s);
 struct answer session_close(struct session *s);
