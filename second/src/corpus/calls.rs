@@ -266,17 +266,11 @@ fn stills() -> Vec<Case> {
 /// Cameras that send no EOF: D1 of the framing byte is clear.
 fn no_eof() -> Vec<Case> {
     let mut all = Vec::new();
-    let mut add = |calls: Vec<Call>| {
-        for framing in [0, 1, 0xFD, 2, 3] {
-            all.push(framed(8, 32, framing, 12, calls.clone()));
-        }
-        let mut closed = calls;
-        closed.push(Call::Close);
-        for framing in [1, 3] {
-            all.push(framed(8, 32, framing, 12, closed.clone()));
-        }
-    };
     let turn = || send(FID, &[7]);
+    // Only D1 counts.
+    for framing in [0, 1, 2, 3, 4, 5, 0xFC, 0xFD, 0xFE, 0xFF] {
+        all.push(framed(8, 32, framing, 12, vec![send(0, &[1]), send(EOF, &[2]), turn(), turn(), send(0, &[3])]));
+    }
     // After a hand-out every kind of call: the same transfer, another of that FID, the old FID, unreadable, lost, idle, and the next frame after it.
     let kinds = || {
         vec![
@@ -294,11 +288,21 @@ fn no_eof() -> Vec<Case> {
         ]
     };
     for next in kinds() {
+        for last in kinds() {
+            all.push(framed(8, 32, 1, 12, vec![send(0, &[1]), turn(), next.clone(), last, turn(), send(0, &[3]), send(0, &[3])]));
+        }
+    }
+    // With D1 set nothing of it changes.
+    let mut add = |calls: Vec<Call>| {
+        all.push(framed(8, 32, 1, 12, calls.clone()));
+        let mut closed = calls;
+        closed.push(Call::Close);
+        all.push(framed(8, 32, 1, 12, closed.clone()));
+        all.push(framed(8, 32, 3, 12, closed));
+    };
+    for next in kinds() {
         add(vec![send(0, &[1]), send(0, &[2]), turn(), next.clone()]);
         add(vec![send(0, &[1]), turn(), next.clone(), turn(), send(FID, &[6]), send(0, &[4]), send(0, &[4])]);
-        for last in kinds() {
-            add(vec![send(0, &[1]), turn(), next.clone(), last, turn(), send(0, &[3]), send(0, &[3])]);
-        }
     }
     // A frame that is dropped where the FID turns needs no second offer: each fault, and empty. At close it is cut, unless a fault names it.
     for first in [
