@@ -1,0 +1,4 @@
+-- What a descriptor says.
+pub mod Tests
+pub mod Deciding
+pub mod Unique
