@@ -3,7 +3,7 @@ use Prim.Native.Nat.{ℕ, _+_, _-_, _≤_, _<_}
 use mathlib.Core.Path.{_≡_, refl, sym, ap, _∙_}
 use mathlib.Core.List.{List, [], _∷_, _++_, map, map-append, append-nil}
 use mathlib.Core.Bool.{true}
-use lib.ListN.{length, take, set, replicate, length-append, length-map}
+use lib.ListN.{length, take, set, replicate, length-append, length-map, length-take}
 use lib.Seq.{append-snoc, take-at, take-all}
 use native.Mathlib.Omega.{arith}
 use Rattle.rules.specs.Pad.{pad}
@@ -52,9 +52,6 @@ module _ (s : List ℕ) (t : List Stream) (count at : ℕ) (l : Listing s t coun
     pub listing-in : j ≤ length s
     listing-in = rw q (after-on s at h .1)
 
-    pub listing-falls : length s - r < length s - at
-    listing-falls = let z = next-is s Listed j listing-in in let y = after-on s at h in omega (arith, z .least, z .within, y .0)
-
     pub listing-more : Listing s (set t count v) (count + 1) r
     listing-more =
         let z = next-is s Listed j listing-in in
@@ -72,3 +69,8 @@ module _ (s : List ℕ) (t : List Stream) (count at : ℕ) (l : Listing s t coun
           within = rw e (z .within);
           here = rw e (z .here);
         }
+
+-- there are at most 8 in the table
+pub streams-few : (s : List ℕ) (t : Streams) → t ≡ streamsOf s → t .count ≤ 8
+unfolding streamsOf
+streams-few s t e = rw e (simp (length-map, length-take) (omega arith))

@@ -65,6 +65,12 @@ module _ (s : List ℕ) (o m n : ℕ) (t a : Bool) (e : t ≡ isSought Listed s 
 pub falls : (s : List ℕ) (i j : ℕ) → i < length s → j ≡ afterAt s i → length s - j < length s - i
 falls s i j h e = let p = steps-on s i j h e in omega arith
 
+pub next-falls : (w : Sought) (s : List ℕ) (i j r : ℕ) → i < length s → j ≡ afterAt s i → r ≡ nextOf w s j → length s - r < length s - i
+next-falls w s i j r h e q =
+    let p = steps-on s i j h e in
+    let l = steps-in s i j h e in
+    omega (arith, next-behind s w j r l q, next-in s w j r l q)
+
 -- ---- a block
 module _ (s : List ℕ) (o a e : ℕ) (p : a ≡ afterAt s o) (q : e ≡ nextOf Outside s a) where
   pub block-order : o < length s → a ≤ e

@@ -1,9 +1,8 @@
 -- The block behind an interface descriptor: the 0x24 descriptors straight after it. `s` is the configuration, and the descriptor starts at `o`.
 use Prim.Native.Nat.{ℕ, _-_}
 use mathlib.Core.List.{List, map}
-use lib.ListN.{length, take, getD}
+use lib.ListN.{length, take, drop, getD}
 use lib.Dec.{eqb}
-use lib.Seq.{slice}
 use Rattle.le.specs.Le.{byte}
 use Rattle.rules.specs.Pad.{pad}
 use Rattle.rules.specs.Place.{firstPlace}
@@ -29,7 +28,7 @@ abbrev pub blockEnd : List ℕ → ℕ → ℕ
 blockEnd s o = nextOf Outside s (afterAt s o)
 
 abbrev pub blockOf : List ℕ → ℕ → List ℕ
-blockOf s o = slice (blockStart s o) (blockEnd s o) s
+blockOf s o = take (blockEnd s o - blockStart s o) (drop (blockStart s o) s)
 
 unfoldable pub blockAt : List ℕ → ℕ → Block
 blockAt s o = record { interface = numberAt s o; offset = blockStart s o; length = blockEnd s o - blockStart s o }

@@ -1,8 +1,8 @@
-use Rattle.interfaces.proofs.Searching.{steps-in}
+use Rattle.interfaces.proofs.Searching.{steps-in, next-falls}
 use native.Mathlib.Omega.{arith}
 use Prim.Native.Nat.{_-_}
 use lib.ListN.{length}
-use Rattle.interfaces.proofs.Listing.{Listing, listing-starts, listing-room, listing-full, listing-done, listing-in, listing-falls, listing-more}
+use Rattle.interfaces.proofs.Listing.{Listing, listing-starts, listing-room, listing-full, listing-done, listing-more}
 use borrow.Author.Needs.{needs}
 use Rattle.interfaces.proofs.listed.Statement.{statement}
 use Rattle.interfaces.proofs.listed.Tie as tie
@@ -44,7 +44,7 @@ next-requires-2 : tie.Need-next-requires-2 Inv-loop μ-loop
 next-requires-2 c κs = search steps-in
 
 loop-less : tie.Need-loop-less Inv-loop μ-loop
-loop-less c = listing-falls _ _ _ _ (c .before .before .before .before .before .loop .inv) (c .before .before .before .before .loop-test .taken) (c .before .before .before .if1 .left) _ (c .before .before .stream-at .ensures) _ _ (c .before .after .ensures) (c .next2 .ensures)
+loop-less c = search next-falls
 
 loop-again : tie.Need-loop-again Inv-loop μ-loop
 loop-again c = listing-more _ _ _ _ (c .before .before .before .before .before .loop .inv) (c .before .before .before .before .loop-test .taken) (c .before .before .before .if1 .left) _ (c .before .before .stream-at .ensures) _ _ (c .before .after .ensures) (c .next2 .ensures)

@@ -1,0 +1,3 @@
+-- The laws of reading a configuration.
+pub mod Within
+pub mod Reading
