@@ -1,0 +1,4 @@
+-- The laws of settings.
+pub mod Going
+pub mod Picking
+pub mod Unique
