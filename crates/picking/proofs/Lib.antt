@@ -1,0 +1,2 @@
+-- The laws of picking.
+pub mod Choosing
