@@ -1,3 +1,4 @@
 -- The laws of reading a configuration.
 pub mod Within
 pub mod Reading
+pub mod Unique

@@ -1,2 +1,3 @@
 -- The laws of picking.
 pub mod Choosing
+pub mod Unique

@@ -1,0 +1,3 @@
+-- The theorems of request One.
+pub mod Streams
+pub mod ExactlyWhen

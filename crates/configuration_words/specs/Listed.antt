@@ -1,0 +1,1 @@
+-- What an accepted configuration lists. `s` is the configuration.

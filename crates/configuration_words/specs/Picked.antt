@@ -1,0 +1,1 @@
+-- What is picked. `s` is the configuration.
