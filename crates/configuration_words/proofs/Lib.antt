@@ -1,3 +1,5 @@
 -- The theorems of request One.
 pub mod Streams
 pub mod ExactlyWhen
+pub mod Listed
+pub mod Picked

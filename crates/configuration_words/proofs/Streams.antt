@@ -4,7 +4,7 @@ use mathlib.Core.Path.{_≡_, refl, sym, ap, _∙_}
 use mathlib.Core.List.{List, [], _∷_, map}
 use mathlib.Core.Bool.{Bool, true, false}
 use mathlib.Core.Logic.{_⊎_, inl, inr, ⊎-elim, _↔_}
-use lib.ListN.{length, take, getD, length-map}
+use lib.ListN.{length, take, getD, length-map, List·getD-eq-default}
 use lib.Seq.{take-all}
 use lib.Dec.{eqb, leb}
 use borrow.Author.Tests.{eq-eqb, ne-eqb, eqb-true, le-leb, lt-leb, leb-true, leb-false}
@@ -31,7 +31,7 @@ use Rattle.layout.proofs.Few.{few}
 use Rattle.configuration.specs.Answer.{entryCount, entryAt, firstUnnamed, entriesNamed, blockVerdict, streamsBy}
 use Rattle.configuration_words.specs.Broken.{ListedAt, Named, AllNamed}
 
-getD-map : {A : Type 0} (f : ℕ → A) (l : List ℕ) (i : ℕ) (d : A) → i < length l → getD (map f l) i d ≡ f (getD l i 0)
+pub getD-map : {A : Type 0} (f : ℕ → A) (l : List ℕ) (i : ℕ) (d : A) → i < length l → getD (map f l) i d ≡ f (getD l i 0)
 getD-map f [] i d h = absurd (omega arith)
 getD-map f (x ∷ l) zero d h = refl
 getD-map f (x ∷ l) (suc i) d h = getD-map f l i d (omega arith)
@@ -94,6 +94,11 @@ module _ (s : List ℕ) (c : ℕ) (l : Laid s c) where
   unfolding streamsOf
   stream-is i h = rw all-taken (pad-at interfacesMost noStream (map (streamAt s) (listedIn s)) i ∙ getD-map (streamAt s) (listedIn s) i noStream h)
 
+  -- unused places are zero
+  pub stream-past : (i : ℕ) → length (listedIn s) ≤ i → getD (streamsOf s .streams) i noStream ≡ noStream
+  unfolding streamsOf
+  stream-past i h = rw all-taken (pad-at interfacesMost noStream (map (streamAt s) (listedIn s)) i ∙ List·getD-eq-default (map (streamAt s) (listedIn s)) noStream (rw (length-map (listedIn s) (streamAt s)) h))
+
   pub listed-at : (i : ℕ) → i < length (listedIn s) → ListedAt s (getD (listedIn s) i 0)
   listed-at i h = let e = lists-streams .each i h in record { starts = e .0; streaming = e .1 }
 
@@ -104,7 +109,7 @@ module _ (s : List ℕ) (c : ℕ) (l : Laid s c) where
   abbrev P : ℕ → ℕ → Bool
   P x i = eqb (getD (streamsOf s .streams) i noStream .interface) x
 
-  number-is : (x i : ℕ) → i < length (listedIn s) → P x i ≡ eqb (numberAt s (getD (listedIn s) i 0)) x
+  pub number-is : (x i : ℕ) → i < length (listedIn s) → eqb (getD (streamsOf s .streams) i noStream .interface) x ≡ eqb (numberAt s (getD (listedIn s) i 0)) x
   unfolding streamAt
   number-is x i h = rw (stream-is i h)
 

@@ -9,6 +9,7 @@ use lib.Seq.{append-snoc, getD-append-add, getD-append-seam, take-at}
 use lib.Dec.{ltb}
 use borrow.Author.Tests.{lt-ltb, le-ltb}
 use native.Mathlib.Omega.{arith}
+use native.Mathlib.Nat.{eq-or-lt-of-le}
 use Rattle.rules.specs.Pick.{pick}
 use Rattle.rules.specs.Walk.{Course, Reached, first, next, Clean, Outcome, done, stop, walkFrom, walk}
 use Rattle.rules.proofs.Firsts.{lt-or-ge}
@@ -167,55 +168,71 @@ module _ (s : List ℕ) where
 
     -- ---- the block behind a descriptor
     module _ {a : List ℕ} {o : ℕ} (r : Reached (course s) a o) (h : o < length s) where
-      e : ℕ
-      e = nextOf Outside s (afterAt s o)
-
-      nx : Next s Outside (afterAt s o) e
-      unfolding e
-      nx = next-is s Outside (afterAt s o) (after-on s o h .1)
-
       -- a descriptor from there on stands in the line from there on
-      line-place : (p : ℕ) → Starts s p → afterAt s o ≤ p → (i : ℕ) × (i < length (line s (afterAt s o))) × (getD (line s (afterAt s o)) i 0 ≡ p)
-      line-place p b l =
+      tail-place : (p : ℕ) (b : Starts s p) → length (a ++ (o ∷ [])) ≤ length (b .seen) → (i : ℕ) × (i < length (line s (afterAt s o))) × (getD (line s (afterAt s o)) i 0 ≡ p)
+      tail-place p b x =
           let t = steps r h in
-          let m = place-in t (omega (arith, b .inside)) in
           let k = place-in (b .there) (b .inside) in
-          ⊎-elim
-          (λ x. absurd (omega (arith, rises-order 0 (line s 0) (line-rises s (length s) 0 (omega arith)) (length (b .seen)) (length (a ++ (o ∷ []))) x (m .0), m .1, k .1)))
-          (λ x. let n : length (b .seen) ≡ length (a ++ (o ∷ [])) + (length (b .seen) - length (a ++ (o ∷ []))) = omega arith in (
+          let n : length (b .seen) ≡ length (a ++ (o ∷ [])) + (length (b .seen) - length (a ++ (o ∷ []))) = omega arith in (
             length (b .seen) - length (a ++ (o ∷ [])),
             omega (arith, k .0, simp length-append at (ap length (reached-line t)), length-append a (o ∷ [])),
             sym (getD-append-add (a ++ (o ∷ [])) (line s (afterAt s o)) (length (b .seen) - length (a ++ (o ∷ []))) 0) ∙ (rw (← reached-line t, ← n) (k .1)),
-          ))
-          (lt-or-ge (length (b .seen)) (length (a ++ (o ∷ []))))
+          )
 
-      found-rises : Rises 0 (found Outside s (afterAt s o))
-      unfolding found
-      found-rises = weaken 0 (afterAt s o) (those (isSought Outside s) (line s (afterAt s o))) (omega arith) (those-rises (isSought Outside s) (afterAt s o) (line s (afterAt s o)) (line-rises s (length s) (afterAt s o) (omega arith)))
+      -- of two descriptors the one that starts first stands first
+      in-order : {c d : List ℕ} {p q : ℕ} → Reached (course s) c p → p < length s → Reached (course s) d q → q < length s → p < q → length c < length d
+      in-order {c} {d} {p} {q} x u y v l =
+          let m = place-in x u in
+          let n = place-in y v in
+          ⊎-elim (λ z. z)
+          (λ z. ⊎-elim (λ e. absurd (omega (arith, m .1, n .1, ap (λ (k : ℕ). getD (line s 0) k 0) e))) (λ e. absurd (omega (arith, m .1, n .1, rises-order 0 (line s 0) (line-rises s (length s) 0 (omega arith)) (length d) (length c) e (m .0)))) (eq-or-lt-of-le {n = length d} {m = length c} z))
+          (lt-or-ge (length c) (length d))
 
-      -- none of what is sought stands before e
-      not-before : (p : ℕ) → Starts s p → afterAt s o ≤ p → p < e → isSought Outside s p ≡ true → ⊥
-      unfolding found e nextOf
-      not-before p b l x q =
-          let i = line-place p b l in
-          let f = those-all (isSought Outside s) (line s (afterAt s o)) (i .0) (i .1) (rw (i .2) q) in
-          omega (arith, head-least (length s) 0 (those (isSought Outside s) (line s (afterAt s o))) found-rises (f .0) (f .1), f .2, i .2)
+      -- a later descriptor starts where this one ends, or behind it
+      pub later-behind : (p : ℕ) → Starts s p → o < p → afterAt s o ≤ p
+      later-behind p b l =
+          let i = tail-place p b (simp length-append (omega (arith, in-order r h (b .there) (b .inside) l))) in
+          omega (arith, i .2, rises-least (afterAt s o) (line s (afterAt s o)) (line-rises s (length s) (afterAt s o) (omega arith)) (i .0) (i .1))
 
-      stands-there : e < length s → Starts s e
-      unfolding found
-      stands-there x =
-          let z : those (isSought Outside s) (line s (afterAt s o)) ≡ e ∷ found Outside s (afterAt s e) = sym (nx .same) ∙ found-here s Outside e x (nx .here x) in
-          let n : 0 < length (those (isSought Outside s) (line s (afterAt s o))) = rw z (omega arith) in
-          let f = those-each (isSought Outside s) (line s (afterAt s o)) 0 n in
-          let y : getD (line s (afterAt s o)) (f .0) 0 ≡ e = f .2 ∙ (rw z) in
-          rw y at (starts-at (steps r h) (f .0) (f .1))
+      line-place : (p : ℕ) → Starts s p → afterAt s o ≤ p → (i : ℕ) × (i < length (line s (afterAt s o))) × (getD (line s (afterAt s o)) i 0 ≡ p)
+      line-place p b l = tail-place p b (simp length-append (omega (arith, in-order r h (b .there) (b .inside) (omega (arith, after-on s o h .0)))))
+
+      module _ (w : Sought) where
+        e : ℕ
+        e = nextOf w s (afterAt s o)
+
+        nx : Next s w (afterAt s o) e
+        unfolding e
+        nx = next-is s w (afterAt s o) (after-on s o h .1)
+
+        found-rises : Rises 0 (found w s (afterAt s o))
+        unfolding found
+        found-rises = weaken 0 (afterAt s o) (those (isSought w s) (line s (afterAt s o))) (omega arith) (those-rises (isSought w s) (afterAt s o) (line s (afterAt s o)) (line-rises s (length s) (afterAt s o) (omega arith)))
+
+        -- none of what is sought stands before the one that is found
+        pub not-before : (p : ℕ) → Starts s p → afterAt s o ≤ p → p < nextOf w s (afterAt s o) → isSought w s p ≡ true → ⊥
+        unfolding found e nextOf
+        not-before p b l x q =
+            let i = line-place p b l in
+            let f = those-all (isSought w s) (line s (afterAt s o)) (i .0) (i .1) (rw (i .2) q) in
+            omega (arith, head-least (length s) 0 (those (isSought w s) (line s (afterAt s o))) found-rises (f .0) (f .1), f .2, i .2)
+
+        pub stands-there : nextOf w s (afterAt s o) < length s → Starts s (nextOf w s (afterAt s o)) × (isSought w s (nextOf w s (afterAt s o)) ≡ true)
+        unfolding found e
+        stands-there x =
+            let z : those (isSought w s) (line s (afterAt s o)) ≡ e ∷ found w s (afterAt s e) = sym (nx .same) ∙ found-here s w e x (nx .here x) in
+            let n : 0 < length (those (isSought w s) (line s (afterAt s o))) = rw z (omega arith) in
+            let f = those-each (isSought w s) (line s (afterAt s o)) 0 n in
+            let y : getD (line s (afterAt s o)) (f .0) 0 ≡ e = f .2 ∙ (rw z) in
+            (rw y at (starts-at (steps r h) (f .0) (f .1)), nx .here x)
 
       -- the longest run of 0x24 descriptors straight after it
       pub run : Run s (afterAt s o) (nextOf Outside s (afterAt s o))
-      unfolding e
-      run = record {
-        order = nx .least;
-        within = nx .within;
-        each = λ p b l x. outside s p .0 (said-no (isSought Outside s p) (not-before p b l x));
-        longest = λ x. (stands-there x, λ c. true≢false (sym (nx .here x) ∙ outside s (nextOf Outside s (afterAt s o)) .1 c));
-      }
+      run =
+          let n = next-is s Outside (afterAt s o) (after-on s o h .1) in
+          record {
+            order = n .least;
+            within = n .within;
+            each = λ p b l x. outside s p .0 (said-no (isSought Outside s p) (not-before Outside p b l x));
+            longest = λ x. (stands-there Outside x .0, λ c. true≢false (sym (n .here x) ∙ outside s (nextOf Outside s (afterAt s o)) .1 c));
+          }

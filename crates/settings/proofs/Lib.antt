@@ -2,3 +2,4 @@
 pub mod Going
 pub mod Picking
 pub mod Unique
+pub mod Order
