@@ -3,3 +3,4 @@ pub mod Lines
 pub mod Searching
 pub mod Listing
 pub mod Counting
+pub mod Unique
