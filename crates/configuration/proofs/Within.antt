@@ -18,8 +18,8 @@ use Rattle.control.specs.Answer as control
 use Rattle.control.specs.Broken as control-broken
 use Rattle.control.specs.declared.Control.{Control}
 use Rattle.control.proofs.ExactlyWhen as control-exactly
-use Rattle.streaming_rules.specs.Descriptors as streaming-rules
-use Rattle.streaming_rules.specs.declared.Format.{Format}
+use Rattle.streaming_descriptors.specs.Descriptors as streaming-rules
+use Rattle.streaming_descriptors.specs.declared.Format.{Format}
 use Rattle.streaming.specs.Answer as streaming
 use Rattle.streaming.specs.Broken as streaming-broken
 use Rattle.streaming.proofs.ExactlyWhen as streaming-exactly
