@@ -60,6 +60,12 @@ table =
     says 44 "the probe block asks for an interval that its frame does not offer" ∷
     says 45 "the frame size is 0 or over 16,777,216" ∷
     says 46 "the payload size is under 2 or over 65,536" ∷
+    says 70 "the configuration's size, first descriptor or a descriptor is wrong" ∷
+    says 71 "the configuration gives another total length than it has" ∷
+    says 72 "there is no video control interface, or there are two" ∷
+    says 73 "the control header names a streaming interface that is not there" ∷
+    says 74 "no alternate setting holds this payload size" ∷
+    says 75 "there are more than 8 streaming interfaces, or 32 settings of one" ∷
     []
 
 -- the words end their line; `more` is asked only where the number is another

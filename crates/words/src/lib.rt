@@ -6,7 +6,7 @@ ghost use Rattle.text.specs.Put.{Put};
 ghost use Rattle.words.specs.Words.{wordsOf};
 
 // Numbers from here on have no words.
-const PAST: usize = 47;
+const PAST: usize = 76;
 
 // How long the line of each number is, from 0 on, with its end; 0 where a number has no words.
 const WIDTHS: [u8; PAST] = [
@@ -57,10 +57,39 @@ const WIDTHS: [u8; PAST] = [
     67,
     39,
     43,
+    0,
+    0,
+    0,
+    0,
+    0,
+    0,
+    0,
+    0,
+    0,
+    0,
+    0,
+    0,
+    0,
+    0,
+    0,
+    0,
+    0,
+    0,
+    0,
+    0,
+    0,
+    0,
+    0,
+    68,
+    57,
+    54,
+    65,
+    45,
+    66,
 ];
 
 fn width(n: usize) -> u8
-    requires { ⌜ n < 47 ⌝ }
+    requires { ⌜ n < 76 ⌝ }
     ensures { λ r. ⌜ (r ≡ length (wordsOf n)) × (r ≤ 72) ⌝ }
 {
     WIDTHS[n]
@@ -151,6 +180,25 @@ the payload size is under 2 or over 65,536\n.............................\
     text::put(buf, at, &lines[from..to])
 }
 
+// The line of 70 to 75: the whole configuration, and picking a setting.
+fn configuration(buf: &mut [u8], at: usize, n: usize) -> usize
+    requires { ⌜ (at + 72 ≤ length (now buf)) × (70 ≤ n) × (n ≤ 75) ⌝ }
+    ensures { λ r. ⌜ Put (now (buf .entry)) at (wordsOf n) r (now (buf .exit)) ⌝ }
+    ensures { λ r. ⌜ r ≤ at + 72 ⌝ }
+{
+    let lines: &[u8] = b"\
+the configuration's size, first descriptor or a descriptor is wrong\n....\
+the configuration gives another total length than it has\n...............\
+there is no video control interface, or there are two\n..................\
+the control header names a streaming interface that is not there\n.......\
+no alternate setting holds this payload size\n...........................\
+there are more than 8 streaming interfaces, or 32 settings of one\n......\
+";
+    let from = 72 * (n - 70);
+    let to = from + width(n) as usize;
+    text::put(buf, at, &lines[from..to])
+}
+
 // Inner: a number's line of words, of at most 72 bytes; nothing of a number that has none.
 pub fn put(buf: &mut [u8], at: usize, number: u8) -> usize
     requires { ⌜ at + 72 ≤ length (now buf) ⌝ }
@@ -162,6 +210,7 @@ pub fn put(buf: &mut [u8], at: usize, number: u8) -> usize
         1..=16 => control(buf, at, n),
         20..=40 => streaming(buf, at, n),
         41..=46 => probe(buf, at, n),
+        70..=75 => configuration(buf, at, n),
         _ => at,
     }
 }

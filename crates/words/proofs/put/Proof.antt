@@ -1,6 +1,6 @@
-use borrow.Author.Needs.{needs}
 use native.Mathlib.Omega.{arith}
 use Rattle.words.proofs.Different.{none-other}
+use borrow.Author.Needs.{needs}
 use Rattle.words.proofs.put.Statement.{statement}
 use Rattle.words.proofs.put.Tie as tie
 
@@ -12,6 +12,9 @@ streaming-requires c κs = search needs
 
 probe-requires : tie.Need-probe-requires
 probe-requires c κs = search needs
+
+configuration-requires : tie.Need-configuration-requires
+configuration-requires c κs = search needs
 
 same-length : tie.Need-same-length
 same-length c = search needs
@@ -31,14 +34,23 @@ same-length-3 c = search needs
 returns-3 : tie.Need-returns-3
 returns-3 c = search needs
 
+same-length-4 : tie.Need-same-length-4
+same-length-4 c = search needs
+
 returns-4 : tie.Need-returns-4
-returns-4 c = (none-other _ _ _ (omega arith) (λ a b. omega arith) (λ a b. omega arith), omega arith)
+returns-4 c = search needs
 
 returns-5 : tie.Need-returns-5
-returns-5 c = (none-other _ _ _ (omega arith) (λ a b. omega arith) (λ a b. omega arith), omega arith)
+returns-5 c = (none-other _ _ _ (omega arith) (λ a b. omega arith) (λ a b. omega arith) (λ a b. omega arith), omega arith)
 
 returns-6 : tie.Need-returns-6
-returns-6 c = (none-other _ _ _ (omega arith) (λ a b. omega arith) (λ a b. omega arith), omega arith)
+returns-6 c = (none-other _ _ _ (omega arith) (λ a b. omega arith) (λ a b. omega arith) (λ a b. omega arith), omega arith)
+
+returns-7 : tie.Need-returns-7
+returns-7 c = (none-other _ _ _ (omega arith) (λ a b. omega arith) (λ a b. omega arith) (λ a b. omega arith), omega arith)
+
+returns-8 : tie.Need-returns-8
+returns-8 c = (none-other _ _ _ (omega arith) (λ a b. omega arith) (λ a b. omega arith) (λ a b. omega arith), omega arith)
 
 pub put-spec : {M : Type 1} → statement M
 put-spec =
@@ -47,12 +59,16 @@ put-spec =
     control-requires
     streaming-requires
     probe-requires
+    configuration-requires
     same-length
     returns
     same-length-2
     returns-2
     same-length-3
     returns-3
+    same-length-4
     returns-4
     returns-5
-    returns-6)
+    returns-6
+    returns-7
+    returns-8)
