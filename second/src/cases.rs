@@ -8,6 +8,8 @@
 //!   P check      part control block, part streaming block, part probe block
 //!   W write      byte revision, part probe block, part room
 //!   A revision is 0 for 1.0, 1 for 1.1 and 2 for 1.5.
+//!   D configuration  part configuration: its reading, with the settings of each streaming interface
+//!   K pick       part configuration, byte interface number, four bytes payload size
 //!   T calls      four bytes frame size, four bytes payload size, byte framing, part buffer, four bytes number of calls, and each call:
 //!                byte 0 and part transfer, byte 1 (lost), byte 2 (close)
 //!   F forged     session record, part buffer, part transfer
@@ -15,6 +17,7 @@
 //! bytes, the last stamp. A stamp: byte present and four bytes. The phase: byte 0 fresh; 1 under way and byte FID, byte fault (0 none,
 //! 1 gap to 6 empty), eight bytes data so far, eight bytes fill, the stamp, byte still; 2 past a frame and byte FID.
 
+use crate::configuration;
 use crate::control::{self, Revision};
 use crate::frames::Call;
 use crate::session::{self, Phase, Record};
@@ -30,6 +33,8 @@ pub enum Case {
     Hostile(u8, Revision, Vec<Place>, Vec<u8>),
     Check(Vec<u8>, Vec<u8>, Vec<u8>),
     Write(Revision, Vec<u8>, Vec<u8>),
+    Configuration(Vec<u8>),
+    Pick(Vec<u8>, u8, u32),
     Calls { frame: u32, payload: u32, framing: u8, buffer: Vec<u8>, calls: Vec<Call> },
     Forged(Record, Vec<u8>, Vec<u8>),
 }
@@ -76,6 +81,8 @@ impl Case {
             Case::Hostile(..) => 'H',
             Case::Check(..) => 'P',
             Case::Write(..) => 'W',
+            Case::Configuration(_) => 'D',
+            Case::Pick(..) => 'K',
             Case::Calls { .. } => 'T',
             Case::Forged(..) => 'F',
         }
@@ -121,6 +128,12 @@ impl Case {
                 part(&mut out, probe);
                 part(&mut out, room);
             }
+            Case::Configuration(s) => part(&mut out, s),
+            Case::Pick(s, interface, payload) => {
+                part(&mut out, s);
+                out.push(*interface);
+                out.extend(payload.to_le_bytes());
+            }
             Case::Calls { frame, payload, framing, buffer, calls } => {
                 out.extend(frame.to_le_bytes());
                 out.extend(payload.to_le_bytes());
@@ -162,6 +175,11 @@ impl Case {
             }
             Case::Check(control, block, probe) => verdict("check", &streaming::check(&table(control), block, probe)),
             Case::Write(revision, probe, room) => write_answer(*revision, probe, room),
+            Case::Configuration(s) => configuration_answer(s),
+            Case::Pick(s, interface, payload) => match configuration::pick(s, *interface, *payload) {
+                Ok(x) => format!("pick {} {}\n", x.number, x.bytes),
+                Err(r) => format!("pick refused {} at {}\n", r.number, r.offset),
+            },
             Case::Calls { frame, payload, framing, buffer, calls } => session::calls(*frame, *payload, *framing, buffer, calls),
             Case::Forged(r, buffer, transfer) => session::forged(r, buffer, transfer),
         }
@@ -213,6 +231,23 @@ fn streaming_answer(table: &Table, block: &[u8]) -> String {
     writeln!(out, "frames {}", s.frames.len()).unwrap();
     for f in &s.frames {
         writeln!(out, "frame {} {} {} {} {} {} {}", f.format, f.width, f.height, f.size, f.interval, f.k, f.offset).unwrap();
+    }
+    out + "rest zero\n"
+}
+
+fn configuration_answer(s: &[u8]) -> String {
+    let read = configuration::read(s);
+    let mut out = verdict("configuration", &read);
+    if let Ok(c) = read {
+        writeln!(out, "interface {} {} {}\nstreams {}", c.interface, c.offset, c.length, c.streams.len()).unwrap();
+        for x in &c.streams {
+            writeln!(out, "stream {} {} {} {}", x.interface, x.offset, x.length, x.endpoint).unwrap();
+            for y in &x.settings {
+                writeln!(out, "setting {} {}", y.number, y.bytes).unwrap();
+            }
+        }
+    } else {
+        out += "interface 0 0 0\nstreams 0\n";
     }
     out + "rest zero\n"
 }

@@ -8,6 +8,8 @@
 mod blocks;
 mod cases;
 mod compare;
+mod configuration;
+mod configurations;
 mod control;
 mod corpus;
 mod frames;

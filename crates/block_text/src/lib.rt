@@ -154,8 +154,8 @@ fn offered(buf: &mut [u8], p: Probe) -> usize
     probe_lines::fields(buf, told, p)
 }
 
-// A refusal's line, and its number in plain words.
-fn refused(buf: &mut [u8], number: u8, offset: usize) -> usize
+// Inner: a refusal's line, and its number in plain words.
+pub fn refused(buf: &mut [u8], number: u8, offset: usize) -> usize
     requires { ⌜ room ≤ length (now buf) ⌝ }
     ensures { λ r. ⌜ Put (now (buf .entry)) 0 (refusedText number offset) r (now (buf .exit)) ⌝ }
 {

@@ -1,0 +1,3 @@
+-- The laws of the printed text.
+pub mod Lines
+pub mod Unique
