@@ -1,0 +1,22 @@
+-- A number as an argument: the one that decimal digits spell, or one more than the most for anything but a number from 0 to the most.
+use Prim.Native.Nat.{ℕ, _+_, _-_, _*_}
+use mathlib.Core.List.{List, [], _∷_}
+use mathlib.Core.Bool.{Bool, _||_}
+use lib.Dec.{ltb}
+use Rattle.rules.specs.Pick.{pick}
+
+-- the byte is none of 0 to 9
+abbrev pub noDigit : ℕ → Bool
+noDigit d = ltb d 48 || ltb 57 d
+
+-- the number spelt by the digits that stand before, one more digit on
+abbrev pub next : ℕ → ℕ → ℕ
+next v d = v * 10 + (d - 48)
+
+unfoldable pub spelt : ℕ → ℕ → List ℕ → ℕ
+spelt most v [] = v
+spelt most v (d ∷ l) = pick (noDigit d || ltb most (next v d)) (most + 1) (spelt most (next v d) l)
+
+unfoldable pub numberOf : ℕ → List ℕ → ℕ
+numberOf most [] = most + 1
+numberOf most (d ∷ l) = spelt most 0 (d ∷ l)
