@@ -63,7 +63,7 @@ fn refuse<T>(number: u8, offset: usize) -> Result<T, Refusal> {
 }
 
 /// 70.
-fn split(s: &[u8]) -> Result<Vec<Piece>, Refusal> {
+fn split(s: &[u8]) -> Result<Vec<Piece<'_>>, Refusal> {
     if s.len() < 9 || s.len() > 32_768 || s[1] != 2 {
         return refuse(70, 0);
     }

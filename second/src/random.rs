@@ -2,6 +2,7 @@
 
 use crate::blocks::{self, CONTROL_TOTAL, STREAMING_TOTAL};
 use crate::cases::{table, Case};
+use crate::configurations;
 use crate::control::Revision;
 use crate::frames::Call;
 use crate::session::{Phase, Record};
@@ -36,7 +37,7 @@ impl Random {
         all[self.below(all.len())].clone()
     }
 
-    fn shuffle<T>(&mut self, all: &mut [T]) {
+    pub fn shuffle<T>(&mut self, all: &mut [T]) {
         for i in (1..all.len()).rev() {
             let j = self.below(i + 1);
             all.swap(i, j);
@@ -632,7 +633,7 @@ fn forged(r: &mut Random) -> Case {
 
 /// Any case; lists of calls have up to `most` calls.
 pub fn case(r: &mut Random, most: usize) -> Case {
-    match r.below(16) {
+    match r.below(18) {
         0..=2 => Case::Control(maybe_damaged_control(r)),
         3 => {
             let block = if r.once_in(5) { maybe_damaged_control(r) } else { control(r) };
@@ -653,6 +654,7 @@ pub fn case(r: &mut Random, most: usize) -> Case {
         }
         9 => write(r),
         10 | 11 => forged(r),
+        12 | 13 => configurations::case(r),
         _ => calls(r, most),
     }
 }

@@ -7,6 +7,8 @@
 //   H hostile    byte count, 32 entities (byte ID, byte kind, two bytes type, two bytes offset), part streaming block
 //   P check      part control block, part streaming block, part probe block
 //   W write      part probe block, part room: read, and what was read is written into the room
+//   D configuration  part configuration: its reading, with the settings of each streaming interface
+//   K pick       part configuration, byte interface number, four bytes payload size
 //   T calls      four bytes frame size, four bytes payload size, byte framing, part buffer, four bytes number of calls, and each call:
 //                byte 0 and part transfer, byte 1 (lost), byte 2 (close)
 //   F forged     session record (forged.rt), part buffer, part transfer: which of take, lost and close are refused on this record
@@ -27,6 +29,8 @@ fn case(kind: u8) -> bool {
         b'H' => blocks::hostile(),
         b'P' => probes::check(),
         b'W' => probes::write(),
+        b'D' => configuration_cases::configuration(),
+        b'K' => configuration_cases::pick(),
         b'T' => calls::run(),
         b'F' => forged::run(),
         _ => {

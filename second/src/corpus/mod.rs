@@ -2,6 +2,7 @@
 
 mod blocks;
 mod calls;
+mod configurations;
 mod documents;
 mod records;
 mod streams;
@@ -13,7 +14,7 @@ use crate::random::{self, Random};
 use std::collections::BTreeSet;
 
 /// With the chosen cases, so many are stored.
-const CASES: usize = 2_400;
+const CASES: usize = 2_900;
 
 /// The seed of the random ones.
 const SEED: u64 = 15;
@@ -51,7 +52,7 @@ fn covered(answers: &[String]) -> Result<(), String> {
             }
         }
     }
-    let numbers = (1..=16).chain(20..=47).chain(50..=53).chain([55]);
+    let numbers = (1..=16).chain(20..=47).chain(50..=53).chain([55]).chain(70..=75);
     let mut wanted: Vec<String> = numbers.map(|n| format!("refused {n}")).collect();
     wanted.extend((61..=66).map(|n| format!("unreadable {n}")));
     wanted.extend(["idle", "kept", "stray", "delivered", "still", "dropped", "unreadable"].map(|f| format!("fate {f}")));
@@ -59,7 +60,7 @@ fn covered(answers: &[String]) -> Result<(), String> {
     wanted.extend(["none", "gap", "error", "clock", "mixed", "long", "cut", "empty"].map(|f| format!("ended {f}")));
     wanted.extend(["delivered", "still"].map(|f| format!("handed {f}")));
     wanted.extend(["none", "gap", "error", "clock", "mixed", "long", "cut"].map(|f| format!("closed {f}")));
-    wanted.extend(["control", "streaming", "check", "probe", "write"].map(|f| format!("{f} accepted")));
+    wanted.extend(["control", "streaming", "check", "probe", "write", "configuration"].map(|f| format!("{f} accepted")));
     let missing: Vec<String> = wanted.into_iter().filter(|w| !seen.contains(w)).collect();
     if missing.is_empty() {
         Ok(())
@@ -71,6 +72,7 @@ fn covered(answers: &[String]) -> Result<(), String> {
 fn chosen() -> Vec<Case> {
     let mut all = blocks::all();
     all.extend(streams::all());
+    all.extend(configurations::all());
     all.extend(documents::all());
     all.extend(calls::all());
     all.extend(records::all());
