@@ -1,6 +1,7 @@
 //! What the ledger program and `describe` print, and their status: from document 01, and the words from docs/NUMBERS.md.
 
 use crate::cases::{controls, table};
+use crate::configuration;
 use crate::control;
 use crate::frames::{judge, ledger, Call, Opening};
 use crate::streaming;
@@ -75,6 +76,30 @@ impl Words {
             }
             out
         }))
+    }
+
+    pub fn configuration(&self, s: &[u8]) -> Printed {
+        self.told(configuration::read(s).map(|c| {
+            let mut out = format!("accepted\ncontrol {} {} {}\n", c.interface, c.offset, c.length);
+            for x in &c.streams {
+                writeln!(out, "streaming {} {} {} {}", x.interface, x.offset, x.length, x.endpoint).unwrap();
+                for y in &x.settings {
+                    writeln!(out, "setting {} {}", y.number, y.bytes).unwrap();
+                }
+            }
+            out
+        }))
+    }
+
+    /// The interface and the payload size are words: decimal numbers of their types. Anything else is a wrong call.
+    pub fn setting(&self, s: &[u8], interface: &str, payload: &str) -> Printed {
+        let digits = |w: &str| !w.is_empty() && w.len() <= 16 && w.bytes().all(|b| b.is_ascii_digit());
+        match (interface.parse::<u8>(), payload.parse::<u32>()) {
+            (Ok(i), Ok(p)) if digits(interface) && digits(payload) => {
+                self.told(configuration::pick(s, i, p).map(|x| format!("setting {} {}\n", x.number, x.bytes)))
+            }
+            _ => Printed { text: String::new(), status: 2 },
+        }
     }
 
     pub fn probe(&self, control: &[u8], block: &[u8], probe: &[u8]) -> Printed {

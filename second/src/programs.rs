@@ -2,6 +2,7 @@
 
 use crate::blocks::{CONTROL_TOTAL, STREAMING_TOTAL};
 use crate::cases::{table, Case};
+use crate::configurations;
 use crate::frames::Call;
 use crate::printed::{self, Printed, Words, RECORD};
 use crate::random::{self, Random};
@@ -86,13 +87,30 @@ fn word(r: &mut Random) -> String {
     }
 }
 
+/// A payload size as a word, on both sides of what is one.
+fn large(r: &mut Random) -> String {
+    r.pick(&["", "4294967295", "4294967296", "99999999999", "-1", "1e3", "0", "0000000000000001", "00000000000000001", "3072x"]).to_string()
+}
+
 fn named(words: &[&str]) -> Vec<String> {
     words.iter().map(|w| w.to_string()).collect()
 }
 
 fn run(r: &mut Random, said: &Words) -> Run {
     let describe = |words: &[&str], files, wanted| Run { words: named(&[&["describe"], words].concat()), files, pieces: vec![], wanted };
-    match r.below(10) {
+    match r.below(13) {
+        10 | 11 => {
+            let s = configurations::maybe_damaged(r);
+            let wanted = said.configuration(&s);
+            describe(&["configuration", "camera"], vec![("camera", s)], wanted)
+        }
+        12 => {
+            let s = configurations::maybe_damaged(r);
+            let number = if r.once_in(6) { word(r) } else { configurations::number(r, &s).to_string() };
+            let payload = if r.once_in(6) { large(r) } else { configurations::payload(r, &s).to_string() };
+            let wanted = said.setting(&s, &number, &payload);
+            describe(&["setting", "camera", &number, &payload], vec![("camera", s)], wanted)
+        }
         0..=3 => {
             let bytes = trace(r);
             let wanted = printed::trace(&bytes);

@@ -2,3 +2,4 @@
 pub mod Tests
 pub mod Deciding
 pub mod Unique
+pub mod Samples
