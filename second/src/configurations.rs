@@ -30,13 +30,19 @@ pub fn total(s: &mut [u8]) {
     }
 }
 
-/// A block of whole descriptors, as one piece of a configuration's list.
+/// A wMaxPacketSize.
 fn packet(r: &mut Random) -> u16 {
     match r.below(6) {
         0 => r.next() as u16,
         1 => r.pick(&[0, 0x07FF, 0x0800, 0x1000, 0x1800, 0x1FFF, 0x13FC, 0x0A80, 0xFFFF, 0xE000]),
         _ => r.pick(&[128, 192, 256, 512, 640, 800, 1020, 0x0A00, 0x1340]),
     }
+}
+
+/// A streaming block of one format with one frame.
+fn plain(address: u8) -> Vec<u8> {
+    let frames = [blocks::mjpeg(1, 1, 1), blocks::frame(7, 1, 640, 480, 614_400, 333_333, 1, &[333_333])];
+    blocks::streaming(1, address, 9, 1, &frames)
 }
 
 /// What other classes send: stepped over.
@@ -70,7 +76,11 @@ pub fn configuration(r: &mut Random) -> Vec<u8> {
     }
     let mut control = random::linked_control(r);
     if !r.once_in(10) {
-        control = blocks::control(48_000_000, &entries, &[blocks::camera(1, [1, 2, 3]), blocks::processing(2, 1, [4, 5, 6]), blocks::output(9, 0x0101, 2)]);
+        control = blocks::control(
+            48_000_000,
+            &entries,
+            &[blocks::camera(1, [1, 2, 3]), blocks::processing(2, 1, [4, 5, 6]), blocks::output(9, 0x0101, 2)],
+        );
     }
     let mut all: Vec<Vec<u8>> = Vec::new();
     let mut groups: Vec<Vec<Vec<u8>>> = Vec::new();
@@ -86,10 +96,11 @@ pub fn configuration(r: &mut Random) -> Vec<u8> {
         groups.push(group);
     }
     for &number in &numbers {
-        let (mut block, _) = if r.once_in(12) { random::maybe_damaged_streaming(r) } else { random::streaming(r) };
-        if block.len() > 600 && !r.once_in(12) {
-            block = blocks::streaming(0, 0x81, 9, 1, &[]);
-        }
+        let block = match r.below(12) {
+            0 => random::maybe_damaged_streaming(r).0,
+            1 => random::streaming(r).0,
+            _ => plain(0x80 | r.below(16) as u8),
+        };
         let address = if r.once_in(10) { 0x82 } else { *block.get(6).unwrap_or(&0x81) };
         let settings = if r.once_in(30) { 30 + r.below(4) } else { r.below(6) };
         let mut own: Vec<Vec<Vec<u8>>> = vec![vec![interface(number, 0, 0x0E, 2), block]];
@@ -186,7 +197,8 @@ pub fn maybe_damaged(r: &mut Random) -> Vec<u8> {
 
 /// A payload size near what the settings have.
 pub fn payload(r: &mut Random, s: &[u8]) -> u32 {
-    let sizes: Vec<u32> = crate::configuration::read(s).map_or(vec![], |c| c.streams.iter().flat_map(|x| x.settings.iter().map(|y| y.bytes)).collect());
+    let sizes: Vec<u32> =
+        crate::configuration::read(s).map_or(vec![], |c| c.streams.iter().flat_map(|x| x.settings.iter().map(|y| y.bytes)).collect());
     if sizes.is_empty() || r.once_in(5) {
         return r.pick(&[0, 1, 3_072, 8_188, 8_189, 65_536, u32::MAX]);
     }

@@ -44,7 +44,11 @@ fn with(s: &[u8], at: usize, value: u8) -> Vec<u8> {
 }
 
 pub fn all() -> Vec<Case> {
-    let mut all: Vec<Case> = [sizes(), descriptors(), controls(), crowds(), entries(), orders(), classes(), lists()].concat().into_iter().map(Case::Configuration).collect();
+    let mut all: Vec<Case> = [sizes(), descriptors(), controls(), crowds(), entries(), orders(), classes(), lists()]
+        .concat()
+        .into_iter()
+        .map(Case::Configuration)
+        .collect();
     all.extend(picks());
     all
 }
@@ -172,7 +176,13 @@ fn entries() -> Vec<Vec<u8>> {
         join(&[head(&[1]), vec![interface(1, 0, 0x0E, 2)]]),
         join(&[head(&[1]), vec![interface(1, 0, 0x0E, 2), streaming(1, 0x01, 9, 1, &[])]]),
         join(&[head(&[1]), vec![interface(1, 0, 0x0E, 2), streaming(1, 0x81, 1, 1, &[])]]),
-        join(&[head(&[1]), vec![interface(1, 0, 0x0E, 2), streaming(1, 0x81, 9, 1, &[mjpeg(1, 2, 1), frame(7, 1, 640, 480, 614_400, 333_333, 1, &[333_333])])]]),
+        join(&[
+            head(&[1]),
+            vec![
+                interface(1, 0, 0x0E, 2),
+                streaming(1, 0x81, 9, 1, &[mjpeg(1, 2, 1), frame(7, 1, 640, 480, 614_400, 333_333, 1, &[333_333])]),
+            ],
+        ]),
     ]
 }
 
@@ -188,7 +198,12 @@ fn orders() -> Vec<Vec<u8>> {
         for wrong_total in [false, true] {
             for two in [false, true] {
                 for many in [false, true] {
-                    for first in [head(&[1]), own.clone(), unnamed.clone(), vec![interface(0, 0, 0x0E, 1), control(CLOCK, &[200], &[selector(5, &[6])])]] {
+                    for first in [
+                        head(&[1]),
+                        own.clone(),
+                        unnamed.clone(),
+                        vec![interface(0, 0, 0x0E, 1), control(CLOCK, &[200], &[selector(5, &[6])])],
+                    ] {
                         for stream in [stream(1, &[256]), bad.clone()] {
                             let mut parts = vec![stream, first.clone()];
                             if two {
@@ -221,7 +236,11 @@ fn classes() -> Vec<Vec<u8>> {
         join(&[vec![vec![8, 0x0B, 0, 2, 0x0E, 3, 0, 0]], head(&[1]), stream(1, &[256]), audio.clone()]),
         join(&[audio.clone(), head(&[1]), audio.clone(), stream(1, &[256])]),
         // under the same number, of another class or subclass
-        join(&[head(&[1]), stream(1, &[256]), vec![interface(1, 2, 0x0E, 3), endpoint(0x81, 512), interface(1, 3, 1, 2), endpoint(0x81, 700)]]),
+        join(&[
+            head(&[1]),
+            stream(1, &[256]),
+            vec![interface(1, 2, 0x0E, 3), endpoint(0x81, 512), interface(1, 3, 1, 2), endpoint(0x81, 700)],
+        ]),
         // class-specific descriptors behind an endpoint, another setting or another class belong to no block
         join(&[head(&[1]), vec![endpoint(0x83, 16), descriptor(9, &[1])], stream(1, &[256])]),
         join(&[head(&[1]), stream(1, &[256]), vec![stream_block(0x81)]]),

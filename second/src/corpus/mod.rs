@@ -14,7 +14,7 @@ use crate::random::{self, Random};
 use std::collections::BTreeSet;
 
 /// With the chosen cases, so many are stored.
-const CASES: usize = 2_900;
+const CASES: usize = 2_400;
 
 /// The seed of the random ones.
 const SEED: u64 = 15;
