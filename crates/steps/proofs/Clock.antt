@@ -10,7 +10,7 @@ use lib.IntN.{pos}
 use Rattle.books.specs.Rule.{step, forward, back, between}
 use Rattle.steps.specs.Signed.{signed, Stamps, lastStamp}
 use Rattle.steps.specs.Turns.{OverTurns, stampAt, Follows, InFull, Turns}
-use Rattle.steps.proofs.Integers.{is-pos}
+use Rattle.integers.proofs.Integers.{is-pos}
 use Rattle.steps.proofs.Steps.{leads, modulo}
 
 -- ---- every step is forward: the last stamp is the first, that many ticks on, but for turns of the clock

@@ -1,5 +1,4 @@
 -- What specs/ states is proved in Steps (Six), Split (Halves) and Clock (Turns); Samples has cases by computation.
-pub mod Integers
 pub mod Steps
 pub mod Alike
 pub mod Begins

@@ -17,7 +17,7 @@ use Rattle.ledger.proofs.Steps.{step-reads}
 use Rattle.books.specs.Rule.{step}
 use Rattle.steps.specs.Signed.{numberOf, signed, Stamps, lastStamp, along, lowest, highest, InRange, Modulo}
 use Rattle.steps.specs.Six.{Reads, RuleTakes, AddsUp, AllAddUp, Returns, Six}
-use Rattle.steps.proofs.Integers.{Is, is-pos, is-neg, is-negative, is-sub, same, at-most, across, across-below, differ-alike, is-plus, is-minus, is-times}
+use Rattle.integers.proofs.Integers.{Is, is-pos, is-neg, is-negative, is-sub, same, at-most, across, across-below, differ-alike, is-plus, is-minus, is-times}
 
 -- the number z is p − q, lies within its range, and leads from a to b but for turns of the clock
 pub record Leads (a b : ℕ) (z : ℤ) : Type 0 where

@@ -4,9 +4,9 @@ use mathlib.Core.Path.{_≡_, refl, ap}
 use mathlib.Core.Bool.{Bool, true, false, cond}
 use native.Mathlib.Omega.{arith}
 use native.Mathlib.Nat.{add-mul}
-use lib.Dec.{ltb, leb→le, le→leb, ltb→lt}
+use lib.Dec.{ltb, leb→le, le→leb, ltb→lt, lt→ltb}
 use borrow.Author.Tests.{ltb-true, ltb-false}
-use lib.IntN.{ℤ, pos, negsuc, negℤ, subℕ, _+ℤ_, _-ℤ_, _*ℤ_}
+use lib.IntN.{ℤ, pos, negsuc, negℤ, natAbs, subℕ, _+ℤ_, _-ℤ_, _*ℤ_}
 use lib.Signed.{_≤ℤ_, _<ℤ_}
 
 -- z is p − q
@@ -82,3 +82,35 @@ is-minus x y p q r s e f = is-plus x (negℤ y) p q s r e (is-neg y r s f)
 pub is-times : (x : ℤ) (p q k : ℕ) → Is x p q → Is (x *ℤ pos k) (p * k) (q * k)
 is-times (pos n) p q k e = rw (e, add-mul q n k) refl
 is-times (negsuc n) p q k e = is-neg (pos (suc n * k)) (q * k) (p * k) (rw (← e, add-mul p (suc n) k) refl)
+
+pub below : (x y : ℤ) (p q r s : ℕ) → Is x p q → Is y r s → p + s < r + q → x <ℤ y
+below (pos m) (pos n) p q r s e f h = record { lt = lt→ltb m n (omega arith) }
+below (pos m) (negsuc n) p q r s e f h = absurd (omega arith)
+below (negsuc m) (pos n) p q r s e f h = record { lt = tt }
+below (negsuc m) (negsuc n) p q r s e f h = record { lt = lt→ltb n m (omega arith) }
+
+-- how far it is from zero
+pub is-far : (z : ℤ) (p q : ℕ) → Is z p q → natAbs z ≡ (p - q) + (q - p)
+is-far (pos n) p q e = omega arith
+is-far (negsuc n) p q e = omega arith
+
+-- every integer is such a difference
+unfoldable pub upper : ℤ → ℕ
+upper (pos n) = n
+upper (negsuc n) = 0
+
+unfoldable pub under : ℤ → ℕ
+under (pos n) = 0
+under (negsuc n) = suc n
+
+pub is-of : (z : ℤ) → Is z (upper z) (under z)
+unfolding upper under
+is-of (pos n) = omega arith
+is-of (negsuc n) = omega arith
+
+-- at most each other: the same
+pub both-ways : (x y : ℤ) → x ≤ℤ y → y ≤ℤ x → x ≡ y
+both-ways x y h k =
+    let a = across x y (upper x) (under x) (upper y) (under y) (is-of x) (is-of y) h in
+    let b = across y x (upper y) (under y) (upper x) (under x) (is-of y) (is-of x) k in
+    same x y (upper x) (under x) (upper y) (under y) (is-of x) (is-of y) (omega arith)

@@ -1,0 +1,4 @@
+-- The laws that belong to no one function.
+pub mod Known
+pub mod Told
+pub mod Unique

@@ -1,0 +1,4 @@
+pub mod Word
+pub mod Nearest
+pub mod Answer
+pub mod Inner
