@@ -41,14 +41,14 @@ only-these t x a b n h = apart n (place-else t x a b ∙ place-is h)
 
 module _ (s : List ℕ) (id : ℕ) where
   -- a control block's own numbers end at 15
-  own-number : {k o : ℕ} → FirstBroken s k o → k < 16
+  pub own-number : {k o : ℕ} → FirstBroken s k o → k < 16
   own-number (by-block k g) = omega (arith, head-few s g)
   own-number (by-descriptor k o z f) = omega (arith, rows-few s f)
   own-number (by-13 l o z h r f) = omega arith
   own-number (by-14 l o z h r a f) = omega arith
   own-number (by-15 l o z h r a b f) = omega arith
 
-  own-first : (k o : ℕ) → ControlIs s (refusedBy k o) → FirstBroken s k o
+  pub own-first : (k o : ℕ) → ControlIs s (refusedBy k o) → FirstBroken s k o
   own-first k o c = refused s (refusedBy k o) c k o .0 refl
 
   to-own : {r : Map} → MapIs s id r → (k o : ℕ) → k < 16 → r ≡ refusedMap k o → FirstBroken s k o

@@ -98,7 +98,7 @@ in-table t id i f z e a =
     omega arith
 
 module _ (s : List ℕ) (t : Table) (c : ControlIs s (record { verdict = Accepted; table = t })) where
-  the-list : (l : List Entity) × AcceptedWith s l × (t ≡ tableOf s l)
+  pub the-list : (l : List Entity) × AcceptedWith s l × (t ≡ tableOf s l)
   the-list =
       let x = tables s c refl in
       (x .0, record { entities = x .1; accepted = rw (x .2) at c }, x .2)
@@ -106,18 +106,30 @@ module _ (s : List ℕ) (t : Table) (c : ControlIs s (record { verdict = Accepte
   all-used : used t ≡ the-list .0
   all-used = used-of s t (the-list .0) (the-list .2)
 
-  at-place : (i : ℕ) → entityAt (t .entities) i ≡ entityAt (the-list .0) i
+  pub at-place : (i : ℕ) → entityAt (t .entities) i ≡ entityAt (the-list .0) i
   at-place i = place-of s t (the-list .0) (the-list .2) i
 
   module _ (id : ℕ) (f : Found) (e : f ≡ foundIn t id) where
     here : findFrom 0 (the-list .0) id ≡ f
     here = rw (← all-used) (sym e)
 
-    pub map-nothing : (r : Map) → f ≡ Nothing → r ≡ refusedMap 16 0 → MapIs s id r
-    map-nothing r n q =
+    -- nothing is found: no entity has the ID
+    pub found-none : f ≡ Nothing → (i : ℕ) → i < length (the-list .0) → entityAt (the-list .0) i .id ≡ id → ⊥
+    found-none n i h q =
         let l = the-list .0 in
         let w : First (Carries l id) (length l) (finding.placeOf (length l) Nothing) = rw (here, n) at (found-first l id) in
-        rw q (sixteen l (the-list .1) (λ i n m. w .before i (m .inside) (m .named)))
+        w .before i h q
+
+    -- found at i: the entity there has it
+    pub found-at : (i : ℕ) → f ≡ At i → (i < length (the-list .0)) × (entityAt (the-list .0) i .id ≡ id)
+    found-at i a =
+        let l = the-list .0 in
+        let h : i < length l = found-within l id i (here ∙ a) in
+        let w : First (Carries l id) (length l) i = rw (here, a) at (found-first l id) in
+        (h, w .here h)
+
+    pub map-nothing : (r : Map) → f ≡ Nothing → r ≡ refusedMap 16 0 → MapIs s id r
+    map-nothing r n q = rw q (sixteen (the-list .0) (the-list .1) (λ i p m. found-none n i (m .inside) (m .named)))
 
     module _ (i : ℕ) (a : f ≡ At i) where
       pub map-at : (r : Map) → r ≡ mapBy s (entityAt (t .entities) i) (placeOf (entityAt (t .entities) i)) → MapIs s id r
@@ -129,18 +141,15 @@ module _ (s : List ℕ) (t : Table) (c : ControlIs s (record { verdict = Accepte
           x : Entity
           x = entityAt l i
 
-          inside : i < length l
-          inside = found-within l id i (here ∙ a)
-
-          w : First (Carries l id) (length l) i
-          w = rw (here, a) at (found-first l id)
+          w : (i < length l) × (x .id ≡ id)
+          w = found-at i a
 
           go : (p : Place) → placeOf x ≡ p → MapIs s id (mapBy s x p)
           go places.Nowhere z =
               sixteen l (the-list .1)
-              (λ j n m. let y : j ≡ i = mapped-once s l (the-list .1) id j n i m (w .here inside) inside in
+              (λ j n m. let y : j ≡ i = mapped-once s l (the-list .1) id j n i m (w .1) (w .0) in
               apart n (sym z ∙ has-place x n (rw y at (m .has))))
-          go (places.At n) z = given l (the-list .1) i n (record { inside = inside; named = w .here inside; has = stands (kindOf (x .kind)) (x .terminal) n z })
+          go (places.At n) z = given l (the-list .1) i n (record { inside = w .0; named = w .1; has = stands (kindOf (x .kind)) (x .terminal) n z })
 
 -- ---- by the block's verdict
 pub map-own : (s : List ℕ) (id : ℕ) (c : Control) → ControlIs s c → (k o : ℕ) → c .verdict ≡ Refused k o → (m : Map) → m ≡ refusedMap k o → MapIs s id m

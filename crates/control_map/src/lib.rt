@@ -41,8 +41,8 @@ pub fn controls(block: &[u8], id: u8) -> Map
     }
 }
 
-// The controls in a block that was accepted with this table.
-fn find_controls(s: &[u8], table: Table, id: u8) -> Map
+// Inner: the same in a block that was accepted with this table.
+pub fn find_controls(s: &[u8], table: Table, id: u8) -> Map
     requires { ⌜ ControlIs (now s) (record { verdict = Accepted; table = table }) ⌝ }
     ensures { λ r. ⌜ MapIs (now (s .entry)) id r ⌝ }
 {
