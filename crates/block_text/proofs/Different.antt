@@ -25,7 +25,7 @@ use Rattle.block_lines.proofs.Different.{entity-split, format-split, frame-spli
 use Rattle.probe_lines.proofs.Different.{fields-different}
 use Rattle.block_text.specs.Answers.{refusedText, toldBy, tableText, controlBy, mapBy, listedText, streamingBy, probeText}
 
-abbrev first : List ℕ → ℕ
+abbrev pub first : List ℕ → ℕ
 first l = getD l 0 0
 
 -- the last digit of a revision's line
@@ -33,7 +33,7 @@ abbrev digit : List ℕ → ℕ
 digit l = getD l 11 0
 
 -- ---- a refusal's text tells its number and its offset
-refused-split : (j l n m : ℕ) → refusedText j n ≡ refusedText l m → (j ≡ l) × (n ≡ m)
+pub refused-split : (j l n m : ℕ) → refusedText j n ≡ refusedText l m → (j ≡ l) × (n ≡ m)
 refused-split j l n m e =
     let s : List ℕ = line (bytes " at") (n ∷ []) in
     let t : List ℕ = line (bytes " at") (m ∷ []) in
@@ -47,7 +47,7 @@ not-accepted : (k o : ℕ) → Refused k o ≡ Accepted → ⊥
 not-accepted k o p = let z : _≡_ {A = ℕ} 0 1 = cc in omega arith
 
 -- an accepted text begins otherwise than a refusal, which begins with r
-told-different : (x : ℕ) (v w : Verdict) (a b : List ℕ) → (x ≡ 114 → ⊥) → first a ≡ x → first b ≡ x → toldBy v a ≡ toldBy w b → (v ≡ w) × (v ≡ Accepted → a ≡ b)
+pub told-different : (x : ℕ) (v w : Verdict) (a b : List ℕ) → (x ≡ 114 → ⊥) → first a ≡ x → first b ≡ x → toldBy v a ≡ toldBy w b → (v ≡ w) × (v ≡ Accepted → a ≡ b)
 told-different x Accepted Accepted a b n h k e = (refl, λ p. e)
 told-different x Accepted (Refused l m) a b n h k e = absurd (n (sym h ∙ ap first e))
 told-different x (Refused j i) Accepted a b n h k e = absurd (n (sym (ap first e ∙ k)))

@@ -13,7 +13,7 @@ use Rattle.words.specs.Words.{Entry, table, wordsIn, wordsOf}
 
 -- above every number of the table
 abbrev pub beyond : ℕ
-beyond = 76
+beyond = 96
 
 -- the code's widths: how long the lines of k numbers are, from n on
 abbrev widthsFrom : ℕ → ℕ → List ℕ

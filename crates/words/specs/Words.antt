@@ -66,6 +66,12 @@ table =
     says 73 "the control header names a streaming interface that is not there" ∷
     says 74 "no alternate setting holds this payload size" ∷
     says 75 "there are more than 8 streaming interfaces, or 32 settings of one" ∷
+    says 90 "no processing unit has this ID" ∷
+    says 91 "the processing unit has no such control in its map" ∷
+    says 92 "the minimum is above the maximum" ∷
+    says 93 "the step is 0 or below" ∷
+    says 94 "there is room for fewer than 8 bytes" ∷
+    says 95 "the bytes are no setup packet for this camera and interface" ∷
     []
 
 -- the words end their line; `more` is asked only where the number is another

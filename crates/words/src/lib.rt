@@ -6,7 +6,7 @@ ghost use Rattle.text.specs.Put.{Put};
 ghost use Rattle.words.specs.Words.{wordsOf};
 
 // Numbers from here on have no words.
-const PAST: usize = 76;
+const PAST: usize = 96;
 
 // How long the line of each number is, from 0 on, with its end; 0 where a number has no words.
 const WIDTHS: [u8; PAST] = [
@@ -86,10 +86,30 @@ const WIDTHS: [u8; PAST] = [
     65,
     45,
     66,
+    0,
+    0,
+    0,
+    0,
+    0,
+    0,
+    0,
+    0,
+    0,
+    0,
+    0,
+    0,
+    0,
+    0,
+    31,
+    51,
+    33,
+    23,
+    37,
+    60,
 ];
 
 fn width(n: usize) -> u8
-    requires { ⌜ n < 76 ⌝ }
+    requires { ⌜ n < 96 ⌝ }
     ensures { λ r. ⌜ (r ≡ length (wordsOf n)) × (r ≤ 72) ⌝ }
 {
     WIDTHS[n]
@@ -199,6 +219,25 @@ there are more than 8 streaming interfaces, or 32 settings of one\n......\
     text::put(buf, at, &lines[from..to])
 }
 
+// The line of 90 to 95: camera settings.
+fn setup(buf: &mut [u8], at: usize, n: usize) -> usize
+    requires { ⌜ (at + 72 ≤ length (now buf)) × (90 ≤ n) × (n ≤ 95) ⌝ }
+    ensures { λ r. ⌜ Put (now (buf .entry)) at (wordsOf n) r (now (buf .exit)) ⌝ }
+    ensures { λ r. ⌜ r ≤ at + 72 ⌝ }
+{
+    let lines: &[u8] = b"\
+no processing unit has this ID\n.........................................\
+the processing unit has no such control in its map\n.....................\
+the minimum is above the maximum\n.......................................\
+the step is 0 or below\n.................................................\
+there is room for fewer than 8 bytes\n...................................\
+the bytes are no setup packet for this camera and interface\n............\
+";
+    let from = 72 * (n - 90);
+    let to = from + width(n) as usize;
+    text::put(buf, at, &lines[from..to])
+}
+
 // Inner: a number's line of words, of at most 72 bytes; nothing of a number that has none.
 pub fn put(buf: &mut [u8], at: usize, number: u8) -> usize
     requires { ⌜ at + 72 ≤ length (now buf) ⌝ }
@@ -211,6 +250,7 @@ pub fn put(buf: &mut [u8], at: usize, number: u8) -> usize
         20..=40 => streaming(buf, at, n),
         41..=46 => probe(buf, at, n),
         70..=75 => configuration(buf, at, n),
+        90..=95 => setup(buf, at, n),
         _ => at,
     }
 }

@@ -16,6 +16,9 @@ probe-requires c κs = search needs
 configuration-requires : tie.Need-configuration-requires
 configuration-requires c κs = search needs
 
+setup-requires : tie.Need-setup-requires
+setup-requires c κs = search needs
+
 same-length : tie.Need-same-length
 same-length c = search needs
 
@@ -40,17 +43,26 @@ same-length-4 c = search needs
 returns-4 : tie.Need-returns-4
 returns-4 c = search needs
 
+same-length-5 : tie.Need-same-length-5
+same-length-5 c = search needs
+
 returns-5 : tie.Need-returns-5
-returns-5 c = (none-other _ _ _ (omega arith) (λ a b. omega arith) (λ a b. omega arith) (λ a b. omega arith), omega arith)
+returns-5 c = search needs
 
 returns-6 : tie.Need-returns-6
-returns-6 c = (none-other _ _ _ (omega arith) (λ a b. omega arith) (λ a b. omega arith) (λ a b. omega arith), omega arith)
+returns-6 c = (none-other _ _ _ (omega arith) (λ a b. omega arith) (λ a b. omega arith) (λ a b. omega arith) (λ a b. omega arith), omega arith)
 
 returns-7 : tie.Need-returns-7
-returns-7 c = (none-other _ _ _ (omega arith) (λ a b. omega arith) (λ a b. omega arith) (λ a b. omega arith), omega arith)
+returns-7 c = (none-other _ _ _ (omega arith) (λ a b. omega arith) (λ a b. omega arith) (λ a b. omega arith) (λ a b. omega arith), omega arith)
 
 returns-8 : tie.Need-returns-8
-returns-8 c = (none-other _ _ _ (omega arith) (λ a b. omega arith) (λ a b. omega arith) (λ a b. omega arith), omega arith)
+returns-8 c = (none-other _ _ _ (omega arith) (λ a b. omega arith) (λ a b. omega arith) (λ a b. omega arith) (λ a b. omega arith), omega arith)
+
+returns-9 : tie.Need-returns-9
+returns-9 c = (none-other _ _ _ (omega arith) (λ a b. omega arith) (λ a b. omega arith) (λ a b. omega arith) (λ a b. omega arith), omega arith)
+
+returns-10 : tie.Need-returns-10
+returns-10 c = (none-other _ _ _ (omega arith) (λ a b. omega arith) (λ a b. omega arith) (λ a b. omega arith) (λ a b. omega arith), omega arith)
 
 pub put-spec : {M : Type 1} → statement M
 put-spec =
@@ -60,6 +72,7 @@ put-spec =
     streaming-requires
     probe-requires
     configuration-requires
+    setup-requires
     same-length
     returns
     same-length-2
@@ -68,7 +81,10 @@ put-spec =
     returns-3
     same-length-4
     returns-4
+    same-length-5
     returns-5
     returns-6
     returns-7
-    returns-8)
+    returns-8
+    returns-9
+    returns-10)
