@@ -1,27 +1,27 @@
 // `describe setting FILE INTERFACE PAYLOAD`: the setting that is picked, or a refusal.
+use arguments::Number;
 use console::files;
 use console::print;
 
 // The largest interface number, and the largest payload size.
-const INTERFACE: u64 = 255;
+const INTERFACE: u32 = 255;
 
-const PAYLOAD: u64 = 4294967295;
+const PAYLOAD: u32 = 4294967295;
 
 pub fn describe(which: usize, first: usize, second: usize) {
     let mut text = [0u8; 16];
     let k = os::arg(first, &mut text);
-    let interface = digits::number(&text[..k], INTERFACE);
+    let interface = interface_of(&text[..k]);
     if INTERFACE < interface {
         print::problem(b"INTERFACE: not a decimal number from 0 to 255\n");
         return;
     }
     let mut word = [0u8; 16];
     let m = os::arg(second, &mut word);
-    let payload = digits::number(&word[..m], PAYLOAD);
-    if PAYLOAD < payload {
+    let Number::Is(payload) = arguments::read(&word[..m], PAYLOAD) else {
         print::problem(b"PAYLOAD: not a decimal number from 0 to 4,294,967,295\n");
         return;
-    }
+    };
     let mut buf = [0u8; 32769];
     let file = files::load(which, &mut buf);
     let n = file.count;
@@ -29,8 +29,16 @@ pub fn describe(which: usize, first: usize, second: usize) {
         return;
     }
     let mut lines = [0u8; configuration_text::ROOM];
-    let p = picking::pick(&buf[..n], interface as u8, payload as u32);
+    let p = picking::pick(&buf[..n], interface as u8, payload);
     let verdict = p.verdict;
     let j = configuration_text::picked(&mut lines, p);
     print::answer(&lines[..j], block_text::is_accepted(verdict));
+}
+
+// The number that decimal digits spell, or 256 for anything but a number from 0 to 255.
+fn interface_of(digits: &[u8]) -> u32 {
+    match arguments::read(digits, INTERFACE) {
+        Number::Is(n) => n,
+        Number::None => INTERFACE + 1,
+    }
 }

@@ -1,22 +1,19 @@
 use native.Mathlib.Omega.{arith}
 use Prim.Native.Nat.{_-_}
 use lib.ListN.{length}
-use Rattle.digits.proofs.Spelling.{Spelling, no-digits, spelling, below-digits, above-digits, too-large, one-more, spelt-all}
+use Rattle.arguments.proofs.Spelling.{Spelling, no-digits, spelling, below-digits, above-digits, too-large, one-more, spelt-all}
 use borrow.Author.Needs.{needs}
-use Rattle.digits.proofs.number.Statement.{statement}
-use Rattle.digits.proofs.number.Tie as tie
+use Rattle.arguments.proofs.read.Statement.{statement}
+use Rattle.arguments.proofs.read.Tie as tie
 
 abbrev Inv-loop : tie.InvT-loop
-Inv-loop digits most wrong value₀ i₀ value i = Spelling most digits value i
+Inv-loop word most value₀ i₀ value i = Spelling most word value i
 
 abbrev μ-loop : tie.MeasureT-loop
-μ-loop digits most wrong value₀ i₀ value i = length digits - i
-
-add-wrong : tie.Need-add-wrong Inv-loop μ-loop
-add-wrong c = search needs
+μ-loop word most value₀ i₀ value i = length word - i
 
 returns : tie.Need-returns Inv-loop μ-loop
-returns c = (no-digits _ _ (c .if1 .taken), omega arith)
+returns c = no-digits _ _ (c .if1 .taken)
 
 loop-holds : tie.Need-loop-holds Inv-loop μ-loop
 loop-holds c = spelling _ _ (c .if1 .left)
@@ -25,22 +22,22 @@ shared-slice-read-d : tie.Need-shared-slice-read-d Inv-loop μ-loop
 shared-slice-read-d c = search needs
 
 returns-2 : tie.Need-returns-2 Inv-loop μ-loop
-returns-2 c = (below-digits _ _ _ _ (c .before .before .before .loop .inv) (omega arith) (c .if2 .taken), omega arith)
+returns-2 c = below-digits _ _ _ _ (c .before .before .before .loop .inv) (omega arith) (c .if2 .taken)
 
 returns-3 : tie.Need-returns-3 Inv-loop μ-loop
-returns-3 c = (above-digits _ _ _ _ (c .before .before .before .before .loop .inv) (omega arith) (omega arith) (omega arith), omega arith)
+returns-3 c = above-digits _ _ _ _ (c .before .before .before .before .loop .inv) (omega arith) (omega arith) (omega arith)
 
 mul-value : tie.Need-mul-value Inv-loop μ-loop
-mul-value c = omega (arith, c .before .before .before .before .loop .inv .low)
+mul-value c = search needs
 
 cast-value : tie.Need-cast-value Inv-loop μ-loop
 cast-value c = search needs
 
 add-value : tie.Need-add-value Inv-loop μ-loop
-add-value c = omega (arith, c .before .before .before .before .loop .inv .low)
+add-value c = search needs
 
 returns-4 : tie.Need-returns-4 Inv-loop μ-loop
-returns-4 c = (too-large _ _ _ _ (c .before .before .before .before .before .loop .inv) (omega arith) (omega arith) (omega arith) (omega arith), omega arith)
+returns-4 c = too-large _ _ _ _ (c .before .before .before .before .before .loop .inv) (omega arith) (omega arith) (omega arith) (omega arith)
 
 add-i : tie.Need-add-i Inv-loop μ-loop
 add-i c = search needs
@@ -51,16 +48,18 @@ loop-less c = search needs
 loop-again : tie.Need-loop-again Inv-loop μ-loop
 loop-again c = one-more _ _ _ _ (c .before .before .before .before .before .loop .inv) (omega arith) (omega arith) (omega arith) (omega arith)
 
-returns-5 : tie.Need-returns-5 Inv-loop μ-loop
-returns-5 c = (spelt-all _ _ _ _ (c .before .loop .inv) (omega arith), omega (arith, c .before .loop .inv .low))
+cast-t14 : tie.Need-cast-t14 Inv-loop μ-loop
+cast-t14 c = search needs
 
-pub number-spec : {M : Type 1} → statement M
-number-spec =
+returns-5 : tie.Need-returns-5 Inv-loop μ-loop
+returns-5 c = spelt-all _ _ _ _ (c .before .loop .inv) (omega arith)
+
+pub read-spec : {M : Type 1} → statement M
+read-spec =
     tie.close
     (tie.spec
     Inv-loop
     μ-loop
-    add-wrong
     returns
     loop-holds
     shared-slice-read-d
@@ -73,4 +72,5 @@ number-spec =
     add-i
     loop-less
     loop-again
+    cast-t14
     returns-5)

@@ -1,3 +1,0 @@
--- The laws of digits.
-pub mod Spelling
-pub mod Unique

@@ -1,0 +1,70 @@
+// The words of the call. What is wrong with one is a line on standard error.
+use arguments::Number;
+use camera_settings::Request;
+use camera_settings::RequestFound;
+use camera_settings::Setting;
+use camera_settings::SettingFound;
+use console::print;
+use libc::STDERR_FILENO;
+
+// No number of 8 bits, and none of 16.
+pub const NO_BYTE: u32 = 256;
+
+pub const NO_WORD: u32 = 65536;
+
+// Argument `which` as a number from 0 to 255, or 256 where it is none and a line says so.
+pub fn byte(which: usize, name: &[u8]) -> u32 {
+    let mut text = [0u8; 16];
+    let k = os::arg(which, &mut text);
+    let Number::Is(n) = arguments::read(&text[..k], 255) else {
+        wrong(name, b": not a decimal number from 0 to 255\n");
+        return NO_BYTE;
+    };
+    n
+}
+
+// Argument `which` as the word of a number of the setting, or 65,536 where it is none and a line says so.
+pub fn word(which: usize, name: &[u8], setting: Setting) -> u32 {
+    let mut text = [0u8; 16];
+    let k = os::arg(which, &mut text);
+    let Number::Is(n) = setup_arguments::word_of(setting, &text[..k]) else {
+        outside(name, setting);
+        return NO_WORD;
+    };
+    n
+}
+
+// Argument `which` as the name of a setting.
+pub fn setting(which: usize) -> SettingFound {
+    let mut text = [0u8; 16];
+    let k = os::arg(which, &mut text);
+    setup_arguments::setting_named(&text[..k])
+}
+
+// Argument `which` as the name of a request.
+pub fn request(which: usize) -> RequestFound {
+    let mut text = [0u8; 16];
+    let k = os::arg(which, &mut text);
+    setup_arguments::request_named(&text[..k])
+}
+
+pub fn no_setting() {
+    print::problem(b"CONTROL: not brightness, contrast, hue or saturation\n");
+}
+
+pub fn no_request() {
+    print::problem(b"REQUEST: not get_cur, get_min, get_max, get_res, get_def or set_cur\n");
+}
+
+fn outside(name: &[u8], setting: Setting) {
+    if camera_settings::is_signed(setting) {
+        wrong(name, b": not a decimal number from -32768 to 32767\n");
+    } else {
+        wrong(name, b": not a decimal number from 0 to 65535\n");
+    }
+}
+
+fn wrong(name: &[u8], line: &[u8]) {
+    io::write_all(STDERR_FILENO, name);
+    print::problem(line);
+}
