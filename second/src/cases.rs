@@ -13,6 +13,9 @@
 //!   T calls      four bytes frame size, four bytes payload size, byte framing, part buffer, four bytes number of calls, and each call:
 //!                byte 0 and part transfer, byte 1 (lost), byte 2 (close)
 //!   F forged     session record, part buffer, part transfer
+//!   U settings   byte 0 build: part control block, bytes interface, unit, setting and request (places of their names), part room
+//!                byte 1 read: part control block, byte interface, part bytes
+//!                byte 2 nearest: byte setting, two bytes each minimum, maximum, step and wanted
 //! The record: eight bytes frame size, eight bytes payload size, byte framing, byte closed, four bytes taken, the phase, byte gap, 31 numbers of eight
 //! bytes, the last stamp. A stamp: byte present and four bytes. The phase: byte 0 fresh; 1 under way and byte FID, byte fault (0 none,
 //! 1 gap to 6 empty), eight bytes data so far, eight bytes fill, the stamp, byte still; 2 past a frame and byte FID.
@@ -21,6 +24,7 @@ use crate::configuration;
 use crate::control::{self, Revision};
 use crate::frames::Call;
 use crate::session::{self, Phase, Record};
+use crate::setup::{self, REQUESTS, SETTINGS};
 use crate::streaming::{self, Place, Table};
 use crate::Refusal;
 use std::fmt::Write;
@@ -37,6 +41,9 @@ pub enum Case {
     Pick(Vec<u8>, u8, u32),
     Calls { frame: u32, payload: u32, framing: u8, buffer: Vec<u8>, calls: Vec<Call> },
     Forged(Record, Vec<u8>, Vec<u8>),
+    Build { control: Vec<u8>, interface: u8, unit: u8, setting: usize, request: usize, room: Vec<u8> },
+    ReadBack(Vec<u8>, u8, Vec<u8>),
+    Nearest(usize, [u16; 4]),
 }
 
 fn part(out: &mut Vec<u8>, bytes: &[u8]) {
@@ -85,6 +92,7 @@ impl Case {
             Case::Pick(..) => 'K',
             Case::Calls { .. } => 'T',
             Case::Forged(..) => 'F',
+            Case::Build { .. } | Case::ReadBack(..) | Case::Nearest(..) => 'U',
         }
     }
 
@@ -157,6 +165,22 @@ impl Case {
                 part(&mut out, buffer);
                 part(&mut out, transfer);
             }
+            Case::Build { control, interface, unit, setting, request, room } => {
+                out.push(0);
+                part(&mut out, control);
+                out.extend([*interface, *unit, *setting as u8, *request as u8]);
+                part(&mut out, room);
+            }
+            Case::ReadBack(control, interface, bytes) => {
+                out.push(1);
+                part(&mut out, control);
+                out.push(*interface);
+                part(&mut out, bytes);
+            }
+            Case::Nearest(setting, words) => {
+                out.extend([2, *setting as u8]);
+                out.extend(words.iter().flat_map(|w| w.to_le_bytes()));
+            }
         }
         out
     }
@@ -182,6 +206,16 @@ impl Case {
             },
             Case::Calls { frame, payload, framing, buffer, calls } => session::calls(*frame, *payload, *framing, buffer, calls),
             Case::Forged(r, buffer, transfer) => session::forged(r, buffer, transfer),
+            Case::Build { control, interface, unit, setting, request, room } => {
+                let mut room = room.clone();
+                let built = setup::build(control, *interface, *unit, SETTINGS[*setting], REQUESTS[*request], &mut room);
+                format!("{}room {}\n", verdict("build", &built), session::hex(&room))
+            }
+            Case::ReadBack(control, interface, bytes) => match setup::read(control, *interface, bytes) {
+                Ok((unit, setting, request)) => format!("read {}", asked(unit, setting, request)),
+                Err(r) => format!("read refused {} at {}\n", r.number, r.offset),
+            },
+            Case::Nearest(setting, words) => nearest_answer(SETTINGS[*setting], words),
         }
     }
 }
@@ -191,6 +225,18 @@ fn verdict<T>(name: &str, v: &Result<T, Refusal>) -> String {
         Ok(_) => format!("{name} accepted\n"),
         Err(r) => format!("{name} refused {} at {}\n", r.number, r.offset),
     }
+}
+
+/// The line of what a packet asks for.
+pub fn asked(unit: u8, setting: &str, request: &str) -> String {
+    format!("unit {unit} control {setting} request {request}\n")
+}
+
+fn nearest_answer(setting: &str, words: &[u16; 4]) -> String {
+    let [minimum, maximum, step, wanted] = words.map(|w| setup::number(setting, w));
+    let read = setup::nearest(minimum, maximum, step, wanted);
+    let n = *read.as_ref().unwrap_or(&0);
+    format!("{}word {}\nnumber {n}\n", verdict("nearest", &read), n.rem_euclid(65_536))
 }
 
 /// The line of a unit's controls.

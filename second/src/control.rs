@@ -130,7 +130,10 @@ fn shape(d: &[u8], offset: usize, revision: Revision) -> Option<Shape> {
             if !revision.allows(size) || n != 8 + size + revision.behind() {
                 return None;
             }
-            Some(Shape::Entity(Entity { id: d[3], kind: 5, terminal: 0, offset, sources: vec![d[4]], map: Some(d[8..8 + size].to_vec()) }, None))
+            Some(Shape::Entity(
+                Entity { id: d[3], kind: 5, terminal: 0, offset, sources: vec![d[4]], map: Some(d[8..8 + size].to_vec()) },
+                None,
+            ))
         }
         6 => {
             let p = byte(21)? as usize;

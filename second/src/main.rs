@@ -17,6 +17,7 @@ mod printed;
 mod programs;
 mod random;
 mod session;
+mod setup;
 mod streaming;
 
 /// Why a reader refuses, and where.

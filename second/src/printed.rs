@@ -1,9 +1,10 @@
-//! What the ledger program and `describe` print, and their status: from document 01, and the words from docs/NUMBERS.md.
+//! What the ledger program, `describe` and `setup` print, and their status: from document 01, and the words from docs/NUMBERS.md.
 
-use crate::cases::{controls, table};
+use crate::cases::{asked, controls, table};
 use crate::configuration;
 use crate::control;
 use crate::frames::{judge, ledger, Call, Opening};
+use crate::setup::{self, REQUESTS, SETTINGS};
 use crate::streaming;
 use crate::Refusal;
 use std::fmt::Write;
@@ -17,6 +18,15 @@ pub struct Printed {
 
 fn answered(text: String) -> Printed {
     Printed { text, status: 0 }
+}
+
+fn wrong() -> Printed {
+    Printed { text: String::new(), status: 2 }
+}
+
+/// A decimal number from 0 to 255.
+fn small(word: &str) -> Option<u8> {
+    word.parse().ok().filter(|_| word.bytes().all(|b| b.is_ascii_digit()))
 }
 
 /// Each number with its words, from the tables of docs/NUMBERS.md.
@@ -61,6 +71,45 @@ impl Words {
         match id.parse::<u8>() {
             Ok(id) if digits => self.told(control::map(block, id).map(|bytes| controls(&bytes))),
             _ => Printed { text: String::new(), status: 2 },
+        }
+    }
+
+    /// `setup build`: interface, unit, setting and request are words.
+    pub fn build(&self, block: &[u8], words: [&str; 4]) -> Printed {
+        let [interface, unit, setting, request] = words;
+        match (small(interface), small(unit)) {
+            (Some(interface), Some(unit)) if SETTINGS.contains(&setting) && REQUESTS.contains(&request) => {
+                let bytes = |p: Vec<u8>| p.iter().map(|b| format!(" {b}")).collect::<String>();
+                self.told(setup::packet(block, interface, unit, setting, request).map(|p| format!("packet{}\n", bytes(p))))
+            }
+            _ => wrong(),
+        }
+    }
+
+    /// `setup read`.
+    pub fn read_back(&self, block: &[u8], interface: &str, bytes: &[u8]) -> Printed {
+        match small(interface) {
+            Some(i) => self.told(setup::read(block, i, bytes).map(|(u, c, q)| asked(u, c, q))),
+            None => wrong(),
+        }
+    }
+
+    /// `setup nearest`: the numbers are words, and each must be one of the setting's type.
+    pub fn nearest(&self, setting: &str, words: [&str; 4]) -> Printed {
+        if !SETTINGS.contains(&setting) {
+            return wrong();
+        }
+        let (lowest, highest) = setup::span(setting);
+        let number = |w: &str| {
+            let digits = if lowest < 0 { w.strip_prefix('-').unwrap_or(w) } else { w };
+            let plain = !digits.is_empty() && digits.bytes().all(|b| b.is_ascii_digit());
+            w.parse::<i64>().ok().filter(|n| plain && (lowest..=highest).contains(n))
+        };
+        match words.map(number) {
+            [Some(minimum), Some(maximum), Some(step), Some(wanted)] => {
+                self.told(setup::nearest(minimum, maximum, step, wanted).map(|n| format!("number {n}\n")))
+            }
+            _ => wrong(),
         }
     }
 

@@ -6,6 +6,7 @@ use crate::configurations;
 use crate::frames::Call;
 use crate::printed::{self, Printed, Words, RECORD};
 use crate::random::{self, Random};
+use crate::setup::{self, REQUESTS, SETTINGS};
 use std::collections::BTreeMap;
 use std::io::Write;
 use std::path::Path;
@@ -92,13 +93,56 @@ fn large(r: &mut Random) -> String {
     r.pick(&["", "4294967295", "4294967296", "99999999999", "-1", "1e3", "0", "0000000000000001", "00000000000000001", "3072x"]).to_string()
 }
 
+/// Now and then another word than the one that is meant.
+fn or(r: &mut Random, word: String, others: &[&str]) -> String {
+    if r.once_in(30) {
+        r.pick(others).to_string()
+    } else {
+        word
+    }
+}
+
+/// A run of `setup`.
+fn setting(r: &mut Random, said: &Words) -> Run {
+    let names = ["", "gain", "Hue", "brightness ", "get_cur", "contrastcontrast", "set_curr"];
+    let run = |words: &[&str], files, wanted| Run { words: named(&[&["setup"], words].concat()), files, pieces: vec![], wanted };
+    match r.below(3) {
+        0 => {
+            let (block, interface, unit, setting, request) = random::asked(r);
+            let interface = or(r, interface.to_string(), &["", "256", "-1", "0x1"]);
+            let unit = or(r, unit.to_string(), &["", "256", "999", "1a"]);
+            let setting = or(r, SETTINGS[setting].to_string(), &names);
+            let request = or(r, REQUESTS[request].to_string(), &names);
+            let wanted = said.build(&block, [&interface, &unit, &setting, &request]);
+            run(&["build", "control", &interface, &unit, &setting, &request], vec![("control", block)], wanted)
+        }
+        1 => {
+            let it = random::asked(r);
+            let bytes = random::packet(r, &it);
+            let interface = or(r, it.1.to_string(), &["", "256", "9", "+0"]);
+            let wanted = said.read_back(&it.0, &interface, &bytes);
+            run(&["read", "control", &interface, "packet"], vec![("control", it.0), ("packet", bytes)], wanted)
+        }
+        _ => {
+            let setting = SETTINGS[r.below(4)];
+            let words = random::range(r).map(|w| setup::number(setting, w).to_string());
+            let edges = ["70000", "-32769", "32768", "65536", "-1", "", "-", "1-", "007", "--1", "-0", "+5"];
+            let words = words.map(|w| or(r, w, &edges));
+            let setting = or(r, setting.to_string(), &names);
+            let words = [&words[0][..], &words[1], &words[2], &words[3]];
+            let wanted = said.nearest(&setting, words);
+            run(&[&["nearest", &setting[..]], &words[..]].concat(), vec![], wanted)
+        }
+    }
+}
+
 fn named(words: &[&str]) -> Vec<String> {
     words.iter().map(|w| w.to_string()).collect()
 }
 
 fn run(r: &mut Random, said: &Words) -> Run {
     let describe = |words: &[&str], files, wanted| Run { words: named(&[&["describe"], words].concat()), files, pieces: vec![], wanted };
-    match r.below(13) {
+    match r.below(17) {
         10 | 11 => {
             let s = configurations::maybe_damaged(r);
             let wanted = said.configuration(&s);
@@ -111,6 +155,7 @@ fn run(r: &mut Random, said: &Words) -> Run {
             let wanted = said.setting(&s, &number, &payload);
             describe(&["setting", "camera", &number, &payload], vec![("camera", s)], wanted)
         }
+        13..=16 => setting(r, said),
         0..=3 => {
             let bytes = trace(r);
             let wanted = printed::trace(&bytes);

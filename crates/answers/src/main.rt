@@ -12,6 +12,10 @@
 //   T calls      four bytes frame size, four bytes payload size, byte framing, part buffer, four bytes number of calls, and each call:
 //                byte 0 and part transfer, byte 1 (lost), byte 2 (close)
 //   F forged     session record (forged.rt), part buffer, part transfer: which of take, lost and close are refused on this record
+//   U settings   byte 0 build: part control block, bytes interface, unit, setting (0 brightness, 1 contrast, 2 hue, 3 saturation), request
+//                (0 get_cur, 1 get_min, 2 get_max, 3 get_res, 4 get_def, 5 set_cur), part room
+//                byte 1 read: part control block, byte interface, part bytes
+//                byte 2 nearest: byte setting, two bytes each minimum, maximum, step and wanted
 // A case that is cut short, a part that is too long and an unknown kind end the run with one line.
 mod calls;
 mod forged;
@@ -33,6 +37,7 @@ fn case(kind: u8) -> bool {
         b'K' => configuration_cases::pick(),
         b'T' => calls::run(),
         b'F' => forged::run(),
+        b'U' => setup_cases::run(),
         _ => {
             print::text(b"unknown kind\n");
             false

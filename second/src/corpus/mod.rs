@@ -5,6 +5,7 @@ mod calls;
 mod configurations;
 mod documents;
 mod records;
+mod settings;
 mod streams;
 
 use crate::blocks::descriptor;
@@ -14,7 +15,7 @@ use crate::random::{self, Random};
 use std::collections::BTreeSet;
 
 /// With the chosen cases, so many are stored.
-const CASES: usize = 2_400;
+const CASES: usize = 3_100;
 
 /// The seed of the random ones.
 const SEED: u64 = 15;
@@ -44,7 +45,7 @@ fn covered(answers: &[String]) -> Result<(), String> {
     for line in answers.iter().flat_map(|a| a.lines()) {
         let words: Vec<&str> = line.split(' ').collect();
         for pair in words.windows(2) {
-            if ["refused", "unreadable", "ended", "closed", "fate", "dropped", "handed"].contains(&pair[0]) {
+            if ["refused", "unreadable", "ended", "closed", "fate", "dropped", "handed", "control", "request"].contains(&pair[0]) {
                 seen.insert(pair.join(" "));
             }
             if pair[1] == "accepted" {
@@ -52,7 +53,7 @@ fn covered(answers: &[String]) -> Result<(), String> {
             }
         }
     }
-    let numbers = (1..=16).chain(20..=47).chain(50..=53).chain([55]).chain(70..=75);
+    let numbers = (1..=16).chain(20..=47).chain(50..=53).chain([55]).chain(70..=75).chain(90..=95);
     let mut wanted: Vec<String> = numbers.map(|n| format!("refused {n}")).collect();
     wanted.extend((61..=66).map(|n| format!("unreadable {n}")));
     wanted.extend(["idle", "kept", "stray", "delivered", "still", "dropped", "unreadable"].map(|f| format!("fate {f}")));
@@ -60,7 +61,9 @@ fn covered(answers: &[String]) -> Result<(), String> {
     wanted.extend(["none", "gap", "error", "clock", "mixed", "long", "cut", "empty"].map(|f| format!("ended {f}")));
     wanted.extend(["delivered", "still"].map(|f| format!("handed {f}")));
     wanted.extend(["none", "gap", "error", "clock", "mixed", "long", "cut"].map(|f| format!("closed {f}")));
-    wanted.extend(["control", "streaming", "check", "probe", "write", "configuration"].map(|f| format!("{f} accepted")));
+    wanted.extend(["control", "streaming", "check", "probe", "write", "configuration", "build", "nearest"].map(|f| format!("{f} accepted")));
+    wanted.extend(crate::setup::SETTINGS.map(|s| format!("control {s}")));
+    wanted.extend(crate::setup::REQUESTS.map(|q| format!("request {q}")));
     let missing: Vec<String> = wanted.into_iter().filter(|w| !seen.contains(w)).collect();
     if missing.is_empty() {
         Ok(())
@@ -76,6 +79,7 @@ fn chosen() -> Vec<Case> {
     all.extend(documents::all());
     all.extend(calls::all());
     all.extend(records::all());
+    all.extend(settings::all());
     all
 }
 
