@@ -61,7 +61,8 @@ fn covered(answers: &[String]) -> Result<(), String> {
     wanted.extend(["none", "gap", "error", "clock", "mixed", "long", "cut", "empty"].map(|f| format!("ended {f}")));
     wanted.extend(["delivered", "still"].map(|f| format!("handed {f}")));
     wanted.extend(["none", "gap", "error", "clock", "mixed", "long", "cut"].map(|f| format!("closed {f}")));
-    wanted.extend(["control", "streaming", "check", "probe", "write", "configuration", "build", "nearest"].map(|f| format!("{f} accepted")));
+    wanted
+        .extend(["control", "streaming", "check", "probe", "write", "configuration", "build", "nearest"].map(|f| format!("{f} accepted")));
     wanted.extend(crate::setup::SETTINGS.map(|s| format!("control {s}")));
     wanted.extend(crate::setup::REQUESTS.map(|q| format!("request {q}")));
     let missing: Vec<String> = wanted.into_iter().filter(|w| !seen.contains(w)).collect();
