@@ -5,10 +5,9 @@ use mathlib.Core.List.{List}
 use native.Mathlib.Omega.{arith}
 use Rattle.rules.specs.declared.Verdict.{Verdict}
 use Rattle.rules.specs.declared.Verdict.the-variants.{Accepted, Refused}
-use Rattle.control.specs.declared.Control.{Control}
 use Rattle.control.proofs.Unique as control
 use Rattle.interfaces.specs.Blocks.{blockOf}
-use Rattle.configuration.specs.Answer.{lateBy, LateIs, controlPlace, refusedBy, acceptedWith, ConfigurationIs, laid, blocks, sound}
+use Rattle.configuration.specs.Answer.{lateBy, LateIs, controlPlace, refusedBy, ConfigurationIs, laid, blocks, sound}
 use Rattle.configuration.specs.declared.Configuration.{Configuration}
 
 apart : (v : Verdict) (k o : ℕ) → v ≡ Refused k o → v ≡ Accepted → ⊥

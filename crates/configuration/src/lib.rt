@@ -2,11 +2,9 @@
 ghost use mathlib.Core.Path.{_≡_};
 ghost use Prim.Native.Nat.{_+_, _≤_, _<_};
 ghost use lib.ListN.{length};
-ghost use Rattle.rules.specs.declared.Verdict.the-variants.{Accepted};
-ghost use Rattle.interfaces.specs.Blocks.{blockStart, blockEnd, blockOf, noStream, listedIn};
+ghost use Rattle.interfaces.specs.Blocks.{listedIn};
 ghost use Rattle.streaming.specs.Answer.{streamingOf};
-ghost use Rattle.layout.specs.Answer.{layoutOf};
-ghost use Rattle.configuration.specs.Answer.{entriesNamed, streamsBy, blockVerdict, LateIs, noBlock, refusedBy, ConfigurationIs};
+ghost use Rattle.configuration.specs.Answer.{entriesNamed, streamsBy, blockVerdict, LateIs, refusedBy, ConfigurationIs};
 use configuration_rules::Sought;
 use entities::Table;
 use interfaces::Block;

@@ -1,5 +1,5 @@
 -- The loops that print: the settings of a stream, and the streams.
-use mathlib.Core.Path.{_≡_, refl, sym, ap, _∙_}
+use mathlib.Core.Path.{_≡_, sym, ap, _∙_}
 use mathlib.Core.List.{List}
 use Prim.Native.Nat.{ℕ, _+_, _*_, _≤_, _<_}
 use native.Mathlib.Omega.{arith}
@@ -14,7 +14,6 @@ use Rattle.block_lines.specs.Lines.{lineMost}
 use Rattle.settings.specs.Settings.{kthOf}
 use Rattle.settings.specs.Holding.{noSetting}
 use Rattle.settings.specs.declared.Setting.{Setting}
-use Rattle.settings.specs.declared.Choice.{Choice}
 use Rattle.settings.specs.declared.Choice.the-variants.{At, Nothing}
 use Rattle.settings.proofs.Order.{kth-at, kth-past}
 use Rattle.configuration_text.specs.Texts.{settingLine}

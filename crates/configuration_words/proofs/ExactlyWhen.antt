@@ -1,14 +1,13 @@
 -- A configuration is accepted exactly when no rule is broken, and refused by k at o exactly when k is the first broken rule, at the first place that breaks it.
-use Prim.Native.Nat.{ℕ, zero, suc, _+_, _≤_, _<_}
+use Prim.Native.Nat.{ℕ, _+_, _<_}
 use mathlib.Core.Path.{_≡_, refl, sym, ap, _∙_}
 use mathlib.Core.List.{List, [], _∷_}
 use mathlib.Core.Bool.{Bool, true, false}
-use mathlib.Core.Logic.{_⊎_, ⊎-elim, _↔_}
+use mathlib.Core.Logic.{⊎-elim, _↔_}
 use lib.ListN.{length, getD}
 use native.Mathlib.Omega.{arith}
 use native.Mathlib.Nat.{eq-or-lt-of-le}
 use Rattle.rules.specs.Pick.{pick}
-use Rattle.rules.specs.First.{First}
 use Rattle.rules.specs.Verdicts.{_andThen_}
 use Rattle.rules.specs.declared.Verdict.{Verdict}
 use Rattle.rules.specs.declared.Verdict.the-variants.{Accepted, Refused}
@@ -31,7 +30,6 @@ use Rattle.configuration_rules.proofs.Deciding as deciding
 use Rattle.interfaces.specs.Line.{found, headOr, nextOf}
 use Rattle.interfaces.specs.Blocks.{blockStart, blockOf, listedIn, streamsOf}
 use Rattle.layout.specs.Answer.{layoutOf}
-use Rattle.layout.specs.Words.{Lists}
 use Rattle.layout.specs.Broken.{Laid}
 use Rattle.layout.proofs.Walked.{lists}
 use Rattle.layout.proofs.ExactlyWhen as layout

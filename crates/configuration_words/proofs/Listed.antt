@@ -1,11 +1,10 @@
 -- What an accepted configuration lists is what its descriptors say, and so are the settings of an interface.
-use Prim.Native.Nat.{ℕ, zero, suc, _+_, _-_, _≤_, _<_}
-use mathlib.Core.Path.{_≡_, refl, sym, ap, _∙_}
-use mathlib.Core.List.{List, [], _∷_, map}
-use mathlib.Core.Bool.{Bool, true, false, true≢false}
+use Prim.Native.Nat.{ℕ, _+_, _-_, _≤_, _<_}
+use mathlib.Core.Path.{_≡_, refl, sym, _∙_}
+use mathlib.Core.List.{List}
 use mathlib.Core.Logic.{_⊎_, inl, inr, ⊎-elim}
-use lib.ListN.{length, take, drop, getD, length-map, length-take, length-drop, List·getD-eq-default}
-use lib.Seq.{getD-take, getD-drop, take-all}
+use lib.ListN.{length, drop, getD, length-map, length-take, length-drop, List·getD-eq-default}
+use lib.Seq.{getD-take, getD-drop}
 use lib.Dec.{eqb}
 use borrow.Author.Tests.{eq-eqb, ne-eqb}
 use native.Mathlib.Omega.{arith}
@@ -13,28 +12,25 @@ use Rattle.rules.specs.Pick.{pick}
 use Rattle.rules.specs.Walk.{Clean}
 use Rattle.rules.specs.declared.Verdict.the-variants.{Accepted, Refused}
 use Rattle.rules.proofs.Firsts.{lt-or-ge}
-use Rattle.rules.proofs.Padded.{pad-at}
-use Rattle.blocks.specs.Blocks.{lenAt}
 use Rattle.streaming_rules.proofs.Fine.{head-sizes}
 use Rattle.streaming.specs.Answer.{endpointOf}
-use Rattle.configuration_rules.specs.Descriptors.{interfaceType, endpointType, typeAt, afterAt, isSought, packetAt, packetBytes}
+use Rattle.configuration_rules.specs.Descriptors.{interfaceType, endpointType, typeAt, afterAt, packetAt, packetBytes}
 use Rattle.configuration_rules.specs.declared.Sought.the-variants as sought
 use Rattle.configuration_rules.specs.Words.{SettingOf, EndpointOf}
 use Rattle.configuration_rules.proofs.Deciding as deciding
 use Rattle.interfaces.specs.Line.{course, found, nextOf}
-use Rattle.interfaces.specs.Blocks.{interfacesMost, settingsMost, blockStart, blockEnd, blockOf, blockAt, streamAt, noStream, listedIn, streamsOf}
-use Rattle.interfaces.specs.declared.Stream.{Stream}
+use Rattle.interfaces.specs.Blocks.{blockStart, blockEnd, blockOf, blockAt, streamAt, listedIn}
 use Rattle.interfaces.proofs.Lines.{after-on, after-whole, next-is}
 use Rattle.settings.specs.Settings as settings
 use Rattle.settings.specs.Holding.{noSetting}
-use Rattle.layout.specs.Words.{Starts, Lists, Run}
+use Rattle.layout.specs.Words.{Starts}
 use Rattle.layout.specs.Broken.{Laid}
 use Rattle.layout.proofs.Walked.{lists, run, not-before, stands-there, later-behind}
 use Rattle.layout.proofs.Few.{few}
-use Rattle.configuration.specs.Answer.{controlPlace, refusedBy, acceptedWith, ConfigurationIs, laid, blocks, sound}
+use Rattle.configuration.specs.Answer.{refusedBy, acceptedWith, ConfigurationIs, laid, blocks, sound}
 use Rattle.configuration.specs.declared.Configuration.{Configuration}
-use Rattle.configuration_words.specs.Broken.{ListedAt, StreamRight, tableIn, Sound}
-use Rattle.configuration_words.specs.Listed.{BlockLies, StreamStands, Lists-all, Between, BytesAre, by-endpoint, no-endpoint, SettingStands, Settings-all}
+use Rattle.configuration_words.specs.Broken.{ListedAt, Sound}
+use Rattle.configuration_words.specs.Listed.{BlockLies, StreamStands, Lists-all, Between, BytesAre, by-endpoint, no-endpoint, Settings-all}
 use Rattle.configuration_words.proofs.Streams.{getD-map, lists-streams, few-streams, count-is, stream-is, stream-past, listed-at}
 use Rattle.configuration_words.proofs.ExactlyWhen.{place-is, accepted}
 

@@ -1,5 +1,5 @@
 -- What is picked: 74 exactly where nothing holds the payload size, a setting exactly where it has the fewest bytes of those that hold.
-use Prim.Native.Nat.{ℕ, _+_, _≤_, _<_}
+use Prim.Native.Nat.{ℕ, _<_}
 use mathlib.Core.Path.{_≡_, refl, sym, ap, _∙_}
 use mathlib.Core.List.{List, []}
 use mathlib.Core.Bool.{Bool, true, false}
@@ -10,7 +10,6 @@ use borrow.Author.Tests.{eq-eqb, ne-eqb, eqb-true, eqb-false}
 use native.Mathlib.Omega.{arith}
 use native.Mathlib.Nat.{eq-or-lt-of-le}
 use Rattle.rules.specs.Pick.{pick}
-use Rattle.rules.specs.Walk.{FirstBreak}
 use Rattle.rules.specs.declared.Verdict.{Verdict}
 use Rattle.rules.specs.declared.Verdict.the-variants.{Accepted, Refused}
 use Rattle.rules.proofs.Firsts.{lt-or-ge}
@@ -20,11 +19,10 @@ use Rattle.blocks.specs.Blocks.{wholeRows}
 use Rattle.control.specs.Broken as control-broken
 use Rattle.control.proofs.ExactlyWhen.{head-few, rows-few}
 use Rattle.streaming_rules.specs.Rules as streaming-rules
-use Rattle.streaming.specs.Answer.{endpointOf}
 use Rattle.streaming.specs.Broken as streaming-broken
 use Rattle.configuration_rules.specs.Descriptors.{numberAt}
-use Rattle.interfaces.specs.Blocks.{blockOf, streamAt, noStream, listedIn, streamsOf, placeOf}
-use Rattle.settings.specs.Settings.{settingsOf, fewestOf}
+use Rattle.interfaces.specs.Blocks.{noStream, listedIn, streamsOf, placeOf}
+use Rattle.settings.specs.Settings.{fewestOf}
 use Rattle.settings.specs.Holding.{Holds, Fewest, NoneHolds}
 use Rattle.settings.specs.declared.Setting.{Setting}
 use Rattle.settings.specs.declared.Choice.{Choice}
@@ -35,7 +33,7 @@ use Rattle.configuration.specs.Answer.{ConfigurationIs}
 use Rattle.configuration.specs.declared.Configuration.{Configuration}
 use Rattle.picking.specs.Answer.{settingsIn, settingsFor, refusedBy, answerOf, PickIs, own, picks}
 use Rattle.picking.specs.declared.Picked.{Picked}
-use Rattle.configuration_words.specs.Broken.{ListedAt, Named, Sound, FirstBroken, by-layout, by-control, by-73, by-streaming}
+use Rattle.configuration_words.specs.Broken.{Sound, FirstBroken, by-layout, by-control, by-73, by-streaming}
 use Rattle.configuration_words.specs.Picked.{FirstOf, settingsAt, HoldsIn, PickedIn, Picks}
 use Rattle.configuration_words.proofs.Streams.{lists-streams, count-is, stream-is, listed-at, place-of, unnamed, number-is}
 use Rattle.configuration_words.proofs.ExactlyWhen.{accepted, refused}

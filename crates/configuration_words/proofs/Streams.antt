@@ -1,16 +1,14 @@
 -- The streams of a configuration: the table reads as the list of their descriptors does, and the first block that is refused decides.
-use Prim.Native.Nat.{ℕ, zero, suc, _+_, _≤_, _<_}
+use Prim.Native.Nat.{ℕ, zero, suc, _≤_, _<_}
 use mathlib.Core.Path.{_≡_, refl, sym, ap, _∙_}
 use mathlib.Core.List.{List, [], _∷_, map}
 use mathlib.Core.Bool.{Bool, true, false}
-use mathlib.Core.Logic.{_⊎_, inl, inr, ⊎-elim, _↔_}
+use mathlib.Core.Logic.{⊎-elim}
 use lib.ListN.{length, take, getD, length-map, List·getD-eq-default}
 use lib.Seq.{take-all}
-use lib.Dec.{eqb, leb}
-use borrow.Author.Tests.{eq-eqb, ne-eqb, eqb-true, le-leb, lt-leb, leb-true, leb-false}
+use lib.Dec.{eqb}
+use borrow.Author.Tests.{eq-eqb, eqb-true, le-leb, leb-true, leb-false}
 use native.Mathlib.Omega.{arith}
-use Rattle.rules.specs.First.{First}
-use Rattle.rules.specs.Place.{firstPlace}
 use Rattle.rules.specs.Verdicts.{_andThen_}
 use Rattle.rules.specs.declared.Verdict.{Verdict}
 use Rattle.rules.specs.declared.Verdict.the-variants.{Accepted, Refused}
@@ -23,8 +21,7 @@ use Rattle.configuration_rules.specs.declared.Sought.the-variants.{Listed}
 use Rattle.configuration_rules.specs.Words.{StreamingFirst}
 use Rattle.configuration_rules.proofs.Deciding.{listed}
 use Rattle.interfaces.specs.Blocks.{interfacesMost, streamAt, noStream, listedIn, streamsOf, placeOf}
-use Rattle.interfaces.specs.declared.Stream.{Stream}
-use Rattle.layout.specs.Words.{Starts, Lists}
+use Rattle.layout.specs.Words.{Lists}
 use Rattle.layout.specs.Broken.{Laid}
 use Rattle.layout.proofs.Walked.{lists}
 use Rattle.layout.proofs.Few.{few}

@@ -1,17 +1,15 @@
 -- Counting interfaces and settings (75): what the loop has at each turn.
-use Prim.Native.Nat.{ℕ, zero, suc, _+_, _-_, _≤_, _<_}
+use Prim.Native.Nat.{ℕ, suc, _+_, _≤_, _<_}
 use mathlib.Core.Path.{_≡_, refl, sym, ap, _∙_}
 use mathlib.Core.List.{List, [], _∷_, _++_}
-use mathlib.Core.Bool.{Bool, true, false, _||_, true≢false}
-use mathlib.Core.Logic.{⊎-elim}
-use lib.ListN.{length, take, drop, getD, set, replicate, length-append, length-drop, length-set, length-replicate, getD-replicate, List·getD-eq-default}
+use mathlib.Core.Bool.{Bool, true, false}
+use lib.ListN.{length, take, drop, getD, set, length-drop, length-set, length-replicate, getD-replicate, List·getD-eq-default}
 use lib.Seq.{take-suc, drop-cons, getD-drop, getD-set-same, getD-set-other}
 use lib.Dec.{leb, eqb}
 use borrow.Author.Tests.{leb-false, eqb-true, eqb-false}
 use native.Mathlib.Omega.{arith}
 use native.Mathlib.Numerals.{add-one}
 use Rattle.rules.specs.Pick.{pick}
-use Rattle.rules.specs.Place.{firstPlace}
 use Rattle.rules.proofs.Rows.{or-first, or-second}
 use Rattle.rules.proofs.Places as places
 use Rattle.configuration_rules.specs.Descriptors.{numberAt, afterAt, isSought}
@@ -19,7 +17,7 @@ use Rattle.configuration_rules.specs.declared.Sought.the-variants.{Listed, Sett
 use Rattle.configuration_rules.proofs.Deciding.{setting}
 use Rattle.interfaces.specs.Line.{line, those}
 use Rattle.interfaces.specs.Blocks.{interfacesMost, settingsMost}
-use Rattle.interfaces.specs.Limits.{listedAmong, settingsAmong, oneTooMany, tooManyAt, firstTooMany, tooMany, noCounts}
+use Rattle.interfaces.specs.Limits.{listedAmong, settingsAmong, oneTooMany, tooManyAt, tooMany, noCounts}
 use Rattle.interfaces.proofs.Lines.{line-end, line-more, after-on}
 
 -- ---- one more of a list

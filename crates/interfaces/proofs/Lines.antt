@@ -1,12 +1,11 @@
 -- The line of descriptors, one step at a time, and a search in it.
-use Prim.Native.Nat.{ℕ, zero, suc, _+_, _-_, _≤_, _<_}
+use Prim.Native.Nat.{ℕ, zero, suc, _+_, _≤_, _<_}
 use mathlib.Core.Path.{_≡_, refl, sym, ap, _∙_}
-use mathlib.Core.List.{List, [], _∷_, _++_}
-use mathlib.Core.Bool.{Bool, true, false, true≢false}
-use mathlib.Core.Logic.{_⊎_, ⊎-elim}
+use mathlib.Core.List.{List, [], _∷_}
+use mathlib.Core.Bool.{Bool, true, false}
+use mathlib.Core.Logic.{⊎-elim}
 use lib.ListN.{length}
-use lib.Dec.{ltb}
-use borrow.Author.Tests.{lt-ltb, le-ltb, ltb-true, ltb-false}
+use borrow.Author.Tests.{lt-ltb, le-ltb}
 use native.Mathlib.Omega.{arith}
 use Rattle.rules.specs.Pick.{pick}
 use Rattle.rules.proofs.Firsts.{lt-or-ge}
@@ -14,7 +13,7 @@ use Rattle.blocks.specs.Blocks.{lenAt}
 use Rattle.configuration_rules.specs.Descriptors.{brokenAt, afterAt, isSought}
 use Rattle.configuration_rules.specs.declared.Sought.{Sought}
 use Rattle.configuration_rules.proofs.Deciding.{kept}
-use Rattle.interfaces.specs.Line.{lineFrom, line, those, found, headOr, nextOf}
+use Rattle.interfaces.specs.Line.{lineFrom, line, those, found, nextOf}
 
 module _ (s : List ℕ) where
   -- ---- one step

@@ -1,8 +1,8 @@
 -- What the functions have of a search, in the order of their code.
-use Prim.Native.Nat.{ℕ, _+_, _-_, _≤_, _<_}
-use mathlib.Core.Path.{_≡_, refl, sym, ap, _∙_}
+use Prim.Native.Nat.{ℕ, _-_, _≤_, _<_}
+use mathlib.Core.Path.{_≡_, refl, sym, _∙_}
 use mathlib.Core.List.{List}
-use mathlib.Core.Bool.{Bool, true, false, _||_}
+use mathlib.Core.Bool.{Bool, true, false}
 use lib.ListN.{length}
 use lib.Dec.{leb}
 use native.Mathlib.Omega.{arith}
@@ -15,7 +15,6 @@ use Rattle.interfaces.specs.Limits.{oneTooMany}
 use Rattle.le.specs.Le.{byte}
 use Rattle.interfaces.specs.Blocks.{blockAt, streamAt}
 use Rattle.interfaces.specs.declared.Block.{Block}
-use Rattle.interfaces.specs.declared.Stream.{Stream}
 use Rattle.interfaces.proofs.Lines.{after-on, next-end, next-here, next-skip, next-is}
 
 -- the search from i on answers as that from o on

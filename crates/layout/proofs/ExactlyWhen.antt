@@ -1,7 +1,7 @@
 -- A configuration is laid out as it must be exactly when none of 70, 71, 72 and 75 is broken, and refused by k at o exactly when k is the first of them, at its
 -- first place.
-use Prim.Native.Nat.{ℕ, zero, suc, _+_, _≤_, _<_}
-use mathlib.Core.Path.{_≡_, refl, sym, ap, _∙_}
+use Prim.Native.Nat.{ℕ, zero, suc, _≤_, _<_}
+use mathlib.Core.Path.{_≡_, refl, sym, _∙_}
 use mathlib.Core.List.{List, [], _∷_}
 use mathlib.Core.Bool.{Bool, true, false}
 use mathlib.Core.Logic.{_⊎_, inl, inr, ⊎-elim, _↔_}
@@ -9,27 +9,25 @@ use lib.ListN.{length, getD}
 use lib.Dec.{ltb, eqb}
 use borrow.Author.Tests.{lt-ltb, le-ltb, ltb-true, ltb-false, eq-eqb, ne-eqb, eqb-true, eqb-false}
 use native.Mathlib.Omega.{arith}
-use native.Mathlib.Decide.{decLt}
 use Rattle.le.specs.Le.{le16At}
 use Rattle.rules.specs.Pick.{pick}
 use Rattle.rules.specs.Verdicts.{_andThen_}
-use Rattle.rules.specs.Walk.{Outcome, done, stop, walk, Clean, FirstBreak}
+use Rattle.rules.specs.Walk.{Outcome, stop, Clean, FirstBreak}
 use Rattle.rules.specs.declared.Verdict.{Verdict}
 use Rattle.rules.specs.declared.Verdict.the-variants.{Accepted, Refused}
 use Rattle.rules.proofs.Firsts.{lt-or-ge}
-use Rattle.rules.proofs.Rows.{given-each, given-none}
+use Rattle.rules.proofs.Rows.{given-none}
 use Rattle.rules.proofs.Walks.{walk-done, walk-stop}
-use Rattle.configuration_rules.specs.Descriptors.{configurationType, typeAt, isSought}
+use Rattle.configuration_rules.specs.Descriptors.{configurationType, typeAt}
 use Rattle.configuration_rules.specs.declared.Sought.the-variants.{Broken, Control}
 use Rattle.configuration_rules.specs.Words.{ControlFirst}
 use Rattle.configuration_rules.proofs.Deciding.{control}
 use Rattle.interfaces.specs.Line.{course, line, found, nextOf}
 use Rattle.interfaces.specs.Limits.{firstTooMany, tooMany}
-use Rattle.interfaces.proofs.Lines.{next-is}
 use Rattle.layout.specs.Answer.{bytesLeast, bytesMost, verdict70, verdict71, controlsVerdict, verdict72, verdict75, layoutOf}
 use Rattle.layout.specs.Words.{Starts, Lists, FirstTooMany, NoneTooMany}
 use Rattle.layout.specs.Broken.{Whole, Kept, OneControl, SecondControl, Laid, FirstMislaid, by-70-whole, by-70, by-71, by-72-none, by-72-second, by-75}
-use Rattle.layout.proofs.Parts.{apart, both}
+use Rattle.layout.proofs.Parts.{apart}
 use Rattle.layout.proofs.Walked.{steady, walk-line, lists}
 use Rattle.layout.proofs.Few.{first-there, none-there, end-there, one-first}
 

@@ -1,9 +1,9 @@
 -- 75: the first descriptor that is one too many, in words; and what holds where none is.
 use Prim.Native.Nat.{ℕ, zero, suc, _+_, _≤_, _<_}
-use mathlib.Core.Path.{_≡_, refl, sym, ap, _∙_, subst}
-use mathlib.Core.List.{List, [], _∷_, _++_}
-use mathlib.Core.Bool.{Bool, true, false, _||_, true≢false}
-use mathlib.Core.Logic.{_⊎_, inl, inr, ⊎-elim, _↔_}
+use mathlib.Core.Path.{_≡_, refl, sym, ap}
+use mathlib.Core.List.{List, [], _∷_}
+use mathlib.Core.Bool.{Bool, true, false, true≢false}
+use mathlib.Core.Logic.{inl, inr, ⊎-elim, _↔_}
 use lib.ListN.{length, take, getD, List·getD-eq-default}
 use lib.Seq.{take-at, take-suc, take-length}
 use lib.Dec.{leb}
@@ -23,7 +23,7 @@ use Rattle.interfaces.specs.Line.{course, line, those, found}
 use Rattle.interfaces.specs.Blocks.{interfacesMost, settingsMost}
 use Rattle.interfaces.specs.Limits.{listedAmong, settingsAmong, oneTooMany, tooManyAt, firstTooMany, tooMany}
 use Rattle.interfaces.proofs.Counting.{those-more}
-use Rattle.layout.specs.Words.{Starts, OneTooMany, FirstTooMany, NoneTooMany}
+use Rattle.layout.specs.Words.{OneTooMany, FirstTooMany, NoneTooMany}
 use Rattle.layout.proofs.Walked.{rises-order, line-rises, reached-line, reached-at, place-in}
 
 -- the same element, whatever is told past the end

@@ -1,28 +1,26 @@
 -- The walk over the descriptors, and the line of them: they are the same. And what a search finds in it, in words.
 use Prim.Native.Nat.{ℕ, zero, suc, _+_, _-_, _≤_, _<_}
-use mathlib.Core.Path.{_≡_, refl, sym, ap, _∙_, subst}
+use mathlib.Core.Path.{_≡_, refl, sym, ap, _∙_}
 use mathlib.Core.List.{List, [], _∷_, _++_, append-nil}
 use mathlib.Core.Bool.{Bool, true, false, true≢false}
-use mathlib.Core.Logic.{_⊎_, inl, inr, ⊎-elim, _↔_}
-use lib.ListN.{length, take, getD, length-append, List·getD-append}
-use lib.Seq.{append-snoc, getD-append-add, getD-append-seam, take-at}
+use mathlib.Core.Logic.{⊎-elim, _↔_}
+use lib.ListN.{length, take, getD, length-append}
+use lib.Seq.{append-snoc, getD-append-add, getD-append-seam}
 use lib.Dec.{ltb}
 use borrow.Author.Tests.{lt-ltb, le-ltb}
 use native.Mathlib.Omega.{arith}
 use native.Mathlib.Nat.{eq-or-lt-of-le}
 use Rattle.rules.specs.Pick.{pick}
-use Rattle.rules.specs.Walk.{Course, Reached, first, next, Clean, Outcome, done, stop, walkFrom, walk}
+use Rattle.rules.specs.Walk.{Reached, first, next, Clean, Outcome, done, stop, walkFrom, walk}
 use Rattle.rules.proofs.Firsts.{lt-or-ge}
-use Rattle.rules.proofs.Growing.{each-more}
 use Rattle.rules.proofs.Walks.{Steady, step-done, step-bad, step-on}
 use Rattle.blocks.specs.Blocks.{lenAt}
 use Rattle.configuration_rules.specs.Descriptors.{brokenAt, afterAt, isSought}
 use Rattle.configuration_rules.specs.declared.Sought.{Sought}
 use Rattle.configuration_rules.specs.declared.Sought.the-variants.{Broken, Outside}
-use Rattle.configuration_rules.specs.Words.{ClassSpecific}
 use Rattle.configuration_rules.proofs.Deciding.{kept, outside}
 use Rattle.interfaces.specs.Line.{course, line, those, found, headOr, nextOf}
-use Rattle.interfaces.proofs.Lines.{Next, after-on, after-whole, line-end, line-more, next-end, next-here, next-skip, next-is, found-here, found-end}
+use Rattle.interfaces.proofs.Lines.{Next, after-on, after-whole, line-end, line-more, next-end, next-here, next-skip, next-is, found-here}
 use Rattle.layout.specs.Words.{Starts, Lists, Run}
 
 -- ---- lists that rise: from b on, each element above the last

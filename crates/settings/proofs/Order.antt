@@ -1,6 +1,6 @@
 -- The k-th setting is the one at place k of the list, and there is none exactly past its end.
 use Prim.Native.Nat.{ℕ, zero, suc, _≤_, _<_}
-use mathlib.Core.Path.{_≡_, refl, sym, _∙_}
+use mathlib.Core.Path.{_≡_, refl, sym}
 use mathlib.Core.List.{List, [], _∷_}
 use mathlib.Core.Logic.{_↔_}
 use lib.ListN.{length, getD}
@@ -8,7 +8,6 @@ use native.Mathlib.Omega.{arith}
 use Rattle.settings.specs.Settings.{kthOf}
 use Rattle.settings.specs.Holding.{noSetting}
 use Rattle.settings.specs.declared.Setting.{Setting}
-use Rattle.settings.specs.declared.Choice.{Choice}
 use Rattle.settings.specs.declared.Choice.the-variants.{At, Nothing}
 
 apart : (x : Setting) → Nothing ≡ At x → ⊥

@@ -3,52 +3,37 @@ use Rattle.configuration.proofs.Reading.{end-in, own-accepted, own-in, 
 use borrow.Author.Needs.{needs}
 use Rattle.configuration.proofs.block_verdict.Statement.{statement}
 use Rattle.configuration.proofs.block_verdict.Tie as tie
-use Rattle.configuration.proofs.block_verdict.Reads as reads
-use Rattle.configuration.proofs.block_verdict.Lts as lts
-use Rattle.configuration.proofs.stream_verdict.Reads as stream-verdict-reads
-use Rattle.interfaces.proofs.block_at.Reads as block-at-reads
 
--- src/lib.rt:58:9
 block-at-requires : tie.Need-block-at-requires
 block-at-requires c κs = search needs
 
--- src/lib.rt:60:15
 add-end : tie.Need-add-end
 add-end c = omega (arith, end-in _ _ (c .before .before .before .pre) _ (c .before .block-at .ensures))
 
--- src/lib.rt:61:33
 sub-stream-verdict : tie.Need-sub-stream-verdict
 sub-stream-verdict c = search needs
 
--- src/lib.rt:61:33
 part-stream-verdict-start : tie.Need-part-stream-verdict-start
 part-stream-verdict-start c = search needs
 
--- src/lib.rt:61:33
 part-stream-verdict-end : tie.Need-part-stream-verdict-end
 part-stream-verdict-end c = end-in _ _ (c .before .before .before .pre) _ (c .before .block-at .ensures)
 
--- src/lib.rt:61:11
 stream-verdict-requires : tie.Need-stream-verdict-requires
 stream-verdict-requires c κs = search needs
 
--- src/lib.rt:62:30
 enum-told : tie.Need-enum-told
 enum-told c = search needs
 
--- src/lib.rt:63:28
 enum-known-number : tie.Need-enum-known-number
 enum-known-number c = search needs
 
--- src/lib.rt:65:21
 add-t15 : tie.Need-add-t15
 add-t15 c = omega (arith, own-in _ _ (c .before .before .before .before .before .before .before .before .pre) _ (c .before .before .before .before .before .before .block-at .ensures) _ _ (c .before .before .before .stream-verdict .ensures) _ _ (c .before .number .given .1))
 
--- src/lib.rt:54:1
 returns : tie.Need-returns
 returns c = own-accepted _ _ (c .before .before .before .before .before .before .before .pre) _ (c .before .before .before .before .before .block-at .ensures) _ _ (c .before .before .stream-verdict .ensures) (c .enum-told .given .1)
 
--- src/lib.rt:54:1
 returns-2 : tie.Need-returns-2
 returns-2 c = own-refused _ _ (c .before .before .before .before .before .before .before .before .pre) _ (c .before .before .before .before .before .before .block-at .ensures) _ _ (c .before .before .before .stream-verdict .ensures) _ _ (c .before .number .given .1)
 

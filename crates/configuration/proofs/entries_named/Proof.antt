@@ -1,6 +1,6 @@
 use Rattle.configuration.specs.Answer.{entryAt}
 use Rattle.interfaces.specs.Blocks.{placeOf}
-use mathlib.Core.Path.{sym, _∙_}
+use mathlib.Core.Path.{_∙_}
 use Prim.Native.Nat.{_-_}
 use lib.Dec.{eqb}
 use Rattle.rules.proofs.Places.{Seeking, seek}

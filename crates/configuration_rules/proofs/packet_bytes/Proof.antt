@@ -1,6 +1,5 @@
 use native.Mathlib.Omega.{arith}
 use Rattle.configuration_rules.proofs.Tests.{low-small, high-small, masked, few-bytes}
-use borrow.Author.Needs.{needs}
 use Rattle.configuration_rules.proofs.packet_bytes.Statement.{statement}
 use Rattle.configuration_rules.proofs.packet_bytes.Tie as tie
 
