@@ -1,6 +1,6 @@
 -- What is found tells: the number is that of the setting or the request, or of none.
 use Prim.Native.Nat.{ℕ}
-use mathlib.Core.Path.{_≡_, sym, _∙_}
+use mathlib.Core.Path.{_≡_}
 use native.Mathlib.Omega.{arith}
 use Rattle.camera_settings.specs.Numbers.{selectorOf, codeOf, SettingIs, SettingIs.has-selector, SettingIs.no-selector, RequestIs, RequestIs.has-code, RequestIs.no-code}
 use Rattle.camera_settings.specs.declared.Setting.{Setting}

@@ -5,9 +5,9 @@ use mathlib.Core.Bool.{Bool, true, false}
 use native.Mathlib.Omega.{arith}
 use lib.Dec.{ltb, ltb→lt}
 use borrow.Author.Tests.{ltb-true, ltb-false}
-use lib.IntN.{ℤ, pos, negsuc, natAbs, subℕ, _+ℤ_, _-ℤ_, _*ℤ_}
+use lib.IntN.{ℤ, pos, negsuc, subℕ, _+ℤ_, _-ℤ_, _*ℤ_}
 use lib.Signed.{_≤ℤ_, _<ℤ_}
-use Rattle.integers.proofs.Integers.{Is, is-pos, is-plus, is-minus, is-far, is-sub, same, at-most, across, across-below, both-ways, upper, under, is-of}
+use Rattle.integers.proofs.Integers.{Is, is-pos, is-plus, is-minus, is-far, is-sub, same, at-most, across, both-ways, upper, under}
 use Rattle.nearest.specs.Nearest.{Range, Allowed, apart, Nearest}
 use Rattle.nearest.specs.Inner.{distance, Closest}
 use Rattle.nearest.proofs.Choosing.{last, lowest, the-last, no-nearer, the-next, the-lower}

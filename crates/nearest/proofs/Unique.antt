@@ -1,5 +1,5 @@
 -- The promise of `nearest` leaves one answer, and there is always one.
-use Prim.Native.Nat.{ℕ, _<_, _^_}
+use Prim.Native.Nat.{ℕ}
 use mathlib.Core.Path.{_≡_, refl, ap}
 use lib.Signed.{clashℤ}
 use Rattle.camera_settings.specs.declared.Setting.{Setting}

@@ -1,18 +1,17 @@
 -- Shifted words have the order of the integers that they stand for; shifted again they are the words.
-use Prim.Native.Nat.{ℕ, _+_, _-_, _*_, _%_, _≤_, _<_, _^_}
+use Prim.Native.Nat.{ℕ, _+_, _-_, _≤_, _<_, _^_}
 use mathlib.Core.Path.{_≡_, refl, sym, ap, _∙_}
 use mathlib.Core.Bool.{Bool, true, false}
 use native.Mathlib.Omega.{arith}
 use lib.Dec.{ltb}
 use borrow.Author.Tests.{ltb-true, ltb-false, lt-ltb}
 use lib.IntN.{ℤ, pos, negℤ}
-use lib.Signed.{_≤ℤ_, _<ℤ_}
-use Rattle.integers.proofs.Integers.{Is, is-pos, is-neg, same, at-most, below, across, differ-alike}
+use lib.Signed.{_≤ℤ_}
+use Rattle.integers.proofs.Integers.{Is, is-neg, at-most, below, differ-alike}
 use Rattle.rules.specs.Pick.{pick}
 use Rattle.camera_settings.specs.Numbers.{isSigned}
 use Rattle.camera_settings.specs.declared.Setting.{Setting}
 use Rattle.nearest.specs.Word.{signedOf, integerOf}
-use Rattle.nearest.specs.Nearest.{Range, Nearest}
 use Rattle.nearest.specs.Answer.{refusedBy, movedTo, rangeOf, NearestIs, NearestIs.by-92, NearestIs.by-93, NearestIs.moved}
 use Rattle.nearest.specs.Inner.{turned, shifted, Closest}
 use Rattle.nearest.specs.declared.Moved.{Moved}

@@ -3,11 +3,8 @@ use Prim.Native.Nat.{ℕ}
 use mathlib.Core.Path.{_≡_, refl, sym, _∙_}
 use mathlib.Core.List.{List}
 use Rattle.rules.specs.declared.Verdict.{Verdict}
-use Rattle.camera_settings.specs.declared.Setting.{Setting}
-use Rattle.camera_settings.specs.declared.Request.{Request}
-use Rattle.packets.specs.Packets.{packetOf, roomVerdict, leaves, SpeltIs, SpeltIs.spelt, SpeltIs.by-95}
+use Rattle.packets.specs.Packets.{roomVerdict, leaves, SpeltIs, SpeltIs.spelt, SpeltIs.by-95}
 use Rattle.packets.specs.declared.Reading.{Reading}
-use Rattle.packets.specs.declared.Reading.the-variants.{Asks}
 use Rattle.packets.proofs.Spelling.{packet-different}
 
 pub spelt-unique : (interface : ℕ) (bytes : List ℕ) {r t : Reading} → SpeltIs interface bytes r → SpeltIs interface bytes t → r ≡ t

@@ -1,6 +1,6 @@
 -- The answers of `ready`, `build` and `read`, by what their tests and callees say.
-use Prim.Native.Nat.{ℕ, _≤_, _<_}
-use mathlib.Core.Path.{_≡_, refl, sym, ap, _∙_}
+use Prim.Native.Nat.{ℕ}
+use mathlib.Core.Path.{_≡_, refl, sym, _∙_}
 use mathlib.Core.List.{List}
 use mathlib.Core.Bool.{Bool, true, false}
 use lib.ListN.{length}
@@ -11,13 +11,12 @@ use Rattle.rules.specs.Pick.{pick}
 use Rattle.rules.specs.declared.Verdict.{Verdict}
 use Rattle.rules.specs.declared.Verdict.the-variants.{Accepted, Refused}
 use Rattle.entities.specs.Table.{noTable}
-use Rattle.entities.specs.declared.Entity.{Entity}
 use Rattle.entities.specs.declared.Table.{Table}
 use Rattle.control.specs.Answer.{refusedBy, ControlIs}
 use Rattle.control.specs.declared.Control.{Control}
 use Rattle.control.proofs.ExactlyWhen.{zero-table}
 use Rattle.control.proofs.Unique.{verdict-apart}
-use Rattle.control_map.specs.Answer.{AcceptedWith, MapIs}
+use Rattle.control_map.specs.Answer.{MapIs}
 use Rattle.control_map.specs.declared.Map.{Map}
 use Rattle.control_map.proofs.Mapping.{the-list}
 use Rattle.control_map.proofs.Unique.{same-list, not-both, controls-unique}
@@ -27,7 +26,7 @@ use Rattle.packets.specs.Packets.{packetSize, packetOf, roomVerdict, leaves, Sp
 use Rattle.packets.specs.declared.Reading.{Reading}
 use Rattle.packets.specs.declared.Reading.the-variants as reading
 use Rattle.packets.proofs.Spelling.{packet-different}
-use Rattle.setup.specs.Setup.{UnitAt, InMap, Ready, ReadyIs, ReadyIs.own, ReadyIs.by-90, ReadyIs.by-91, ReadyIs.all-there, BuildIs, BuildIs.first, BuildIs.by-94, BuildIs.built, Builds, ReadIs, ReadIs.asks}
+use Rattle.setup.specs.Setup.{Ready, ReadyIs, ReadyIs.own, ReadyIs.by-90, ReadyIs.by-91, ReadyIs.all-there, BuildIs, BuildIs.first, BuildIs.by-94, BuildIs.built, Builds, ReadIs, ReadIs.asks}
 use Rattle.setup.specs.Setup as setup
 use Rattle.setup.specs.Inner.{isUnit, inMap, askedBy}
 use Rattle.setup.proofs.Units as units

@@ -1,7 +1,7 @@
 -- Building and reading back is the identity, both ways; 95 exactly when nothing builds the bytes; what building leaves of the room. All of what the promises of
 -- `build` and `read` allow.
-use Prim.Native.Nat.{ℕ, _≤_, _<_}
-use mathlib.Core.Path.{_≡_, refl, sym, ap, _∙_}
+use Prim.Native.Nat.{ℕ, _≤_}
+use mathlib.Core.Path.{_≡_, refl}
 use mathlib.Core.List.{List, _++_}
 use mathlib.Core.Logic.{_↔_}
 use lib.ListN.{length, take, drop, replicate}
@@ -9,7 +9,6 @@ use native.Mathlib.Omega.{arith}
 use Rattle.rules.specs.declared.Verdict.{Verdict}
 use Rattle.rules.specs.declared.Verdict.the-variants.{Accepted, Refused}
 use Rattle.entities.specs.declared.Entity.{Entity}
-use Rattle.control.specs.Broken.{FirstBroken}
 use Rattle.control.proofs.Unique.{verdict-apart}
 use Rattle.control_map.specs.Answer.{AcceptedWith}
 use Rattle.control_map.proofs.ExactlyWhen.{own-number, own-first}

@@ -1,23 +1,21 @@
 -- The promises of `ready`, `build` and `read` leave one answer and one content of the room.
-use Prim.Native.Nat.{ℕ, _≤_, _<_}
+use Prim.Native.Nat.{ℕ}
 use mathlib.Core.Path.{_≡_, refl, sym, ap, _∙_}
 use mathlib.Core.List.{List}
-use lib.ListN.{length}
 use native.Mathlib.Omega.{arith}
 use Rattle.rules.specs.declared.Verdict.{Verdict}
-use Rattle.rules.specs.declared.Verdict.the-variants.{Accepted, Refused}
+use Rattle.rules.specs.declared.Verdict.the-variants.{Refused}
 use Rattle.entities.specs.declared.Entity.{Entity}
 use Rattle.control.specs.Answer.{refusedBy, ControlIs}
 use Rattle.control.specs.declared.Control.{Control}
 use Rattle.control.proofs.Unique as control
 use Rattle.control_map.specs.Answer.{AcceptedWith}
-use Rattle.control_map.proofs.Unique.{same-list, not-both, controls-unique}
+use Rattle.control_map.proofs.Unique.{same-list, not-both}
 use Rattle.camera_settings.specs.declared.Setting.{Setting}
 use Rattle.packets.specs.Packets.{leaves}
 use Rattle.packets.specs.declared.Reading.{Reading}
-use Rattle.packets.specs.declared.Reading.the-variants as reading
 use Rattle.packets.proofs.Spelling.{packet-different}
-use Rattle.setup.specs.Setup.{UnitAt, Ready, ReadyIs, ReadyIs.own, ReadyIs.by-90, ReadyIs.by-91, ReadyIs.all-there, BuildIs, BuildIs.first, BuildIs.by-94, BuildIs.built, Builds, ReadIs}
+use Rattle.setup.specs.Setup.{UnitAt, Ready, ReadyIs, ReadyIs.own, ReadyIs.by-90, ReadyIs.by-91, ReadyIs.all-there, BuildIs, BuildIs.first, BuildIs.by-94, BuildIs.built, ReadIs}
 use Rattle.setup.specs.Setup as setup
 use Rattle.setup.proofs.Deciding.{ready-accepted}
 

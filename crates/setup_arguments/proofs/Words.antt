@@ -1,5 +1,5 @@
 -- A word that is compared with each name in turn, and a number by its sign.
-use Prim.Native.Nat.{ℕ, _-_, _≤_, _<_}
+use Prim.Native.Nat.{ℕ, _-_}
 use mathlib.Core.Path.{_≡_, refl, sym, ap, _∙_}
 use mathlib.Core.Bool.{Bool, true, false}
 use mathlib.Core.List.{List, [], _∷_}
@@ -10,7 +10,7 @@ use borrow.Author.Tests.{eq-eqb, ne-eqb}
 use Rattle.rules.specs.Pick.{pick}
 use Rattle.arguments.specs.Digits.{numberOf}
 use Rattle.arguments.specs.declared.Number.{Number}
-use Rattle.arguments.specs.declared.Number.the-variants.{Is, None}
+use Rattle.arguments.specs.declared.Number.the-variants.{None}
 use Rattle.setup_arguments.specs.Arguments.{minusOf, signedOf}
 
 -- a comparison that says no

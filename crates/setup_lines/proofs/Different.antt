@@ -2,7 +2,7 @@
 use mathlib.Core.Path.{_≡_, refl, sym, ap, _∙_}
 use mathlib.Core.Bool.{cond}
 use mathlib.Core.List.{List, [], _∷_, _++_, append-cancel-left}
-use Prim.Native.Nat.{ℕ, suc, _+_, _*_, _≤_, _<_}
+use Prim.Native.Nat.{ℕ, suc, _+_, _<_}
 use native.Mathlib.Omega.{arith}
 use lib.Dec.{eqb}
 use lib.IntN.{ℤ, pos, negsuc}
@@ -13,8 +13,8 @@ use Rattle.camera_settings.specs.declared.Request.{Request}
 use Rattle.camera_settings.specs.declared.Request.the-variants.{GetCur, GetMin, GetMax, GetRes, GetDef, SetCur}
 use Rattle.camera_settings.proofs.Known.{each-setting, each-request}
 use Rattle.text.specs.Decimal.{decimal}
-use Rattle.text.specs.Text.{bytes, number, line}
-use Rattle.text.proofs.Different.{Low, number-split, line-split}
+use Rattle.text.specs.Text.{bytes, number}
+use Rattle.text.proofs.Different.{number-split, line-split}
 use Rattle.text.proofs.Values.{AllDigits, spells}
 use Rattle.setup_lines.specs.Lines.{settingName, requestName, packetLine, asksLine, integer, numberLine}
 

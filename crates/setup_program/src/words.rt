@@ -1,6 +1,5 @@
 // The words of the call. What is wrong with one is a line on standard error.
 use arguments::Number;
-use camera_settings::Request;
 use camera_settings::RequestFound;
 use camera_settings::Setting;
 use camera_settings::SettingFound;

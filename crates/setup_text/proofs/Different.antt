@@ -1,5 +1,5 @@
 -- ANSWERS THAT PRINT ALIKE ARE ALIKE: the same verdict and, where accepted, the same packet, the same question, the same number.
-use mathlib.Core.Path.{_≡_, refl, sym, ap, _∙_}
+use mathlib.Core.Path.{_≡_, refl, ap}
 use mathlib.Core.List.{List}
 use Prim.Native.Nat.{ℕ, _<_}
 use native.Mathlib.Omega.{arith}

@@ -1,6 +1,5 @@
 -- Texts that antt computes.
 use mathlib.Core.Path.{_≡_, refl}
-use mathlib.Core.List.{[], _∷_}
 use Rattle.rules.specs.Pick.{pick}
 use Rattle.rules.specs.declared.Verdict.the-variants.{Accepted, Refused}
 use Rattle.camera_settings.specs.declared.Setting.the-variants.{Brightness, Contrast, Hue}

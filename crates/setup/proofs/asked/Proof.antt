@@ -1,4 +1,3 @@
-use Rattle.setup.specs.Inner.{askedBy}
 use borrow.Author.Needs.{needs}
 use Rattle.setup.proofs.asked.Statement.{statement}
 use Rattle.setup.proofs.asked.Tie as tie
