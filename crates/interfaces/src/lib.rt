@@ -115,7 +115,7 @@ pub fn listed(s: &[u8]) -> Streams
     Streams { count, streams }
 }
 
-// The place of the first stream of this number; `count` where there is none.
+// Inner: the callers have at most 8 streams. The place of the first stream of this number; `count` where there is none.
 pub fn place_of(streams: [Stream; INTERFACES_MOST], count: usize, number: u8) -> usize
     requires { ⌜ count ≤ 8 ⌝ }
     ensures { λ r. ⌜ r ≡ placeOf streams count number ⌝ }
