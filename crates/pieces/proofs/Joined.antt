@@ -6,7 +6,7 @@ use native.Mathlib.Omega.{arith}
 use lib.ListN.{length, take, drop, length-append, length-drop, take-append-drop}
 use lib.Seq.{length-take-le, take-at, drop-at}
 use Rattle.trace.specs.declared.Trace.{Trace}
-use Rattle.trace.specs.Record.{recordsOf}
+use Rattle.records.specs.Record.{recordsOf}
 use Rattle.trace.specs.Trace.{traced, tracedBuffer}
 use Rattle.trace.proofs.Pieces.{in-pieces}
 use Rattle.pieces.specs.Pieces.{wholeIn, overIn, After}

@@ -10,7 +10,7 @@ use borrow.Author.Tests.{ne-eqb}
 use Rattle.trace.specs.declared.Trace.{Trace}
 use Rattle.trace.specs.declared.State.the-variants.{Good, Bad}
 use Rattle.trace.specs.Inner.{isDecided}
-use Rattle.trace.specs.Record.{recordBad, recordsOf}
+use Rattle.records.specs.Record.{recordBad, recordsOf}
 use Rattle.trace.specs.Standing.{closedIn}
 use Rattle.trace.specs.Trace.{newTrace, traced, tracedBuffer}
 use Rattle.trace.proofs.Exactly.{trace-exactly}

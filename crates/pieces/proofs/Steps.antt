@@ -6,7 +6,7 @@ use native.Mathlib.Omega.{arith}
 use lib.ListN.{length, take, drop, set, getD, length-append, length-drop, length-set}
 use lib.Seq.{length-take-le, take-suc, take-suc-set, take-all, take-add}
 use Rattle.trace.specs.declared.Trace.{Trace}
-use Rattle.trace.specs.Record.{recordsOf}
+use Rattle.records.specs.Record.{recordsOf}
 use Rattle.trace.specs.Trace.{traced, tracedBuffer}
 use Rattle.pieces.specs.Pieces.{After}
 use Rattle.pieces.specs.declared.Reader.{Reader}

@@ -4,7 +4,7 @@ use mathlib.Core.List.{List}
 use Prim.Native.Nat.{ℕ}
 use lib.ListN.{take}
 use Rattle.trace.specs.declared.Trace.{Trace}
-use Rattle.trace.specs.Record.{recordsOf}
+use Rattle.records.specs.Record.{recordsOf}
 use Rattle.trace.specs.Trace.{traced, tracedBuffer}
 use Rattle.pieces.specs.Pieces.{After, newReader}
 use Rattle.pieces.specs.declared.Reader.{Reader}

@@ -4,7 +4,7 @@ use mathlib.Core.Path.{_≡_}
 use mathlib.Core.List.{List}
 use lib.ListN.{length, take, drop}
 use Rattle.trace.specs.declared.Trace.{Trace}
-use Rattle.trace.specs.Record.{recordsOf}
+use Rattle.records.specs.Record.{recordsOf}
 use Rattle.trace.specs.Trace.{newTrace, traced, tracedBuffer}
 use Rattle.pieces.specs.declared.Reader.{Reader}
 

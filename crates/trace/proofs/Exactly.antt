@@ -10,7 +10,7 @@ use borrow.Author.Tests.{le-ltb, ltb-false}
 use Rattle.rules.proofs.Rows.{or-first, or-second}
 use Rattle.session.specs.Refusals.{takenMost}
 use Rattle.session.specs.declared.Session.{Session}
-use Rattle.trace.specs.Record.{recordBad}
+use Rattle.records.specs.Record.{recordBad}
 use Rattle.trace.specs.Trace.{newTrace, traced, printBy, reportOf}
 use Rattle.trace.specs.Standing.{closedIn, countIn, badAfter, pastAfter, stateAfter, stateOf, printedBy, AllGood, IsBad, IsPast, Stands}
 use Rattle.trace.specs.declared.State.{State}

@@ -5,7 +5,7 @@ use mathlib.Core.List.{List, [], _∷_, _++_}
 use native.Mathlib.Omega.{arith}
 use lib.ListN.{length, take, drop, length-append, length-drop}
 use lib.Seq.{take-append-le, drop-append-le}
-use Rattle.trace.specs.Record.{recordsOf}
+use Rattle.records.specs.Record.{recordsOf}
 use Rattle.trace.specs.Trace.{stepOf, stepBuffer, traced, tracedBuffer}
 use Rattle.trace.specs.declared.Trace.{Trace}
 use Rattle.trace.proofs.Runs.{records-more}

@@ -12,7 +12,8 @@ use Rattle.books.specs.Rule.{entries, numbersOf}
 use Rattle.books.proofs.Theorems.{numbers-right}
 use Rattle.books.proofs.HandedOut.{asked-listed, asked-next}
 use Rattle.books.proofs.History.{next-opening}
-use Rattle.trace.specs.Record.{recordBad, recordAsk, recordCall}
+use Rattle.records.specs.Record.{recordBad}
+use Rattle.trace.specs.Record.{recordAsk, recordCall}
 use Rattle.trace.specs.Trace.{sizes, newTrace, numberOf, offered, readBy, stepOf, keptBy, stepBuffer, traced}
 use Rattle.trace.specs.declared.State.the-variants.{Good, Bad, Refused}
 use Rattle.trace.specs.declared.Trace.{Trace}

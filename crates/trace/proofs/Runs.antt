@@ -14,7 +14,8 @@ use Rattle.session.specs.declared.Session.{Session}
 use Rattle.session.specs.Refusals.{postedOf}
 use Rattle.session.specs.declared.Rest.{Rest}
 use Rattle.books.proofs.Sized.{next-sized}
-use Rattle.trace.specs.Record.{recordBad, recordAsk, recordsBy, recordsOf}
+use Rattle.records.specs.Record.{recordBad, recordsBy, recordsOf}
+use Rattle.trace.specs.Record.{recordAsk}
 use Rattle.trace.specs.Trace.{offered, readBy, stepOf, stepBuffer, traced, tracedBuffer, goodOf}
 use Rattle.trace.specs.declared.State.{State}
 use Rattle.trace.specs.declared.State.the-variants.{Good, Bad, Refused}

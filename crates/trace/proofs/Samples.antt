@@ -2,14 +2,10 @@
 use Prim.Native.Nat.{ℕ}
 use mathlib.Core.Path.{_≡_, refl}
 use mathlib.Core.List.{List, [], _∷_}
-use lib.ListN.{replicate}
-use Rattle.trace.specs.Record.{anySet, recordBad}
+use Rattle.records.specs.Record.{anySet, recordBad}
+use Rattle.records.proofs.Samples.{row}
 use Rattle.trace.specs.Standing.{stateOf}
 use Rattle.trace.specs.declared.State.the-variants.{Good, Bad}
-
--- a record of this kind and length, with one byte and so many zeros after it
-abbrev row : ℕ → ℕ → ℕ → ℕ → List ℕ
-row kind n byte zeros = kind ∷ n ∷ byte ∷ replicate zeros 0
 
 abbrev transfer : List ℕ
 transfer = row 0 1 7 61

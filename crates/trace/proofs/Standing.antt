@@ -23,7 +23,8 @@ use Rattle.books.proofs.HandedOut.{asked-next}
 use Rattle.books.proofs.Whole.{kept-all}
 use Rattle.books.proofs.Sound.{took-taken, after-opening}
 use Rattle.books.proofs.Theorems.{never-stuck}
-use Rattle.trace.specs.Record.{kindAt, lengthAt, bytesAt, recordBad, askBy, recordAsk, recordCall}
+use Rattle.records.specs.Record.{kindAt, lengthAt, bytesAt, recordBad}
+use Rattle.trace.specs.Record.{askBy, recordAsk, recordCall}
 use Rattle.trace.specs.Trace.{sizes, newTrace, numberOf, traced}
 use Rattle.trace.specs.Standing.{closedIn, countIn, badAfter, pastAfter, stateAfter, stateOf}
 use Rattle.trace.specs.declared.State.the-variants.{Bad, Refused}

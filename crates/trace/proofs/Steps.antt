@@ -1,14 +1,10 @@
 -- What each branch of the code says of the definitions.
-use Prim.Native.Nat.{ℕ, zero, suc, _+_, _≤_, _<_}
+use Prim.Native.Nat.{ℕ, zero, suc, _+_}
 use mathlib.Core.Path.{_≡_, refl, sym, _∙_, ap, subst}
-use mathlib.Core.Bool.{Bool, true, false, _||_, _&&_, not}
+use mathlib.Core.Bool.{Bool, true, false, _||_}
 use mathlib.Core.List.{List, []}
 use native.Mathlib.Omega.{arith}
-use native.Mathlib.Numerals.{add-one}
-use lib.ListN.{length, getD, take, drop, drop-of-length-le}
-use lib.Seq.{drop-cons}
-use lib.Dec.{ltb, eqb}
-use borrow.Author.Tests.{eq-eqb, ne-eqb, lt-ltb, le-ltb, eqb-true, ltb-false, not-false}
+use lib.ListN.{length, take, drop}
 use Rattle.rules.specs.Numbered.{firstFrom, firstRow}
 use Rattle.sizes.specs.Sizes.{frameSizeBroken, payloadSizeBroken}
 use Rattle.ledger.specs.declared.Ledger.{Ledger}
@@ -31,8 +27,8 @@ use Rattle.session.specs.declared.Opened.{Opened}
 use Rattle.session.specs.Refusals.{openingFlags, takeRows, lostRows, closeRows, ledgerOf}
 use Rattle.session.specs.Session.{fresh, openOf, takeBy, takeOf, lostBy, lostOf, closeBy, closeOf}
 use Rattle.session.proofs.Refused.{Met, met, not-both}
-use Rattle.rules.proofs.Rows.{or-first, or-second}
-use Rattle.trace.specs.Record.{kindAt, lengthAt, anySet, recordBad, askBy, recordAsk}
+use Rattle.records.specs.Record.{kindAt, lengthAt, recordBad}
+use Rattle.trace.specs.Record.{askBy, recordAsk}
 use Rattle.trace.specs.Trace.{sizes, newTrace, numberOf, offered, readCall, readBy, keptBy, stepBy, stepBufferBy, stepOf, stepBuffer, printBy, reportOf}
 use Rattle.trace.specs.declared.State.{State}
 use Rattle.trace.specs.declared.State.the-variants.{Good, Bad, Refused}
@@ -163,67 +159,6 @@ module _ (s : Session) (b : List ℕ) (x : RestClosed) (l : List ℕ) (e : close
   pub close-closed : (a : Ended) → x .closing ≡ Closing.Closed a → g ≡ answeredBy 0 (x .rest) → goingWith g l ≡ readCall s b Ask.close
   unfolding closeOf
   close-closed a q f = by-close-row 0 (close-closed₀ s close-row a (ap (λ (y : Closed). y .closing) (sym e) ∙ q)) f
-
--- ---- a record
-module _ (r : List ℕ) (at i : ℕ) (e : anySet (drop i r) ≡ anySet (drop at r)) where
-  pub set-found : i < length r → (getD r i 0 ≡ 0 → ⊥) → true ≡ anySet (drop at r)
-  unfolding anySet
-  set-found l h = (rw (drop-cons r i 0 l, ne-eqb (getD r i 0) 0 h)) ∙ e
-
-  pub set-on : i < length r → getD r i 0 ≡ 0 → anySet (drop (i + 1) r) ≡ anySet (drop at r)
-  unfolding anySet
-  set-on l h = sym (rw (drop-cons r i 0 l, h, add-one i)) ∙ e
-
-  pub set-end : length r ≤ i → false ≡ anySet (drop at r)
-  unfolding anySet
-  set-end l = (rw (drop-of-length-le r {i = i} l)) ∙ e
-
-module _ (r : List ℕ) where
-  pub bad-size : (length r ≡ 64 → ⊥) → true ≡ recordBad r
-  unfolding recordBad
-  bad-size h = rw (ne-eqb (length r) 64 h)
-
-  pub bad-kind : length r ≡ 64 → 2 < kindAt r → true ≡ recordBad r
-  unfolding recordBad
-  bad-kind a h = rw (eq-eqb (length r) 64 a, lt-ltb 2 (kindAt r) h)
-
-  pub bad-length : (n : ℕ) → n ≡ lengthAt r → length r ≡ 64 → kindAt r ≤ 2 → 62 < n → true ≡ recordBad r
-  unfolding recordBad
-  bad-length n e a b h = rw (eq-eqb (length r) 64 a, le-ltb 2 (kindAt r) b, ← e, lt-ltb 62 n h)
-
-  pub bad-filled : (n : ℕ) → n ≡ lengthAt r → length r ≡ 64 → kindAt r ≤ 2 → n ≤ 62 → (kindAt r ≡ 0 → ⊥) → (n ≡ 0 → ⊥) → true ≡ recordBad r
-  unfolding recordBad
-  bad-filled n e a b c h i = rw (eq-eqb (length r) 64 a, le-ltb 2 (kindAt r) b, ← e, le-ltb 62 n c, ne-eqb (kindAt r) 0 h, ne-eqb n 0 i)
-
-  pub bad-empty : (n : ℕ) (x : Bool) → n ≡ lengthAt r → length r ≡ 64 → kindAt r ≤ 2 → n ≤ 62 → n ≡ 0 → x ≡ anySet (drop (2 + n) r) → x ≡ recordBad r
-  unfolding recordBad
-  bad-empty n x e a b c i f = rw (eq-eqb (length r) 64 a, le-ltb 2 (kindAt r) b, ← e, le-ltb 62 n c, eq-eqb n 0 i) (go (not (eqb (kindAt r) 0)))
-    where
-      go : (y : Bool) → x ≡ ((y && false) || anySet (drop (2 + n) r))
-      go true = f
-      go false = f
-
-  pub bad-transfer : (n : ℕ) (x : Bool) → n ≡ lengthAt r → length r ≡ 64 → kindAt r ≤ 2 → n ≤ 62 → kindAt r ≡ 0 → x ≡ anySet (drop (2 + n) r) → x ≡ recordBad r
-  unfolding recordBad
-  bad-transfer n x e a b c i f = rw (eq-eqb (length r) 64 a, le-ltb 2 (kindAt r) b, ← e, le-ltb 62 n c, eq-eqb (kindAt r) 0 i) f
-
--- what a good record is
-pub record Fine (r : List ℕ) : Type 0 where
-  pub size : length r ≡ 64
-  pub kind : kindAt r ≤ 2
-  pub short : lengthAt r ≤ 62
-
-pub fine : (r : List ℕ) → recordBad r ≡ false → Fine r
-unfolding recordBad
-fine r e =
-    let a : Bool = not (eqb (length r) 64) in
-    let b : Bool = ltb 2 (kindAt r) in
-    let c : Bool = ltb 62 (lengthAt r) in
-    record {
-      size = eqb-true (length r) 64 (not-false (eqb (length r) 64) (or-first a _ e));
-      kind = ltb-false 2 (kindAt r) (or-first b _ (or-second a _ e));
-      short = ltb-false 62 (lengthAt r) (or-first c _ (or-second b _ (or-second a _ e)));
-    }
 
 -- ---- a good record's call
 abbrev Called : Session → List ℕ → List ℕ → Trace → List ℕ → Type 0

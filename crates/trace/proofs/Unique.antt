@@ -1,9 +1,8 @@
 -- Each promise leaves one answer and one content of the buffer.
 use mathlib.Core.Path.{_≡_, sym, _∙_}
-use mathlib.Core.Bool.{Bool}
 use mathlib.Core.List.{List}
 use Prim.Native.Nat.{ℕ}
-use Rattle.trace.specs.Record.{recordBad, recordsOf}
+use Rattle.records.specs.Record.{recordsOf}
 use Rattle.trace.specs.Trace.{newTrace, traced, tracedBuffer, reportOf}
 use Rattle.trace.specs.declared.Trace.{Trace}
 use Rattle.trace.specs.declared.Printed.{Printed}
@@ -19,6 +18,3 @@ buffer-unique t b l x y e f = e ∙ sym f
 
 pub finish-unique : (t : Trace) (x y : Printed) → x ≡ reportOf t → y ≡ reportOf t → x ≡ y
 finish-unique t x y e f = e ∙ sym f
-
-pub bad-unique : (r : List ℕ) (x y : Bool) → x ≡ recordBad r → y ≡ recordBad r → x ≡ y
-bad-unique r x y e f = e ∙ sym f

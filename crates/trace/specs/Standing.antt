@@ -8,7 +8,8 @@ use lib.Dec.{ltb, eqb}
 use Rattle.ledger.specs.Ledger.{noLedger}
 use Rattle.session.specs.Refusals.{takenMost}
 use Rattle.books.specs.Rule.{entries, numbersOf}
-use Rattle.trace.specs.Record.{kindAt, recordBad, recordCall}
+use Rattle.records.specs.Record.{kindAt, recordBad}
+use Rattle.trace.specs.Record.{recordCall}
 use Rattle.trace.specs.Trace.{sizes}
 use Rattle.trace.specs.declared.State.{State}
 use Rattle.trace.specs.declared.State.the-variants.{Good, Bad, Refused}

@@ -9,7 +9,8 @@ use Rattle.ledger.specs.Ledger.{noLedger}
 use Rattle.session.specs.declared.Session.{Session}
 use Rattle.session.specs.Refusals.{ledgerOf}
 use Rattle.session.specs.Session.{fresh}
-use Rattle.trace.specs.Record.{recordBad, recordAsk}
+use Rattle.records.specs.Record.{recordBad}
+use Rattle.trace.specs.Record.{recordAsk}
 use Rattle.trace.specs.declared.State.{State}
 use Rattle.trace.specs.declared.State.the-variants.{Good, Bad, Refused}
 use Rattle.trace.specs.declared.Trace.{Trace}

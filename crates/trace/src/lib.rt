@@ -1,12 +1,11 @@
 // A trace of 64-byte records, read as many at a time as come, and what the ledger program prints of it.
-pub mod record;
-
 ghost use mathlib.Core.Path.{_≡_};
 ghost use Prim.Native.Nat.{_≤_};
 ghost use mathlib.Core.List.{[]};
 ghost use lib.ListN.{length};
 ghost use Rattle.ledger.specs.Accounts.{numberCount};
-ghost use Rattle.trace.specs.Record.{lengthAt, recordAsk, recordsOf};
+ghost use Rattle.records.specs.Record.{lengthAt, recordsOf};
+ghost use Rattle.trace.specs.Record.{recordAsk};
 ghost use Rattle.trace.specs.Trace.{newTrace, readCall, stepOf, stepBuffer, traced, tracedBuffer, goodOf, reportOf};
 ghost use Rattle.session.specs.Inner.{wholeOf};
 ghost use Rattle.session.specs.Call.{Ask};
@@ -153,7 +152,7 @@ fn step(s: Rest, m: &mut Numbers, buffer: &mut [u8], r: &[u8]) -> Going
             state: State::Bad(number(s)),
         };
     }
-    if record::bad(r) {
+    if records::bad(r) {
         return Going {
             rest: s,
             state: State::Bad(number(s)),
@@ -167,10 +166,10 @@ fn end_of(at: usize, len: usize) -> usize
     requires { ⌜ at ≤ len ⌝ }
     ensures { λ r. ⌜ r ≡ endOf at len ⌝ }
 {
-    if len - at < record::SIZE {
+    if len - at < records::SIZE {
         return len;
     }
-    at + record::SIZE
+    at + records::SIZE
 }
 
 // A bad or refused record decides a trace.

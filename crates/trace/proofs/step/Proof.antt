@@ -1,6 +1,7 @@
 use mathlib.Core.Path.{refl, sym, _∙_}
 use denote.Ref.{now}
-use Rattle.trace.proofs.Steps.{fine, step-closed, step-worst, step-called}
+use Rattle.records.proofs.Fine.{fine}
+use Rattle.trace.proofs.Steps.{step-closed, step-worst, step-called}
 use borrow.Author.Needs.{needs}
 use Rattle.trace.proofs.step.Statement.{statement}
 use Rattle.trace.specs.Inner.{goodWith}

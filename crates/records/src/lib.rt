@@ -2,7 +2,7 @@
 ghost use mathlib.Core.Path.{_≡_};
 ghost use Prim.Native.Nat.{_≤_};
 ghost use lib.ListN.{length, drop};
-ghost use Rattle.trace.specs.Record.{anySet, recordBad};
+ghost use Rattle.records.specs.Record.{anySet, recordBad};
 
 pub const SIZE: usize = 64;
 

@@ -1,12 +1,12 @@
-use Rattle.trace.proofs.Steps.{set-found, set-on, set-end}
+use Rattle.records.proofs.Steps.{set-found, set-on, set-end}
 use Prim.Native.Nat.{_≤_, _-_}
 use mathlib.Core.Path.{_≡_, refl}
 use lib.ListN.{length, drop}
 use native.Mathlib.Omega.{arith}
-use Rattle.trace.specs.Record.{anySet}
+use Rattle.records.specs.Record.{anySet}
 use borrow.Author.Needs.{needs}
-use Rattle.trace.proofs.record.any_set.Statement.{statement}
-use Rattle.trace.proofs.record.any_set.Tie as tie
+use Rattle.records.proofs.any_set.Statement.{statement}
+use Rattle.records.proofs.any_set.Tie as tie
 
 abbrev Inv-loop : tie.InvT-loop
 Inv-loop r at i₀ i = (i ≤ length r) × (anySet (drop i r) ≡ anySet (drop at r))
@@ -14,31 +14,31 @@ Inv-loop r at i₀ i = (i ≤ length r) × (anySet (drop i r) ≡ anySet (drop a
 abbrev μ-loop : tie.MeasureT-loop
 μ-loop r at i₀ i = length r - i
 
--- src/record.rt:17:5
+-- src/lib.rt:17:5
 loop-holds : tie.Need-loop-holds Inv-loop μ-loop
 loop-holds c = (search needs, refl)
 
--- src/record.rt:18:12
+-- src/lib.rt:18:12
 shared-slice-read-if1 : tie.Need-shared-slice-read-if1 Inv-loop μ-loop
 shared-slice-read-if1 c = search needs
 
--- src/record.rt:19:13
+-- src/lib.rt:19:13
 returns : tie.Need-returns Inv-loop μ-loop
 returns c = search set-found
 
--- src/record.rt:21:9
+-- src/lib.rt:21:9
 add-i : tie.Need-add-i Inv-loop μ-loop
 add-i c = search needs
 
--- src/record.rt:17:5
+-- src/lib.rt:17:5
 loop-less : tie.Need-loop-less Inv-loop μ-loop
 loop-less c = search needs
 
--- src/record.rt:17:5
+-- src/lib.rt:17:5
 loop-again : tie.Need-loop-again Inv-loop μ-loop
 loop-again c = (omega arith, search set-on)
 
--- src/record.rt:12:1
+-- src/lib.rt:12:1
 returns-2 : tie.Need-returns-2 Inv-loop μ-loop
 returns-2 c = search set-end
 

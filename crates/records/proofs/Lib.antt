@@ -1,0 +1,4 @@
+pub mod Steps
+pub mod Fine
+pub mod Unique
+pub mod Samples
