@@ -24,7 +24,8 @@ use Rattle.session.specs.declared.Start.{Start}
 use Rattle.session.specs.declared.Outcome.{Outcome}
 use Rattle.session.specs.declared.Report.{Report}
 use Rattle.session.specs.declared.Closing.{Closing}
-use Rattle.session.specs.Refusals.{takenMost, openingFlags, recordBroken, ledgerOf}
+use Rattle.refusals.specs.Refusals.{takenMost, openingFlags}
+use Rattle.session.specs.Refusals.{recordBroken, ledgerOf}
 use Rattle.session.specs.Session.{fresh, openBy, openOf, takeOf, bufferBy, bufferOf, lostOf, closeOf}
 use Rattle.books.specs.Rule.{events, entries, numbersOf, stamps, forward, between, received}
 use Rattle.books.specs.Demands.{Right, over, allBytes, endedItems, fateItems, Gains, Says, Whole, Film, WithoutStills}

@@ -13,7 +13,8 @@ use Rattle.session.specs.declared.Taken.{Taken}
 use Rattle.session.specs.declared.RestTaken.{RestTaken}
 use Rattle.session.specs.declared.Opened.{Opened}
 use Rattle.rules.specs.Numbered.{firstFrom}
-use Rattle.session.specs.Refusals.{postedOf, openingFlags}
+use Rattle.refusals.specs.Refusals.{openingFlags}
+use Rattle.session.specs.Refusals.{postedOf}
 use Rattle.session.specs.Session.{openOf, openBy, takeOf, bufferOf}
 use Rattle.books.proofs.Sized.{next-sized}
 use Rattle.exports.specs.Taking.{State, tookFirst, tookAll, opened, deliveredOf}

@@ -45,7 +45,8 @@ use Rattle.session.specs.declared.RestReported.{RestReported}
 use Rattle.session.specs.declared.Closing.{Closing}
 use Rattle.session.specs.declared.Closed.{Closed}
 use Rattle.session.specs.declared.RestClosed.{RestClosed}
-use Rattle.session.specs.Refusals.{takenMost, openingFlags, recordBroken, closeRowsBy, closeRows, lostRowsBy, lostRows, takeRowsBy, takeRows}
+use Rattle.refusals.specs.Refusals.{takenMost, openingFlags, closeRowsBy, lostRowsBy, takeRowsBy}
+use Rattle.session.specs.Refusals.{recordBroken, closeRows, lostRows, takeRows}
 use Rattle.session.specs.Session.{fresh, noSession, openBy, openOf, countedOf, takenBy, readOf, readBuffer, plainly, tookOf, tookBuffer, handsOut, passedOf, handedOf, metOf, metBuffer, takeBy, takeOf, bufferBy, bufferOf, lostBy, lostOf, closeBy, closeOf}
 use Rattle.session.specs.Inner.{wholeOf, countedRest, takenWith, reportedWith, closedWith, Ready}
 

@@ -1,5 +1,4 @@
 -- Laws of a session.
-pub mod Checks
 pub mod Ready
 pub mod Calls
 pub mod Row50

@@ -20,7 +20,8 @@ use Rattle.session.specs.declared.Start.{Start}
 use Rattle.session.specs.declared.Outcome.{Outcome}
 use Rattle.session.specs.declared.Report.{Report}
 use Rattle.session.specs.declared.Closing.{Closing}
-use Rattle.session.specs.Refusals.{openingFlags, closeRows, lostRows, takeRows}
+use Rattle.refusals.specs.Refusals.{openingFlags}
+use Rattle.session.specs.Refusals.{closeRows, lostRows, takeRows}
 use Rattle.session.specs.Session.{openBy, openOf, readOf, tookBy, tookOf, handedOf, metBy, metOf, handsOut, takeBy, takeOf, bufferBy, bufferOf, lostBy, lostOf, closeBy, closeOf}
 
 -- ---- the rows have numbers, and a number that is given is one of them

@@ -15,7 +15,8 @@ use Rattle.session.specs.declared.RestClosed.{RestClosed}
 use Rattle.session.specs.declared.Taken.{Taken}
 use Rattle.session.specs.declared.Reported.{Reported}
 use Rattle.session.specs.declared.Closed.{Closed}
-use Rattle.session.specs.Refusals.{takenMost, recordBroken}
+use Rattle.refusals.specs.Refusals.{takenMost}
+use Rattle.session.specs.Refusals.{recordBroken}
 
 abbrev pub wholeOf : Rest → List ℕ → Session
 wholeOf r numbers = record { rest = r; numbers = numbers }

@@ -30,7 +30,8 @@ use Rattle.session.specs.declared.Report.{Report}
 use Rattle.session.specs.declared.Reported.{Reported}
 use Rattle.session.specs.declared.Closing.{Closing}
 use Rattle.session.specs.declared.Closed.{Closed}
-use Rattle.session.specs.Refusals.{openingFlags, postedOf, closeRows, lostRows, takeRows}
+use Rattle.refusals.specs.Refusals.{openingFlags}
+use Rattle.session.specs.Refusals.{postedOf, closeRows, lostRows, takeRows}
 use Rattle.frames.specs.Inner.{turnOf, handsOf, outOf, idleTurn, unreadTurn, spoiltOf, closedOf}
 
 -- OPEN: a session with no transfer taken and a fresh ledger

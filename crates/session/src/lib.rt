@@ -1,13 +1,12 @@
 // A session: takes transfers in turn, hands out whole frames and keeps the ledger. Every call takes the session by value and gives the new one back.
 // The same calls stand on the rest of the record, with the ledger's numbers lent: who makes many calls in a row copies no number.
-mod check;
-
 ghost use mathlib.Core.Path.{_≡_};
 ghost use Prim.Native.Nat.{_-_, _+_, _<_, _≤_};
 ghost use lib.ListN.{length};
 ghost use Rattle.ledger.specs.Accounts.{numberCount};
 ghost use Rattle.rule_50.specs.Rule50.{transferMost};
-ghost use Rattle.session.specs.Refusals.{takenMost, ledgerOf};
+ghost use Rattle.refusals.specs.Refusals.{takenMost};
+ghost use Rattle.session.specs.Refusals.{ledgerOf};
 ghost use Rattle.session.specs.Session.{openOf, newSession, readOf, readBuffer, handedOf, metOf, metBuffer, takeOf, bufferOf, lostOf, closeOf};
 ghost use Rattle.session.specs.Inner.{wholeOf, countedRest, takenWith, reportedWith, closedWith, Ready};
 use frames::Answer;
@@ -131,7 +130,7 @@ impl Session {
     pub fn open(o: Opening, buffer: &[u8]) -> Opened
         ensures { λ r. ⌜ r ≡ openOf o (length (now (buffer .entry))) ⌝ }
     {
-        let number = check::opening_refusal(o, buffer.len());
+        let number = refusals::opening_refusal(o, buffer.len());
         if number != 0 {
             let session = with(
                 Opening {
@@ -347,7 +346,18 @@ impl Rest {
         ensures { λ _. ⌜ now (buffer .exit) ≡ bufferOf (wholeOf self (now (m .entry))) (now (buffer .entry)) (now (t .entry)) ⌝ }
     {
         let posted = rule_50::posted_broken(m, self.taken);
-        let number = check::take_refusal(posted, self, buffer.len(), t.len());
+        let opening = self.opening;
+        let track = self.track;
+        let phase = track.phase;
+        let number = refusals::take_refusal(
+            posted,
+            opening,
+            phase,
+            self.closed,
+            self.taken,
+            buffer.len(),
+            t.len(),
+        );
         if number != 0 {
             return RestTaken {
                 rest: self,
@@ -363,15 +373,16 @@ impl Rest {
         ensures { λ r. ⌜ reportedWith r (now (m .exit)) ≡ lostOf (wholeOf self (now (m .entry))) ⌝ }
     {
         let posted = rule_50::posted_broken(m, self.taken);
-        let number = check::lost_refusal(posted, self);
+        let opening = self.opening;
+        let track = self.track;
+        let phase = track.phase;
+        let number = refusals::lost_refusal(posted, opening, phase, self.closed, self.taken);
         if number != 0 {
             return RestReported {
                 rest: self,
                 report: Report::Refused(number),
             };
         }
-        let opening = self.opening;
-        let track = self.track;
         let last = self.last;
         Ledger::plus(m, Ledger::LOST, 1);
         RestReported {
@@ -392,18 +403,19 @@ impl Rest {
         ensures { λ r. ⌜ closedWith r (now (m .exit)) ≡ closeOf (wholeOf self (now (m .entry))) ⌝ }
     {
         let posted = rule_50::posted_broken(m, self.taken);
-        let number = check::close_refusal(posted, self);
+        let opening = self.opening;
+        let track = self.track;
+        let phase = track.phase;
+        let number = refusals::close_refusal(posted, opening, phase, self.closed, self.taken);
         if number != 0 {
             return RestClosed {
                 rest: self,
                 closing: Closing::Refused(number),
             };
         }
-        let track = self.track;
         let shut = track.shut();
         let ended = shut.ended;
         Ledger::ended(m, ended, shut.gone);
-        let opening = self.opening;
         let next = shut.track;
         let last = self.last;
         RestClosed {

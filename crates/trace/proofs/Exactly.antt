@@ -8,7 +8,7 @@ use native.Mathlib.Omega.{arith}
 use lib.ListN.{length}
 use borrow.Author.Tests.{le-ltb, ltb-false}
 use Rattle.rules.proofs.Rows.{or-first, or-second}
-use Rattle.session.specs.Refusals.{takenMost}
+use Rattle.refusals.specs.Refusals.{takenMost}
 use Rattle.session.specs.declared.Session.{Session}
 use Rattle.records.specs.Record.{recordBad}
 use Rattle.trace.specs.Trace.{newTrace, traced, printBy, reportOf}

@@ -15,7 +15,8 @@ use Rattle.payload.specs.Transfer.{readingOf}
 use Rattle.sizes.specs.Framing.{byEof}
 use Rattle.sizes.specs.Sizes.{sizesBroken, frameSizeBroken, payloadSizeBroken}
 use Rattle.session.specs.declared.Session.{Session}
-use Rattle.session.specs.Refusals.{takenMost, recordBroken}
+use Rattle.refusals.specs.Refusals.{takenMost}
+use Rattle.session.specs.Refusals.{recordBroken}
 use Rattle.session.specs.Session.{fresh, readOf, tookBy, tookOf}
 use Rattle.session.specs.Call.{Ask, heardOf}
 use Rattle.session.specs.Calls.{refusal, next, nextCall, after, offerWith, bufferNext, offers, bufferAfter}

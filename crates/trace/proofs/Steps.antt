@@ -24,7 +24,8 @@ use Rattle.session.specs.declared.Report.{Report}
 use Rattle.session.specs.declared.Closed.{Closed}
 use Rattle.session.specs.declared.Closing.{Closing}
 use Rattle.session.specs.declared.Opened.{Opened}
-use Rattle.session.specs.Refusals.{openingFlags, takeRows, lostRows, closeRows, ledgerOf}
+use Rattle.refusals.specs.Refusals.{openingFlags}
+use Rattle.session.specs.Refusals.{takeRows, lostRows, closeRows, ledgerOf}
 use Rattle.session.specs.Session.{fresh, openOf, takeBy, takeOf, lostBy, lostOf, closeBy, closeOf}
 use Rattle.session.proofs.Refused.{Met, met, not-both}
 use Rattle.records.specs.Record.{kindAt, lengthAt, recordBad}

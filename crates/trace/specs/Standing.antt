@@ -6,7 +6,7 @@ use mathlib.Core.List.{List, [], _∷_, _++_, map}
 use lib.ListN.{length}
 use lib.Dec.{ltb, eqb}
 use Rattle.ledger.specs.Ledger.{noLedger}
-use Rattle.session.specs.Refusals.{takenMost}
+use Rattle.refusals.specs.Refusals.{takenMost}
 use Rattle.books.specs.Rule.{entries, numbersOf}
 use Rattle.records.specs.Record.{kindAt, recordBad}
 use Rattle.trace.specs.Record.{recordCall}

@@ -18,8 +18,8 @@ close-refusal-requires c κs = search needs
 
 returns : tie.Need-returns
 returns c =
-    let s = c .before .before .before .before in
-    let e = close-found (s .args .self) (now (s .args .m)) (search needs) _ (c .before .before .posted-broken .ensures) _ (c .before .close-refusal .ensures) in
+    let s = c .before .before .before .before .before .before in
+    let e = close-found (s .args .self) (now (s .args .m)) (search needs) _ (c .before .before .before .before .posted-broken .ensures) _ (c .before .close-refusal .ensures) in
     close-refused (s .args .self) (now (s .args .m)) _ e (c .if1 .taken)
 
 shut-requires : tie.Need-shut-requires
@@ -27,8 +27,8 @@ shut-requires c κs = search needs
 
 ended-requires : tie.Need-ended-requires
 ended-requires c κs =
-    let s = c .before .before .before .before .before .before .before in
-    let e = close-found (s .args .self) (now (s .args .m)) (search needs) _ (c .before .before .before .before .before .posted-broken .ensures) _ (c .before .before .before .before .close-refusal .ensures) in
+    let s = c .before .before .before .before .before .before .before .before in
+    let e = close-found (s .args .self) (now (s .args .m)) (search needs) _ (c .before .before .before .before .before .before .posted-broken .ensures) _ (c .before .before .before .close-refusal .ensures) in
     let r = wholeOf (s .args .self) (now (s .args .m)) in
     let a = able _ _ (postedOf r) _ (close-sound r _ e (omega arith)) (search needs) (search needs) in (
       room-up _ _ _ (a .room) (omega arith),
@@ -38,8 +38,8 @@ ended-requires c κs =
 returns-2 : tie.Need-returns-2
 returns-2 c =
     let s = c .before .before .before .before .before .before .before .before .before .before in
-    let e = close-found (s .args .self) (now (s .args .m)) (search needs) _ (c .before .before .before .before .before .before .before .before .posted-broken .ensures) _ (c .before .before .before .before .before .before .before .close-refusal .ensures) in
-    close-closed (s .args .self) (now (s .args .m)) _ e _ _ (omega arith) (c .before .before .before .before .shut .ensures) (c .before .before .ended .ensures)
+    let e = close-found (s .args .self) (now (s .args .m)) (search needs) _ (c .before .before .before .before .before .before .before .before .posted-broken .ensures) _ (c .before .before .before .before .before .close-refusal .ensures) in
+    close-closed (s .args .self) (now (s .args .m)) _ e _ _ (omega arith) (c .before .before .before .shut .ensures) (c .before .ended .ensures)
 
 pub close-spec : {M : Type 1} → statement M
 close-spec =

@@ -17,21 +17,21 @@ lost-refusal-requires c κs = search needs
 
 returns : tie.Need-returns
 returns c =
-    let s = c .before .before .before .before in
-    let e = lost-found (s .args .self) (now (s .args .m)) (search needs) _ (c .before .before .posted-broken .ensures) _ (c .before .lost-refusal .ensures) in
+    let s = c .before .before .before .before .before .before in
+    let e = lost-found (s .args .self) (now (s .args .m)) (search needs) _ (c .before .before .before .before .posted-broken .ensures) _ (c .before .lost-refusal .ensures) in
     lost-refused (s .args .self) (now (s .args .m)) _ e (c .if1 .taken)
 
 plus-requires : tie.Need-plus-requires
 plus-requires c κs =
     let s = c .before .before .before .before .before .before .before in
-    let e = lost-found (s .args .self) (now (s .args .m)) (search needs) _ (c .before .before .before .before .before .posted-broken .ensures) _ (c .before .before .before .before .lost-refusal .ensures) in
+    let e = lost-found (s .args .self) (now (s .args .m)) (search needs) _ (c .before .before .before .before .before .posted-broken .ensures) _ (c .before .before .lost-refusal .ensures) in
     let r = lost-ready (wholeOf (s .args .self) (now (s .args .m))) (search needs) (search needs) _ e (omega arith) in
     adding _ _ lostAt 1 (ready-able (wholeOf (s .args .self) (now (s .args .m))) r .room) (omega arith) (omega arith) (omega arith)
 
-add-t13 : tie.Need-add-t13
-add-t13 c =
+add-t14 : tie.Need-add-t14
+add-t14 c =
     let s = c .before .before .before .before .before .before .before .before .before in
-    let e = lost-found (s .args .self) (now (s .args .m)) (search needs) _ (c .before .before .before .before .before .before .before .posted-broken .ensures) _ (c .before .before .before .before .before .before .lost-refusal .ensures) in
+    let e = lost-found (s .args .self) (now (s .args .m)) (search needs) _ (c .before .before .before .before .before .before .before .posted-broken .ensures) _ (c .before .before .before .before .lost-refusal .ensures) in
     let r = lost-ready (wholeOf (s .args .self) (now (s .args .m))) (search needs) (search needs) _ e (omega arith) in
     omega (arith, r .more)
 
@@ -41,7 +41,7 @@ spoilt-requires c κs = search needs
 returns-2 : tie.Need-returns-2
 returns-2 c =
     let s = c .before .before .before .before .before .before .before .before .before .before in
-    let e = lost-found (s .args .self) (now (s .args .m)) (search needs) _ (c .before .before .before .before .before .before .before .before .posted-broken .ensures) _ (c .before .before .before .before .before .before .before .lost-refusal .ensures) in
+    let e = lost-found (s .args .self) (now (s .args .m)) (search needs) _ (c .before .before .before .before .before .before .before .before .posted-broken .ensures) _ (c .before .before .before .before .before .lost-refusal .ensures) in
     lost-noted (s .args .self) (now (s .args .m)) _ e _ _ (omega arith) (c .before .before .plus .ensures) (c .spoilt .ensures)
 
 pub lost-spec : {M : Type 1} → statement M
@@ -52,6 +52,6 @@ lost-spec =
     lost-refusal-requires
     returns
     plus-requires
-    add-t13
+    add-t14
     spoilt-requires
     returns-2)

@@ -1,8 +1,8 @@
 use Rattle.rules.proofs.Ladder.{ladder}
-use Rattle.session.specs.Refusals.{openingFlags}
+use Rattle.refusals.specs.Refusals.{openingFlags}
 use borrow.Author.Needs.{needs}
-use Rattle.session.proofs.check.opening_refusal.Statement.{statement}
-use Rattle.session.proofs.check.opening_refusal.Tie as tie
+use Rattle.refusals.proofs.opening_refusal.Statement.{statement}
+use Rattle.refusals.proofs.opening_refusal.Tie as tie
 
 frame-size-broken-requires : tie.Need-frame-size-broken-requires
 frame-size-broken-requires c κs = search needs

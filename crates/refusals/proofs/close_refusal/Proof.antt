@@ -1,7 +1,7 @@
-use Rattle.session.proofs.Checks.{close-rest, close-posted, close-53, close-none}
+use Rattle.refusals.proofs.Checks.{close-rest, close-posted, close-53, close-none}
 use borrow.Author.Needs.{needs}
-use Rattle.session.proofs.check.close_refusal.Statement.{statement}
-use Rattle.session.proofs.check.close_refusal.Tie as tie
+use Rattle.refusals.proofs.close_refusal.Statement.{statement}
+use Rattle.refusals.proofs.close_refusal.Tie as tie
 
 rest-broken-requires : tie.Need-rest-broken-requires
 rest-broken-requires c κs = search needs

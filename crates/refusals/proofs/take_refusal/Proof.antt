@@ -1,7 +1,7 @@
-use Rattle.session.proofs.Checks.{take-before, take-51, take-55, take-none}
+use Rattle.refusals.proofs.Checks.{take-before, take-51, take-55, take-none}
 use borrow.Author.Needs.{needs}
-use Rattle.session.proofs.check.take_refusal.Statement.{statement}
-use Rattle.session.proofs.check.take_refusal.Tie as tie
+use Rattle.refusals.proofs.take_refusal.Statement.{statement}
+use Rattle.refusals.proofs.take_refusal.Tie as tie
 
 lost-refusal-requires : tie.Need-lost-refusal-requires
 lost-refusal-requires c κs = search needs

@@ -1,7 +1,7 @@
-use Rattle.session.proofs.Checks.{lost-before, lost-52, lost-none}
+use Rattle.refusals.proofs.Checks.{lost-before, lost-52, lost-none}
 use borrow.Author.Needs.{needs}
-use Rattle.session.proofs.check.lost_refusal.Statement.{statement}
-use Rattle.session.proofs.check.lost_refusal.Tie as tie
+use Rattle.refusals.proofs.lost_refusal.Statement.{statement}
+use Rattle.refusals.proofs.lost_refusal.Tie as tie
 
 close-refusal-requires : tie.Need-close-refusal-requires
 close-refusal-requires c κs = search needs

@@ -3,8 +3,8 @@ ghost use mathlib.Core.Path.{_≡_};
 ghost use mathlib.Core.Bool.{_||_};
 ghost use Rattle.rules.specs.Numbered.{firstFrom, firstRow};
 ghost use Rattle.rule_50.specs.Inner.{restBroken};
-ghost use Rattle.session.specs.Refusals.{openingFlags, closeRowsBy, lostRowsBy, takeRowsBy};
-use crate::Rest;
+ghost use Rattle.refusals.specs.Refusals.{openingFlags, closeRowsBy, lostRowsBy, takeRowsBy};
+use frames::Phase;
 use ledger::Ledger;
 use sizes::Opening;
 
@@ -25,47 +25,51 @@ pub fn opening_refusal(o: Opening, room: usize) -> u8
 }
 
 // 50, 53. Posted: whether what is posted breaks rule 50.
-pub fn close_refusal(posted: bool, s: Rest) -> u8
-    ensures { λ r. ⌜ r ≡ firstRow (closeRowsBy (restBroken (s .opening) (s .track .phase) (s .taken) || posted) (s .closed)) ⌝ }
+pub fn close_refusal(posted: bool, o: Opening, p: Phase, closed: bool, taken: u32) -> u8
+    ensures { λ r. ⌜ r ≡ firstRow (closeRowsBy (restBroken o p taken || posted) closed) ⌝ }
 {
-    let o = s.opening;
-    let t = s.track;
-    let p = t.phase;
-    if rule_50::rest_broken(o, p, s.taken) {
+    if rule_50::rest_broken(o, p, taken) {
         return 50;
     }
     if posted {
         return 50;
     }
-    if s.closed {
+    if closed {
         return 53;
     }
     0
 }
 
 // 50, 53, 52.
-pub fn lost_refusal(posted: bool, s: Rest) -> u8
-    ensures { λ r. ⌜ r ≡ firstRow (lostRowsBy (restBroken (s .opening) (s .track .phase) (s .taken) || posted) (s .closed) (s .taken)) ⌝ }
+pub fn lost_refusal(posted: bool, o: Opening, p: Phase, closed: bool, taken: u32) -> u8
+    ensures { λ r. ⌜ r ≡ firstRow (lostRowsBy (restBroken o p taken || posted) closed taken) ⌝ }
 {
-    let number = close_refusal(posted, s);
+    let number = close_refusal(posted, o, p, closed, taken);
     if number != 0 {
         return number;
     }
-    if s.taken == Ledger::TRANSFERS {
+    if taken == Ledger::TRANSFERS {
         return 52;
     }
     0
 }
 
 // 50, 53, 52, 51, 55.
-pub fn take_refusal(posted: bool, s: Rest, room: usize, n: usize) -> u8
-    ensures { λ r. ⌜ r ≡ firstRow (takeRowsBy (restBroken (s .opening) (s .track .phase) (s .taken) || posted) (s .closed) (s .taken) (s .opening .frame) room n) ⌝ }
+pub fn take_refusal(
+    posted: bool,
+    o: Opening,
+    p: Phase,
+    closed: bool,
+    taken: u32,
+    room: usize,
+    n: usize,
+) -> u8
+    ensures { λ r. ⌜ r ≡ firstRow (takeRowsBy (restBroken o p taken || posted) closed taken (o .frame) room n) ⌝ }
 {
-    let number = lost_refusal(posted, s);
+    let number = lost_refusal(posted, o, p, closed, taken);
     if number != 0 {
         return number;
     }
-    let o = s.opening;
     if room < o.frame {
         return 51;
     }
