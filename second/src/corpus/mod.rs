@@ -14,8 +14,8 @@ use crate::compare::expected;
 use crate::random::{self, Random};
 use std::collections::BTreeSet;
 
-/// With the chosen cases, so many are stored.
-const CASES: usize = 3_100;
+/// So many random cases are stored behind the chosen ones.
+const RANDOM: usize = 400;
 
 /// The seed of the random ones.
 const SEED: u64 = 15;
@@ -25,8 +25,9 @@ const CALLS: usize = 24;
 
 pub fn write(stdin: &str, stdout: &str) -> Result<(), String> {
     let mut cases = chosen();
+    let all = cases.len() + RANDOM;
     let mut r = Random(SEED);
-    while cases.len() < CASES {
+    while cases.len() < all {
         let case = random::case(&mut r, CALLS);
         if case.bytes().len() < 4_000 {
             cases.push(case);
