@@ -1,4 +1,7 @@
 -- Laws of one transfer.
+pub mod Laid
 pub mod Readings
+pub mod OldKind
+pub mod Vp8
 pub mod Samples
 pub mod Unique

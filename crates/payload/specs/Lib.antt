@@ -1,1 +1,3 @@
+pub mod Layouts
 pub mod Transfer
+pub mod OldKind

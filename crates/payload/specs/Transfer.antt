@@ -1,67 +1,101 @@
--- Document 01, "Payload transfers": what one transfer says. `t` is the transfer's bytes.
-use Prim.Native.Nat.{ℕ, zero, suc, _+_, _/_, _%_, _^_}
+-- Document 01, "Payload transfers", and document 02, "Twelve": what one transfer says, over the kinds of header. `t` is the transfer's bytes, `l` what differs.
+use Prim.Native.Nat.{ℕ, zero, suc, _+_, _-_, _*_, _/_, _%_, _^_}
 use mathlib.Core.List.{List, [], _∷_}
-use mathlib.Core.Bool.{Bool, not}
+use mathlib.Core.Bool.{Bool, not, _&&_}
 use lib.ListN.{length, getD}
 use lib.Dec.{ltb, eqb}
-use Rattle.le.specs.Le.{le32At}
+use Rattle.le.specs.Le.{le16At, le32At}
 use Rattle.rules.specs.Pick.{pick}
 use Rattle.rules.specs.Numbered.{firstFrom}
 use Rattle.sizes.specs.declared.Opening.{Opening}
+use Rattle.payload.specs.declared.Layout.{Layout}
 use Rattle.payload.specs.declared.Stamp.{Stamp}
-use Rattle.payload.specs.declared.Stamp.the-variants.{Absent, At}
+use Rattle.payload.specs.declared.Layer.{Layer}
 use Rattle.payload.specs.declared.Header.{Header}
 use Rattle.payload.specs.declared.Reading.{Reading}
 use Rattle.payload.specs.declared.Reading.the-variants.{Idle, Unreadable, Readable}
+use Rattle.payload.specs.Layouts.{layoutOf}
 
--- Dn of a byte is set
+-- Dn of a number is set
 unfoldable pub flagOf : ℕ → ℕ → Bool
 flagOf b n = eqb (b / 2 ^ n % 2) 1
 
--- byte 0 is the header length; byte 1 holds the flags
+-- n bytes from o on as one number, the low one first
+abbrev pub numberAt : List ℕ → ℕ → ℕ → ℕ
+numberAt t o zero = 0
+numberAt t o (suc n) = getD t o 0 + numberAt t (suc o) n * 256
+
+-- byte 0 is the header length; the bytes after it, up to where fields begin, hold the flags
 abbrev pub lengthAt : List ℕ → ℕ
 lengthAt t = getD t 0 0
 
-abbrev pub flagsAt : List ℕ → ℕ
-flagsAt t = getD t 1 0
+abbrev pub flagsAt : Layout → List ℕ → ℕ
+flagsAt l t = numberAt t 1 (l .least - 1)
 
--- 2, with 4 for a PTS (D2) and 6 for an SCR (D3)
-unfoldable pub needOf : ℕ → ℕ
-needOf flags = 2 + pick (flagOf flags 2) 4 0 + pick (flagOf flags 3) 6 0
+-- D7 announces a layer, in a kind that has layers; it stands after the PTS (D2), of 4 bytes, and the SCR (D3), of 6
+abbrev pub hasLayer : Layout → ℕ → Bool
+hasLayer l flags = l .layered && flagOf flags 7
 
--- rules 61 to 66: a flag is up where its rule is broken
-unfoldable pub transferFlags : Opening → List ℕ → List Bool
-transferFlags o t =
-    eqb (length t) 1
-    ∷ ltb (o .payload) (length t)
-    ∷ ltb (lengthAt t) 2
+unfoldable pub layerPlace : Layout → ℕ → ℕ
+layerPlace l flags = l .least + pick (flagOf flags 2) 4 0 + pick (flagOf flags 3) 6 0
+
+-- how long a header has to be: its length and flags, with 4 for a PTS, 6 for an SCR and 2 for a layer
+unfoldable pub needOf : Layout → ℕ → ℕ
+needOf l flags = layerPlace l flags + pick (hasLayer l flags) 2 0
+
+-- no PTS, in a kind that has to have one
+abbrev pub stampMissing : Layout → ℕ → Bool
+stampMissing l flags = l .timed && not (flagOf flags 2)
+
+-- rules 61 to 67: a flag is up where its rule is broken
+unfoldable pub flagsBy : Layout → ℕ → List ℕ → List Bool
+flagsBy l payload t =
+    ltb (length t) (l .least)
+    ∷ ltb payload (length t)
+    ∷ ltb (lengthAt t) (l .least)
     ∷ ltb (length t) (lengthAt t)
-    ∷ ltb (lengthAt t) (needOf (flagsAt t))
-    ∷ not (flagOf (flagsAt t) 7)
+    ∷ ltb (lengthAt t) (needOf l (flagsAt l t))
+    ∷ not (flagOf (flagsAt l t) (l .ends))
+    ∷ stampMissing l (flagsAt l t)
     ∷ []
 
--- the PTS: four bytes at 2, if D2 says that it is present
-unfoldable pub stampOf : List ℕ → ℕ → Stamp
-stampOf t flags = pick (flagOf flags 2) (At (le32At t 2)) Absent
+abbrev pub transferFlags : Opening → List ℕ → List Bool
+transferFlags o t = flagsBy (layoutOf (o .kind)) (o .payload) t
 
--- D0 FID, D1 EOF, D5 still, D6 error. Further bytes of a longer header are header too.
-unfoldable pub headerOf : List ℕ → Header
-headerOf t =
+-- the PTS: four bytes after the flags, if D2 says that it is present
+unfoldable pub stampOf : Layout → List ℕ → ℕ → Stamp
+stampOf l t flags = pick (flagOf flags 2) (Stamp.At (le32At t (l .least))) Stamp.Absent
+
+-- the layer: two bytes, if there is one
+unfoldable pub layerOf : Layout → List ℕ → ℕ → Layer
+layerOf l t flags = pick (hasLayer l flags) (Layer.At (le16At t (layerPlace l flags))) Layer.Absent
+
+-- D0 FID, D1 EOF, D5 still, in a kind that has stills, D6 error. Further bytes of a longer header are header too.
+unfoldable pub headerBy : Layout → List ℕ → Header
+headerBy l t =
     record {
       len = lengthAt t;
-      fid = flagOf (flagsAt t) 0;
-      eof = flagOf (flagsAt t) 1;
-      still = flagOf (flagsAt t) 5;
-      error = flagOf (flagsAt t) 6;
-      stamp = stampOf t (flagsAt t);
+      fid = flagOf (flagsAt l t) 0;
+      eof = flagOf (flagsAt l t) 1;
+      still = l .stills && flagOf (flagsAt l t) 5;
+      error = flagOf (flagsAt l t) 6;
+      stamp = stampOf l t (flagsAt l t);
+      layer = layerOf l t (flagsAt l t);
     }
 
+abbrev pub headerOf : Opening → List ℕ → Header
+headerOf o t = headerBy (layoutOf (o .kind)) t
+
 -- unreadable by the first broken rule, or readable
-abbrev pub sorted : ℕ → List ℕ → Reading
-sorted zero t = Readable (headerOf t)
-sorted (suc k) t = Unreadable (suc k)
+abbrev pub sorted : ℕ → Header → Reading
+sorted zero h = Readable h
+sorted (suc k) h = Unreadable (suc k)
+
+-- a transfer of a byte or more
+abbrev pub sortedBy : Layout → ℕ → List ℕ → Reading
+sortedBy l payload t = sorted (firstFrom 61 (flagsBy l payload t)) (headerBy l t)
 
 -- a length of 0 is idle
 unfoldable pub readingOf : Opening → List ℕ → Reading
 readingOf o [] = Idle
-readingOf o (b ∷ t) = sorted (firstFrom 61 (transferFlags o (b ∷ t))) (b ∷ t)
+readingOf o (b ∷ t) = sortedBy (layoutOf (o .kind)) (o .payload) (b ∷ t)

@@ -1,15 +1,17 @@
 // One payload transfer: its header, or what makes it unreadable.
 ghost use mathlib.Core.Path.{_≡_};
-ghost use mathlib.Core.Bool.{true};
+ghost use mathlib.Core.Bool.{not, _&&_};
 ghost use Prim.Native.Nat.{_<_, _≤_};
-ghost use lib.ListN.{length, getD};
+ghost use lib.ListN.{length};
 ghost use lib.Dec.{ltb};
 ghost use Rattle.rules.specs.Pick.{pick};
 ghost use Rattle.rules.specs.Numbered.{firstFrom};
-ghost use Rattle.payload.specs.Transfer.{flagOf, needOf, stampOf, headerOf, transferFlags, readingOf};
+ghost use Rattle.payload.specs.Layouts.{Laid};
+ghost use Rattle.payload.specs.Transfer.{flagOf, flagsAt, hasLayer, layerPlace, needOf, stampMissing, stampOf, layerOf, headerBy, flagsBy, sortedBy, readingOf};
+use sizes::HeaderKind;
 use sizes::Opening;
 
-// The bits of byte 1 that are read.
+// The bits of the flags that both kinds of header read alike.
 const FID: u8 = 0;
 
 const EOF: u8 = 1;
@@ -18,18 +20,45 @@ const PTS: u8 = 2;
 
 const SCR: u8 = 3;
 
-const STILL: u8 = 5;
-
 const ERROR: u8 = 6;
 
-const END: u8 = 7;
+// D5 marks a still, and D7 announces a layer, in one kind each.
+const STILL: u8 = 5;
 
-// The bytes of a header with neither, of a PTS and of an SCR.
-const BARE: usize = 2;
+const LAYER: u8 = 7;
 
+// The bytes of a PTS, of an SCR and of a layer.
 const PTS_BYTES: usize = 4;
 
 const SCR_BYTES: usize = 6;
+
+const LAYER_BYTES: usize = 2;
+
+// What differs between the kinds of header: the bytes of one with no field, the bit that says end of header, whether D5 marks a still, whether D7 announces a
+// layer, and whether a PTS has to be there.
+struct Layout {
+    least: usize,
+    ends: u8,
+    stills: bool,
+    layered: bool,
+    timed: bool,
+}
+
+const OLD: Layout = Layout {
+    least: 2,
+    ends: 7,
+    stills: true,
+    layered: false,
+    timed: false,
+};
+
+const VP8: Layout = Layout {
+    least: 4,
+    ends: 23,
+    stills: false,
+    layered: true,
+    timed: true,
+};
 
 // A presentation time, or none.
 pub enum Stamp {
@@ -37,7 +66,13 @@ pub enum Stamp {
     At(u32),
 }
 
-// A readable header: its length, D0, D1, D5, D6 and its stamp.
+// A layer field, or none.
+pub enum Layer {
+    Absent,
+    At(u16),
+}
+
+// A readable header: its length, D0, D1, D5, D6, its stamp and its layer.
 pub struct Header {
     pub len: usize,
     pub fid: bool,
@@ -45,21 +80,35 @@ pub struct Header {
     pub still: bool,
     pub error: bool,
     pub stamp: Stamp,
+    pub layer: Layer,
 }
 
 pub enum Reading {
     Idle,
-    // The number, 61 to 66.
+    // The number, 61 to 67.
     Unreadable(u8),
     Readable(Header),
 }
 
-// Whether bit n of a byte is set.
-fn flag(b: u8, n: u8) -> bool
-    requires { ⌜ n < 8 ⌝ }
-    ensures { λ r. ⌜ r ≡ flagOf b n ⌝ }
+// Whether bit n of the flags is set.
+fn flag(flags: u32, n: u8) -> bool
+    requires { ⌜ n < 32 ⌝ }
+    ensures { λ r. ⌜ r ≡ flagOf flags n ⌝ }
 {
-    (b >> n) & 1 == 1
+    (flags >> n) & 1 == 1
+}
+
+// The flags: the bytes between the header's length and its fields, as one number.
+fn flags_at(l: Layout, t: &[u8]) -> u32
+    requires { ⌜ (Laid l) × (l .least ≤ length (now t)) ⌝ }
+    ensures { λ r. ⌜ r ≡ flagsAt l (now (t .entry)) ⌝ }
+{
+    let low = t[1] as u32;
+    if l.least == 2 {
+        return low;
+    }
+    let high = le::le16(t, 2) as u32;
+    low + high * 256
 }
 
 // n bytes, if the flag that announces them is set.
@@ -69,74 +118,120 @@ fn held(there: bool, n: usize) -> usize
     if there { n } else { 0 }
 }
 
-// How long a header has to be for what its flags say it holds.
-fn need_of(flags: u8) -> usize
-    ensures { λ r. ⌜ r ≡ needOf flags ⌝ }
+// Where a layer stands: after the PTS and the SCR.
+fn layer_place(l: Layout, flags: u32) -> usize
+    requires { ⌜ Laid l ⌝ }
+    ensures { λ r. ⌜ (r ≡ layerPlace l flags) × (r ≤ 14) ⌝ }
 {
     let pts = held(flag(flags, PTS), PTS_BYTES);
     let scr = held(flag(flags, SCR), SCR_BYTES);
-    BARE + pts + scr
+    l.least + pts + scr
 }
 
-// 65.
-fn too_short(len: usize, flags: u8) -> bool
-    ensures { λ r. ⌜ r ≡ ltb len (needOf flags) ⌝ }
+fn has_layer(l: Layout, flags: u32) -> bool
+    ensures { λ r. ⌜ r ≡ hasLayer l flags ⌝ }
 {
-    len < need_of(flags)
+    if l.layered { flag(flags, LAYER) } else { false }
 }
 
-// The first of 61 to 66 that a transfer of a byte or more breaks; 0 where none is broken.
-fn unreadable_by(o: Opening, t: &[u8]) -> u8
-    requires { ⌜ 0 < length (now t) ⌝ }
-    ensures { λ r. ⌜ r ≡ firstFrom 61 (transferFlags o (now (t .entry))) ⌝ }
+// 65: the header is shorter than what its flags say it holds.
+fn too_short(l: Layout, len: usize, flags: u32) -> bool
+    requires { ⌜ Laid l ⌝ }
+    ensures { λ r. ⌜ r ≡ ltb len (needOf l flags) ⌝ }
+{
+    let layer = held(has_layer(l, flags), LAYER_BYTES);
+    len < layer_place(l, flags) + layer
+}
+
+// 66: no end of header.
+fn unended(l: Layout, flags: u32) -> bool
+    requires { ⌜ Laid l ⌝ }
+    ensures { λ r. ⌜ r ≡ not (flagOf flags (l .ends)) ⌝ }
+{
+    !flag(flags, l.ends)
+}
+
+// 67: no PTS where one has to be.
+fn stamp_missing(l: Layout, flags: u32) -> bool
+    ensures { λ r. ⌜ r ≡ stampMissing l flags ⌝ }
+{
+    if l.timed { !flag(flags, PTS) } else { false }
+}
+
+// The first of 61 to 67 that a transfer breaks; 0 where none is broken.
+fn unreadable_by(l: Layout, payload: usize, t: &[u8]) -> u8
+    requires { ⌜ Laid l ⌝ }
+    ensures { λ r. ⌜ r ≡ firstFrom 61 (flagsBy l payload (now (t .entry))) ⌝ }
 {
     let n = t.len();
-    if n == 1 {
+    if n < l.least {
         return 61;
     }
-    if o.payload < n {
+    if payload < n {
         return 62;
     }
     let len = t[0] as usize;
-    if len < BARE {
+    if len < l.least {
         return 63;
     }
     if n < len {
         return 64;
     }
-    let flags = t[1];
-    if too_short(len, flags) {
+    let flags = flags_at(l, t);
+    if too_short(l, len, flags) {
         return 65;
     }
-    if flag(flags, END) {
-        return 0;
+    if unended(l, flags) {
+        return 66;
     }
-    66
+    if stamp_missing(l, flags) {
+        return 67;
+    }
+    0
 }
 
 // The stamp of a header whose flags are given.
-fn stamp_of(t: &[u8], flags: u8) -> Stamp
-    requires { ⌜ (flagOf flags 2 ≡ true → 6 ≤ length (now t)) ⌝ }
-    ensures { λ r. ⌜ r ≡ stampOf (now (t .entry)) flags ⌝ }
+fn stamp_of(l: Layout, t: &[u8], flags: u32) -> Stamp
+    requires { ⌜ needOf l flags ≤ length (now t) ⌝ }
+    ensures { λ r. ⌜ r ≡ stampOf l (now (t .entry)) flags ⌝ }
 {
     if flag(flags, PTS) {
-        Stamp::At(le::le32(t, BARE))
+        Stamp::At(le::le32(t, l.least))
     } else {
         Stamp::Absent
     }
 }
 
-fn header_of(t: &[u8]) -> Header
-    requires { ⌜ (2 ≤ length (now t)) × (flagOf (getD (now t) 1 0) 2 ≡ true → 6 ≤ length (now t)) ⌝ }
-    ensures { λ r. ⌜ r ≡ headerOf (now (t .entry)) ⌝ }
+// The layer of a header whose flags are given.
+fn layer_of(l: Layout, t: &[u8], flags: u32) -> Layer
+    requires { ⌜ (Laid l) × (needOf l flags ≤ length (now t)) ⌝ }
+    ensures { λ r. ⌜ r ≡ layerOf l (now (t .entry)) flags ⌝ }
+{
+    if has_layer(l, flags) {
+        Layer::At(le::le16(t, layer_place(l, flags)))
+    } else {
+        Layer::Absent
+    }
+}
+
+fn is_still(l: Layout, flags: u32) -> bool
+    ensures { λ r. ⌜ r ≡ l .stills && flagOf flags 5 ⌝ }
+{
+    if l.stills { flag(flags, STILL) } else { false }
+}
+
+fn header_by(l: Layout, t: &[u8]) -> Header
+    requires { ⌜ (Laid l) × (l .least ≤ length (now t)) × (needOf l (flagsAt l (now t)) ≤ length (now t)) ⌝ }
+    ensures { λ r. ⌜ r ≡ headerBy l (now (t .entry)) ⌝ }
 {
     let len = le::wide(t[0]);
-    let flags = t[1];
+    let flags = flags_at(l, t);
     let fid = flag(flags, FID);
     let eof = flag(flags, EOF);
-    let still = flag(flags, STILL);
+    let still = is_still(l, flags);
     let error = flag(flags, ERROR);
-    let stamp = stamp_of(t, flags);
+    let stamp = stamp_of(l, t, flags);
+    let layer = layer_of(l, t, flags);
     Header {
         len,
         fid,
@@ -144,7 +239,20 @@ fn header_of(t: &[u8]) -> Header
         still,
         error,
         stamp,
+        layer,
     }
+}
+
+// A transfer by what its kind of header says.
+fn read_by(l: Layout, payload: usize, t: &[u8]) -> Reading
+    requires { ⌜ Laid l ⌝ }
+    ensures { λ r. ⌜ r ≡ sortedBy l payload (now (t .entry)) ⌝ }
+{
+    let number = unreadable_by(l, payload, t);
+    if number != 0 {
+        return Reading::Unreadable(number);
+    }
+    Reading::Readable(header_by(l, t))
 }
 
 // Reads one transfer: idle, unreadable by its number, or its header.
@@ -154,9 +262,9 @@ pub fn read(o: Opening, t: &[u8]) -> Reading
     if t.len() == 0 {
         return Reading::Idle;
     }
-    let number = unreadable_by(o, t);
-    if number != 0 {
-        return Reading::Unreadable(number);
+    let kind = o.kind;
+    match kind {
+        HeaderKind::Old => read_by(OLD, o.payload, t),
+        HeaderKind::Vp8 => read_by(VP8, o.payload, t),
     }
-    Reading::Readable(header_of(t))
 }

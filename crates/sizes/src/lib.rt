@@ -12,11 +12,18 @@ pub const PAYLOAD_MOST: usize = 65_536;
 // The bit of the framing byte that says that EOF may be present.
 const EOF_PRESENT: u8 = 1;
 
-// What a session is opened with, passed whole: the negotiated frame size and payload size, and the probe block's framing byte.
+// How a camera's payload headers are laid out: as USB Video Class 1.5 has them, or as its VP8 payload has.
+pub enum HeaderKind {
+    Old,
+    Vp8,
+}
+
+// What a session is opened with, passed whole: the negotiated frame size and payload size, the probe block's framing byte, and the header kind.
 pub struct Opening {
     pub frame: usize,
     pub payload: usize,
     pub framing: u8,
+    pub kind: HeaderKind,
 }
 
 // D1 of the framing byte: frames end by EOF. With D1 clear EOF is ignored, and a frame ends where the FID turns.

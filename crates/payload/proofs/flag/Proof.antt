@@ -12,7 +12,7 @@ shr-result c = search needs
 
 returns : tie.Need-returns
 unfolding flagOf
-returns c = ap (λ (k : ℕ). eqb k 1) (and-mask (c .args .b / 2 ^ c .args .n) 1)
+returns c = ap (λ (k : ℕ). eqb k 1) (and-mask (c .args .flags / 2 ^ c .args .n) 1)
 
 pub flag-spec : {M : Type 1} → statement M
 flag-spec = tie.close (tie.spec shr-result returns)

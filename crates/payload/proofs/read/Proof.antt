@@ -1,5 +1,8 @@
 use native.Mathlib.Omega.{arith}
-use Rattle.payload.proofs.Readings.{idle-here, unreadable-here, readable-here, header-room}
+use Rattle.sizes.specs.declared.HeaderKind.the-variants.{Old, Vp8}
+use Rattle.payload.specs.Layouts.{layoutOf}
+use Rattle.payload.proofs.Laid.{laid}
+use Rattle.payload.proofs.Readings.{idle-here, read-kind}
 use borrow.Author.Needs.{needs}
 use Rattle.payload.proofs.read.Statement.{statement}
 use Rattle.payload.proofs.read.Tie as tie
@@ -7,18 +10,38 @@ use Rattle.payload.proofs.read.Tie as tie
 returns : tie.Need-returns
 returns c = search idle-here
 
-unreadable-by-requires : tie.Need-unreadable-by-requires
-unreadable-by-requires c κs = search needs
+enum-told : tie.Need-enum-told
+enum-told c = search needs
+
+read-by-requires : tie.Need-read-by-requires
+unfolding layoutOf
+read-by-requires c κs = laid Old
+
+enum-told-2 : tie.Need-enum-told-2
+enum-told-2 c = search needs
+
+read-by-requires-2 : tie.Need-read-by-requires-2
+unfolding layoutOf
+read-by-requires-2 c κs = laid Vp8
 
 returns-2 : tie.Need-returns-2
-returns-2 c = search unreadable-here
-
-header-of-requires : tie.Need-header-of-requires
-header-of-requires c κs = header-room (c .before .before .before .before .args .o) _ _ (c .before .unreadable-by .ensures) (omega arith)
+unfolding layoutOf
+returns-2 c =
+    read-kind (c .before .before .before .before .before .args .o) _ Old _ (omega (arith, c .before .before .before .if1 .left)) (c .before .enum-told .given .1) (c .read-by .ensures)
 
 returns-3 : tie.Need-returns-3
-returns-3 c = search readable-here
+unfolding layoutOf
+returns-3 c =
+    read-kind (c .before .before .before .before .before .args .o) _ Vp8 _ (omega (arith, c .before .before .before .if1 .left)) (c .before .enum-told2 .given .1) (c .read-by2 .ensures)
 
 pub read-spec : {M : Type 1} → statement M
 read-spec =
-    tie.close (tie.spec returns unreadable-by-requires returns-2 header-of-requires returns-3)
+    tie.close
+    (tie.spec
+    returns
+    enum-told
+    read-by-requires
+    enum-told-2
+    read-by-requires-2
+    returns-2
+    returns-3)

@@ -1,5 +1,6 @@
 use mathlib.Core.Path.{sym, _∙_}
 use native.Mathlib.Omega.{arith}
+use Rattle.payload.proofs.Readings.{stamp-room}
 use Rattle.rules.specs.Pick.{picks}
 use Rattle.payload.specs.Transfer.{stampOf}
 use borrow.Author.Needs.{needs}
@@ -10,7 +11,7 @@ flag-requires : tie.Need-flag-requires
 flag-requires c κs = search needs
 
 le32-requires : tie.Need-le32-requires
-le32-requires c κs = let h = c .before .before .before .pre (sym (c .before .flag .ensures) ∙ c .if1 .taken) in omega arith
+le32-requires c κs = let h = stamp-room (c .before .before .before .args .l) _ (sym (c .before .flag .ensures) ∙ c .if1 .taken) in omega arith
 
 returns : tie.Need-returns
 unfolding stampOf

@@ -1,17 +1,17 @@
 use native.Mathlib.Omega.{arith}
 use Rattle.rules.proofs.Ladder.{ladder}
-use Rattle.payload.specs.Transfer.{transferFlags}
+use Rattle.payload.specs.Transfer.{flagsBy}
 use borrow.Author.Needs.{needs}
 use Rattle.payload.proofs.unreadable_by.Statement.{statement}
 use Rattle.payload.proofs.unreadable_by.Tie as tie
 
 returns : tie.Need-returns
-unfolding transferFlags
-returns c = search ladder depth 20
+unfolding flagsBy
+returns c = search ladder depth 24
 
 returns-2 : tie.Need-returns-2
-unfolding transferFlags
-returns-2 c = search ladder depth 20
+unfolding flagsBy
+returns-2 c = search ladder depth 24
 
 shared-slice-read-len : tie.Need-shared-slice-read-len
 shared-slice-read-len c = search needs
@@ -20,33 +20,40 @@ cast-len : tie.Need-cast-len
 cast-len c = omega (arith, c .shared-slice-known2 .given 0)
 
 returns-3 : tie.Need-returns-3
-unfolding transferFlags
-returns-3 c = search ladder depth 20
+unfolding flagsBy
+returns-3 c = search ladder depth 24
 
 returns-4 : tie.Need-returns-4
-unfolding transferFlags
-returns-4 c = search ladder depth 20
+unfolding flagsBy
+returns-4 c = search ladder depth 24
 
-shared-slice-read-flags : tie.Need-shared-slice-read-flags
-shared-slice-read-flags c = search needs
+flags-at-requires : tie.Need-flags-at-requires
+flags-at-requires c κs = search needs
 
 too-short-requires : tie.Need-too-short-requires
 too-short-requires c κs = search needs
 
 returns-5 : tie.Need-returns-5
-unfolding transferFlags
-returns-5 c = search ladder depth 20
+unfolding flagsBy
+returns-5 c = rw (← c .before .before .flags-at .ensures) (search ladder depth 24)
 
-flag-requires : tie.Need-flag-requires
-flag-requires c κs = search needs
+unended-requires : tie.Need-unended-requires
+unended-requires c κs = search needs
 
 returns-6 : tie.Need-returns-6
-unfolding transferFlags
-returns-6 c = search ladder depth 20
+unfolding flagsBy
+returns-6 c = rw (← c .before .before .before .before .flags-at .ensures) (search ladder depth 24)
+
+stamp-missing-requires : tie.Need-stamp-missing-requires
+stamp-missing-requires c κs = search needs
 
 returns-7 : tie.Need-returns-7
-unfolding transferFlags
-returns-7 c = search ladder depth 20
+unfolding flagsBy
+returns-7 c = rw (← c .before .before .before .before .before .before .flags-at .ensures) (search ladder depth 24)
+
+returns-8 : tie.Need-returns-8
+unfolding flagsBy
+returns-8 c = rw (← c .before .before .before .before .before .before .flags-at .ensures) (search ladder depth 24)
 
 pub unreadable-by-spec : {M : Type 1} → statement M
 unreadable-by-spec =
@@ -58,9 +65,11 @@ unreadable-by-spec =
     cast-len
     returns-3
     returns-4
-    shared-slice-read-flags
+    flags-at-requires
     too-short-requires
     returns-5
-    flag-requires
+    unended-requires
     returns-6
-    returns-7)
+    stamp-missing-requires
+    returns-7
+    returns-8)

@@ -1,7 +1,7 @@
-use Rattle.payload.specs.Transfer.{needOf}
+use Rattle.payload.specs.Transfer.{layerPlace}
 use borrow.Author.Needs.{needs}
-use Rattle.payload.proofs.need_of.Statement.{statement}
-use Rattle.payload.proofs.need_of.Tie as tie
+use Rattle.payload.proofs.layer_place.Statement.{statement}
+use Rattle.payload.proofs.layer_place.Tie as tie
 
 flag-requires : tie.Need-flag-requires
 flag-requires c κs = search needs
@@ -22,11 +22,19 @@ add-result-2 : tie.Need-add-result-2
 add-result-2 c = search needs
 
 returns : tie.Need-returns
-unfolding needOf
-returns c = simp (c .held2 .ensures .0, c .before .flag2 .ensures, c .before .before .held .ensures .0, c .before .before .before .flag .ensures)
+unfolding layerPlace
+returns c = (
+  simp (
+    c .before .held2 .ensures .0,
+    c .before .before .flag2 .ensures,
+    c .before .before .before .held .ensures .0,
+    c .before .before .before .before .flag .ensures,
+  ),
+  search needs,
+)
 
-pub need-of-spec : {M : Type 1} → statement M
-need-of-spec =
+pub layer-place-spec : {M : Type 1} → statement M
+layer-place-spec =
     tie.close
     (tie.spec
     flag-requires
