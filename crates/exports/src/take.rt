@@ -1,9 +1,11 @@
 // Takes transfers in a session.
 ghost use mathlib.Core.Path.{_≡_};
+ghost use Rattle.sizes.specs.declared.HeaderKind.the-variants.{Old};
 ghost use Rattle.exports.specs.Taking.{opened, tookAll, deliveredOf};
 use ledger::Account;
 use ledger::Ledger;
 use session::Session;
+use sizes::HeaderKind;
 use sizes::Opening;
 
 // Opens a session, and takes the transfers of `size` bytes that lie one after another in `transfers`, all of them so many times. It answers the bytes delivered.
@@ -17,14 +19,15 @@ pub extern "C" fn palkodhen_take(
     buffer: &mut [u8],
     transfers: &[u8],
 ) -> u64
-    ensures { λ r. ⌜ r ≡ deliveredOf (tookAll size (now (transfers .entry)) (opened (record { frame = frame; payload = payload; framing = framing }) (now (buffer .entry))) times) ⌝ }
-    ensures { λ _. ⌜ now (buffer .exit) ≡ tookAll size (now (transfers .entry)) (opened (record { frame = frame; payload = payload; framing = framing }) (now (buffer .entry))) times .buffer ⌝ }
+    ensures { λ r. ⌜ r ≡ deliveredOf (tookAll size (now (transfers .entry)) (opened (record { frame = frame; payload = payload; framing = framing; kind = Old }) (now (buffer .entry))) times) ⌝ }
+    ensures { λ _. ⌜ now (buffer .exit) ≡ tookAll size (now (transfers .entry)) (opened (record { frame = frame; payload = payload; framing = framing; kind = Old }) (now (buffer .entry))) times .buffer ⌝ }
 {
     let start = Session::open(
         Opening {
             frame,
             payload,
             framing,
+            kind: HeaderKind::Old,
         },
         buffer,
     );

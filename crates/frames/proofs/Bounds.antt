@@ -10,6 +10,7 @@ use Rattle.sizes.specs.declared.Opening.{Opening}
 use Rattle.payload.specs.declared.Header.{Header}
 use Rattle.frames.specs.declared.Reason.{Reason}
 use Rattle.payload.specs.declared.Stamp.{Stamp}
+use Rattle.payload.specs.declared.Layer.{Layer}
 use Rattle.frames.specs.declared.Reason.the-variants.{Gap, Error, Clock, Mixed, Long}
 use Rattle.frames.specs.declared.Fault.{Fault}
 use Rattle.frames.specs.declared.Fault.the-variants.{Sound, Bad}
@@ -91,12 +92,12 @@ pub record Sits (o : Opening) (p : Phase) (n : ℕ) (x : Turn) : Type 0 where
   -- and the next frame under way is filled as this one
   pub filled : FilledBy o (x .track .phase)
 
-complete-long : (f : Fault) (n : ℕ) (s : Stamp) (b : Bool) → LengthOf (completeOf f n s b) n
-complete-long (Bad why) n s b = tt
-complete-long Sound n s b = pick-all (λ x. LengthOf x n) (eqb n 0) _ _ tt (pick-all (λ x. LengthOf x n) b _ _ refl refl)
+complete-long : (f : Fault) (n : ℕ) (s : Stamp) (l : Layer) (b : Bool) → LengthOf (completeOf f n s l b) n
+complete-long (Bad why) n s l b = tt
+complete-long Sound n s l b = pick-all (λ x. LengthOf x n) (eqb n 0) _ _ tt (pick-all (λ x. LengthOf x n) b _ _ refl refl)
 
 fate-long : (eof : Bool) (r : Run) → LengthOf (fateOf eof r) (r .bytes)
-fate-long true r = complete-long (r .fault) (r .bytes) (r .stamp) (r .still)
+fate-long true r = complete-long (r .fault) (r .bytes) (r .stamp) (r .layer) (r .still)
 fate-long false r = tt
 
 no-more : (f : Fault) (n : ℕ) → writtenOf f n ≤ n

@@ -11,6 +11,7 @@ use Rattle.sizes.specs.Framing.{byEof}
 use Rattle.payload.specs.declared.Header.{Header}
 use Rattle.payload.specs.declared.Stamp.{Stamp}
 use Rattle.payload.specs.declared.Stamp.the-variants.{Absent}
+use Rattle.payload.specs.declared.Layer.{Layer}
 use Rattle.frames.specs.declared.Reason.{Reason}
 use Rattle.frames.specs.declared.Reason.the-variants.{Empty}
 use Rattle.frames.specs.declared.Fault.{Fault}
@@ -53,17 +54,17 @@ module _ (o : Opening) (t : Track) (h : Header) (n : ℕ) (x : Turn) where
   turn-past fid s b p e y g q = rw p (said-no s (sameOf fid (h .fid)) x _ _ e y (rw g at q))
 
 -- ---- a complete frame
-module _ (f : Fault) (n : ℕ) (s : Stamp) (b : Bool) where
-  pub complete-bad : (w : Reason) → f ≡ Bad w → Dropped w ≡ completeOf f n s b
+module _ (f : Fault) (n : ℕ) (s : Stamp) (l : Layer) (b : Bool) where
+  pub complete-bad : (w : Reason) → f ≡ Bad w → Dropped w ≡ completeOf f n s l b
   complete-bad w e = rw e
 
-  pub complete-empty : f ≡ Sound → n ≡ 0 → Dropped Empty ≡ completeOf f n s b
+  pub complete-empty : f ≡ Sound → n ≡ 0 → Dropped Empty ≡ completeOf f n s l b
   complete-empty e z = rw e (yes (eqb n 0) _ _ _ (eq-eqb n 0 z) refl)
 
-  pub complete-still : f ≡ Sound → (n ≡ 0 → ⊥) → b ≡ true → Still (record { len = n; stamp = s }) ≡ completeOf f n s b
+  pub complete-still : f ≡ Sound → (n ≡ 0 → ⊥) → b ≡ true → Still (record { len = n; stamp = s; layer = l }) ≡ completeOf f n s l b
   complete-still e z y = rw e (no (eqb n 0) _ _ _ (ne-eqb n 0 z) (yes b _ _ _ y refl))
 
-  pub complete-whole : f ≡ Sound → (n ≡ 0 → ⊥) → b ≡ false → Delivered (record { len = n; stamp = s }) ≡ completeOf f n s b
+  pub complete-whole : f ≡ Sound → (n ≡ 0 → ⊥) → b ≡ false → Delivered (record { len = n; stamp = s; layer = l }) ≡ completeOf f n s l b
   complete-whole e z y = rw e (no (eqb n 0) _ _ _ (ne-eqb n 0 z) (no b _ _ _ y refl))
 
 -- ---- EOF, with D1 of the framing byte set
@@ -110,20 +111,20 @@ module _ (o : Opening) (t : Track) (h : Header) where
 
 -- ---- the hand-out
 out-by-fresh : (p : Phase) (gap : Bool) → p ≡ Fresh →
-    record { track = record { phase = p; gap = gap }; frame = record { still = false; delivery = record { len = 0; stamp = Absent } } } ≡ outBy p gap
+    record { track = record { phase = p; gap = gap }; frame = record { still = false; delivery = record { len = 0; stamp = Absent; layer = Layer.Absent } } } ≡ outBy p gap
 out-by-fresh p gap e = rw e
 
 out-by-past : (p : Phase) (gap fid : Bool) → p ≡ Past fid →
-    record { track = record { phase = p; gap = gap }; frame = record { still = false; delivery = record { len = 0; stamp = Absent } } } ≡ outBy p gap
+    record { track = record { phase = p; gap = gap }; frame = record { still = false; delivery = record { len = 0; stamp = Absent; layer = Layer.Absent } } } ≡ outBy p gap
 out-by-past p gap fid e = rw e
 
 pub out-fresh : (t : Track) → t .phase ≡ Fresh →
-    record { track = t; frame = record { still = false; delivery = record { len = 0; stamp = Absent } } } ≡ outOf t
+    record { track = t; frame = record { still = false; delivery = record { len = 0; stamp = Absent; layer = Layer.Absent } } } ≡ outOf t
 unfolding outOf
 out-fresh t e = out-by-fresh (t .phase) (t .gap) e
 
 pub out-past : (t : Track) (fid : Bool) → t .phase ≡ Past fid →
-    record { track = t; frame = record { still = false; delivery = record { len = 0; stamp = Absent } } } ≡ outOf t
+    record { track = t; frame = record { still = false; delivery = record { len = 0; stamp = Absent; layer = Layer.Absent } } } ≡ outOf t
 unfolding outOf
 out-past t fid e = out-by-past (t .phase) (t .gap) fid e
 

@@ -9,6 +9,8 @@ use Rattle.sizes.specs.Framing.{byEof}
 use Rattle.payload.specs.declared.Header.{Header}
 use Rattle.payload.specs.declared.Stamp.{Stamp}
 use Rattle.payload.specs.declared.Stamp.the-variants.{Absent, At}
+use Rattle.payload.specs.declared.Layer.{Layer}
+use Rattle.payload.specs.declared.Layer.the-variants as layer
 use Rattle.frames.specs.declared.Reason.{Reason}
 use Rattle.frames.specs.declared.Reason.the-variants.{Gap, Error, Clock, Mixed, Long, Cut, Empty}
 use Rattle.frames.specs.declared.Fault.{Fault}
@@ -42,6 +44,11 @@ abbrev pub earlierOf : Stamp → Stamp → Stamp
 earlierOf Absent b = b
 earlierOf (At x) b = At x
 
+-- the last layer of two
+abbrev pub laterOf : Layer → Layer → Layer
+laterOf a layer.Absent = a
+laterOf a (layer.At y) = layer.At y
+
 -- the fault names the frame; without one, the other reason does
 abbrev pub whyOf : Fault → Reason → Reason
 whyOf Sound other = other
@@ -62,7 +69,7 @@ writtenOf (Bad w) n = 0
 
 -- a frame begins: with a gap, if an unreadable or lost transfer came before it with no readable one between
 abbrev pub begunOf : Bool → Bool → Bool → Run
-begunOf gap fid still = record { fid = fid; still = still; fault = firstOf Sound gap Gap; bytes = 0; fill = 0; stamp = Absent }
+begunOf gap fid still = record { fid = fid; still = still; fault = firstOf Sound gap Gap; bytes = 0; fill = 0; stamp = Absent; layer = layer.Absent }
 
 -- the still bit is not that of the frame's first transfer
 abbrev pub mixedOf : Run → Header → Bool
@@ -83,13 +90,14 @@ joinedOf o r h n =
       bytes = r .bytes + n;
       fill = filledOf (faultOf o r h n) (r .fill) n;
       stamp = earlierOf (r .stamp) (h .stamp);
+      layer = laterOf (r .layer) (h .layer);
     }
 
 -- complete without fault: empty if it has no data, else a still if its bit is set, else delivered
-abbrev pub completeOf : Fault → ℕ → Stamp → Bool → Fate
-completeOf (Bad why) n s b = Dropped why
-completeOf Sound n s b =
-    pick (eqb n 0) (Dropped Empty) (pick b (Still (record { len = n; stamp = s })) (Delivered (record { len = n; stamp = s })))
+abbrev pub completeOf : Fault → ℕ → Stamp → Layer → Bool → Fate
+completeOf (Bad why) n s y b = Dropped why
+completeOf Sound n s y b =
+    pick (eqb n 0) (Dropped Empty) (pick b (Still (record { len = n; stamp = s; layer = y })) (Delivered (record { len = n; stamp = s; layer = y })))
 
 -- EOF ends a frame with D1 of the framing byte set, and is ignored with it clear
 abbrev pub endsOf : Opening → Header → Bool
@@ -100,7 +108,7 @@ abbrev pub turnedWhy : Opening → Reason
 turnedWhy o = pick (byEof o) Cut Empty
 
 abbrev pub fateOf : Bool → Run → Fate
-fateOf true r = completeOf (r .fault) (r .bytes) (r .stamp) (r .still)
+fateOf true r = completeOf (r .fault) (r .bytes) (r .stamp) (r .layer) (r .still)
 fateOf false r = Kept
 
 -- after an EOF what follows in the run is stray
@@ -154,13 +162,13 @@ handsOf o t h = handsBy (t .phase) o h
 -- the hand-out: what follows in the run is stray, and the gap flag stays; without a frame under way it has nothing in it
 abbrev pub outBy : Phase → Bool → Out
 outBy Fresh gap =
-    record { track = record { phase = Fresh; gap = gap }; frame = record { still = false; delivery = record { len = 0; stamp = Absent } } }
+    record { track = record { phase = Fresh; gap = gap }; frame = record { still = false; delivery = record { len = 0; stamp = Absent; layer = layer.Absent } } }
 outBy (Past fid) gap =
-    record { track = record { phase = Past fid; gap = gap }; frame = record { still = false; delivery = record { len = 0; stamp = Absent } } }
+    record { track = record { phase = Past fid; gap = gap }; frame = record { still = false; delivery = record { len = 0; stamp = Absent; layer = layer.Absent } } }
 outBy (Under r) gap =
     record {
       track = record { phase = Past (r .fid); gap = gap };
-      frame = record { still = r .still; delivery = record { len = r .bytes; stamp = r .stamp } };
+      frame = record { still = r .still; delivery = record { len = r .bytes; stamp = r .stamp; layer = r .layer } };
     }
 
 unfoldable pub outOf : Track → Out
@@ -171,7 +179,8 @@ abbrev pub spoiltBy : Phase → Phase
 spoiltBy Fresh = Fresh
 spoiltBy (Past fid) = Past fid
 spoiltBy (Under r) =
-    Under (record { fid = r .fid; still = r .still; fault = firstOf (r .fault) true Gap; bytes = r .bytes; fill = r .fill; stamp = r .stamp })
+    Under
+    (record { fid = r .fid; still = r .still; fault = firstOf (r .fault) true Gap; bytes = r .bytes; fill = r .fill; stamp = r .stamp; layer = r .layer })
 
 unfoldable pub spoiltOf : Track → Track
 spoiltOf t = record { phase = spoiltBy (t .phase); gap = true }

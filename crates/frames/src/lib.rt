@@ -2,8 +2,9 @@
 ghost use mathlib.Core.Path.{_≡_};
 ghost use Prim.Native.Nat.{_+_, _<_, _^_};
 ghost use Rattle.frames.specs.Track.{handing};
-ghost use Rattle.frames.specs.Inner.{firstOf, clashOf, earlierOf, whyOf, sameOf, begunOf, joinedOf, filledOf, writtenOf, completeOf, endsOf, turnedWhy, fateOf, phaseOf, joinTurn, strayTurn, turnOf, readyOf, handsOf, outOf, spoiltOf, closedOf, Roomy};
+ghost use Rattle.frames.specs.Inner.{firstOf, clashOf, earlierOf, laterOf, whyOf, sameOf, begunOf, joinedOf, filledOf, writtenOf, completeOf, endsOf, turnedWhy, fateOf, phaseOf, joinTurn, strayTurn, turnOf, readyOf, handsOf, outOf, spoiltOf, closedOf, Roomy};
 use payload::Header;
+use payload::Layer;
 use payload::Stamp;
 use sizes::Opening;
 
@@ -24,7 +25,7 @@ pub enum Fault {
 }
 
 // A frame under way: its data so far, how much of it is written, its first stamp, its run's FID, its first transfer's still
-// bit, and its earliest fault.
+// bit, its earliest fault, and its last layer.
 pub struct Run {
     pub bytes: u64,
     pub fill: usize,
@@ -32,6 +33,7 @@ pub struct Run {
     pub fid: bool,
     pub still: bool,
     pub fault: Fault,
+    pub layer: Layer,
 }
 
 pub enum Phase {
@@ -55,10 +57,11 @@ pub enum Ended {
     Frame(Reason),
 }
 
-// The length and stamp of a delivered frame or still.
+// The length, stamp and layer of a delivered frame or still.
 pub struct Delivery {
     pub len: u64,
     pub stamp: Stamp,
+    pub layer: Layer,
 }
 
 // What became of the transfer itself. Kept: the frame is still under way, faulted or not.
@@ -69,7 +72,7 @@ pub enum Fate {
     Delivered(Delivery),
     Still(Delivery),
     Dropped(Reason),
-    // The number, 61 to 66.
+    // The number, 61 to 67.
     Unreadable(u8),
 }
 
@@ -90,7 +93,7 @@ pub struct Turn {
     pub len: usize,
 }
 
-// A frame that is handed out before a transfer of the other FID is taken: whether it is a still, and its length and stamp.
+// A frame that is handed out before a transfer of the other FID is taken: whether it is a still, and its length, stamp and layer.
 pub struct HandOut {
     pub still: bool,
     pub delivery: Delivery,
@@ -142,6 +145,16 @@ fn earlier(a: Stamp, b: Stamp) -> Stamp
     }
 }
 
+// The last layer of two.
+fn later(a: Layer, b: Layer) -> Layer
+    ensures { λ r. ⌜ r ≡ laterOf a b ⌝ }
+{
+    match b {
+        Layer::Absent => a,
+        Layer::At(_) => b,
+    }
+}
+
 fn why_of(f: Fault, other: Reason) -> Reason
     ensures { λ r. ⌜ r ≡ whyOf f other ⌝ }
 {
@@ -190,6 +203,7 @@ fn begun(gap: bool, fid: bool, still: bool) -> Run
         bytes: 0,
         fill: 0,
         stamp: Stamp::Absent,
+        layer: Layer::Absent,
     }
 }
 
@@ -211,6 +225,9 @@ fn joined(o: Opening, r: Run, h: Header, n: usize) -> Run
     let fault = first_of(m, long, Reason::Long);
     let fill = filled(fault, r.fill, n);
     let stamp = earlier(a, b);
+    let before = r.layer;
+    let own = h.layer;
+    let layer = later(before, own);
     Run {
         fid: r.fid,
         still,
@@ -218,12 +235,13 @@ fn joined(o: Opening, r: Run, h: Header, n: usize) -> Run
         bytes,
         fill,
         stamp,
+        layer,
     }
 }
 
-// A complete frame with its earliest fault, its bytes, its stamp and its still bit.
-fn complete(f: Fault, len: u64, stamp: Stamp, still: bool) -> Fate
-    ensures { λ x. ⌜ x ≡ completeOf f len stamp still ⌝ }
+// A complete frame with its earliest fault, its bytes, its stamp, its layer and its still bit.
+fn complete(f: Fault, len: u64, stamp: Stamp, layer: Layer, still: bool) -> Fate
+    ensures { λ x. ⌜ x ≡ completeOf f len stamp layer still ⌝ }
 {
     match f {
         Fault::Bad(why) => Fate::Dropped(why),
@@ -232,9 +250,9 @@ fn complete(f: Fault, len: u64, stamp: Stamp, still: bool) -> Fate
                 return Fate::Dropped(Reason::Empty);
             }
             if still {
-                return Fate::Still(Delivery { len, stamp });
+                return Fate::Still(Delivery { len, stamp, layer });
             }
-            Fate::Delivered(Delivery { len, stamp })
+            Fate::Delivered(Delivery { len, stamp, layer })
         }
     }
 }
@@ -264,7 +282,8 @@ fn fate_of(eof: bool, r: Run) -> Fate
     if eof {
         let f = r.fault;
         let stamp = r.stamp;
-        complete(f, r.bytes, stamp, r.still)
+        let layer = r.layer;
+        complete(f, r.bytes, stamp, layer, r.still)
     } else {
         Fate::Kept
     }
@@ -381,6 +400,7 @@ impl Track {
                     delivery: Delivery {
                         len: 0,
                         stamp: Stamp::Absent,
+                        layer: Layer::Absent,
                     },
                 },
             },
@@ -391,11 +411,13 @@ impl Track {
                     delivery: Delivery {
                         len: 0,
                         stamp: Stamp::Absent,
+                        layer: Layer::Absent,
                     },
                 },
             },
             Phase::Under(r) => {
                 let stamp = r.stamp;
+                let layer = r.layer;
                 Out {
                     track: Track {
                         phase: Phase::Past(r.fid),
@@ -406,6 +428,7 @@ impl Track {
                         delivery: Delivery {
                             len: r.bytes,
                             stamp,
+                            layer,
                         },
                     },
                 }
@@ -457,6 +480,7 @@ impl Track {
                 let f = r.fault;
                 let fault = first_of(f, true, Reason::Gap);
                 let stamp = r.stamp;
+                let layer = r.layer;
                 Track {
                     phase: Phase::Under(Run {
                         fid: r.fid,
@@ -465,6 +489,7 @@ impl Track {
                         bytes: r.bytes,
                         fill: r.fill,
                         stamp,
+                        layer,
                     }),
                     gap: true,
                 }

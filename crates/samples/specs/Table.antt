@@ -8,6 +8,7 @@ use Rattle.entities.specs.Table.{noTable}
 use Rattle.entities.specs.declared.Revision.the-variants.{R15}
 use Rattle.control.specs.Answer.{ControlIs, refusedBy}
 use Rattle.sizes.specs.declared.Opening.{Opening}
+use Rattle.sizes.specs.declared.HeaderKind.the-variants.{Old}
 use Rattle.frames.specs.declared.Fate.{Fate}
 use Rattle.ledger.specs.declared.Step.the-variants.{Forward, Backward}
 use Rattle.ledger.specs.Step.{stepOf}
@@ -27,7 +28,7 @@ selector source = 0x07 ∷ 0x24 ∷ 0x04 ∷ 0x05 ∷ 0x01 ∷ source ∷ 0x00 �
 
 -- frame size 256, payload size 62, as the ledger program has them
 abbrev pub opening : Opening
-opening = record { frame = 256; payload = 62; framing = 3 }
+opening = record { frame = 256; payload = 62; framing = 3; kind = Old }
 
 -- what a transfer answers in a fresh session, with a buffer of the frame size
 abbrev pub answer : List ℕ → Outcome

@@ -1,16 +1,23 @@
 -- P samples of transfers, each the first of a fresh session with the ledger program's sizes: what becomes of it.
 use Prim.Native.Nat.{ℕ}
 use mathlib.Core.Path.{_≡_, refl}
+use mathlib.Core.Bool.{false}
 use mathlib.Core.List.{List, [], _∷_}
 use Rattle.rules.specs.Pick.{pick}
 use Rattle.rules.specs.Numbered.{firstFrom, anyBelow}
 use Rattle.sizes.specs.Sizes.{frameSizeBroken, payloadSizeBroken, sizesBroken}
 use Rattle.sizes.specs.Framing.{byEof}
-use Rattle.payload.specs.Transfer.{flagOf, needOf, transferFlags, stampOf, headerOf, readingOf}
+use Rattle.payload.specs.Layouts.{layoutOf}
+use Rattle.payload.specs.Transfer.{flagOf, layerPlace, needOf, flagsBy, stampOf, layerOf, headerBy, readingOf}
 use Rattle.payload.proofs.Samples.{opening}
+use Rattle.payload.specs.declared.Stamp.{Stamp}
+use Rattle.payload.specs.declared.Layer.{Layer}
+use Rattle.frames.specs.declared.Fault.the-variants.{Sound}
+use Rattle.frames.specs.declared.Phase.the-variants.{Under}
 use Rattle.frames.specs.declared.Fate.{Fate}
-use Rattle.ledger.specs.Ledger.{shownOf}
+use Rattle.ledger.specs.Ledger.{noLedger, shownOf}
 use Rattle.session.specs.declared.Outcome.{Outcome}
+use Rattle.session.specs.declared.Session.{Session}
 use Rattle.session.specs.Session.{fresh, readOf, plainly, tookOf, handsOut, takeOf}
 use Rattle.frames.specs.Inner.{turnOf, handsOf}
 use Rattle.rule_50.specs.Rule50.{rule50, fillBroken, accountsBroken, countsBroken}
@@ -27,7 +34,7 @@ pub record Table : Type 0 where
   pub with-clock : (a b c d e f g h i j : ℕ) → fate (0x0C ∷ 0x8C ∷ a ∷ b ∷ c ∷ d ∷ e ∷ f ∷ g ∷ h ∷ i ∷ j ∷ []) ≡ Outcome.Taken (plainly Fate.Kept)
 
 pub table : Table
-unfolding takeOf tookOf handsOut handsOf byEof readOf turnOf readingOf headerOf stampOf transferFlags needOf flagOf pick firstFrom anyBelow rule50 sizesBroken fillBroken accountsBroken countsBroken shownOf frameSizeBroken payloadSizeBroken
+unfolding takeOf tookOf handsOut handsOf byEof readOf turnOf readingOf layoutOf headerBy stampOf layerOf flagsBy needOf layerPlace flagOf pick firstFrom anyBelow rule50 sizesBroken fillBroken accountsBroken countsBroken shownOf frameSizeBroken payloadSizeBroken
 table =
     record {
       bare = refl;
@@ -36,3 +43,27 @@ table =
       short-of-clock = λ a b c d e f g h i. refl;
       with-clock = λ a b c d e f g h i j. refl;
     }
+
+-- A forged record of the old kind, with a frame under way that has a layer: it is taken as it stands.
+abbrev forged : Session
+forged =
+    record {
+      rest =
+          record {
+            opening = opening;
+            closed = false;
+            taken = 10;
+            track =
+                record {
+                  phase = Under (record { bytes = 2; fill = 2; stamp = Stamp.Absent; fid = false; still = false; fault = Sound; layer = Layer.At 5 });
+                  gap = false;
+                };
+            last = Stamp.Absent;
+          };
+      numbers = noLedger .numbers;
+    }
+
+pub forged-layer : takeOf forged 256 (0x02 ∷ 0x82 ∷ 0xAA ∷ []) .outcome
+    ≡ Outcome.Taken (plainly (Fate.Delivered (record { len = 3; stamp = Stamp.Absent; layer = Layer.At 5 })))
+unfolding takeOf tookOf handsOut handsOf byEof readOf turnOf readingOf layoutOf headerBy stampOf layerOf flagsBy needOf layerPlace flagOf pick firstFrom anyBelow rule50 sizesBroken fillBroken accountsBroken countsBroken shownOf frameSizeBroken payloadSizeBroken
+forged-layer = refl

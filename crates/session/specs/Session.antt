@@ -6,6 +6,7 @@ use lib.ListN.{length, drop}
 use lib.Seq.{paste}
 use Rattle.rules.specs.Numbered.{firstFrom, firstRow}
 use Rattle.sizes.specs.declared.Opening.{Opening}
+use Rattle.sizes.specs.declared.HeaderKind.the-variants.{Old}
 use Rattle.payload.specs.declared.Header.{Header}
 use Rattle.payload.specs.declared.Reading.{Reading}
 use Rattle.payload.specs.declared.Reading.the-variants.{Idle, Unreadable, Readable}
@@ -47,7 +48,7 @@ fresh o = newSession o false
 
 -- what a refused opening gives: closed, with no sizes, so that every call refuses it by 50
 abbrev pub noSession : Session
-noSession = newSession (record { frame = 0; payload = 0; framing = 0 }) true
+noSession = newSession (record { frame = 0; payload = 0; framing = 0; kind = Old }) true
 
 abbrev pub openBy : ℕ → Opening → Opened
 openBy zero o = record { session = fresh o; start = Start.Open }

@@ -21,6 +21,7 @@ use ledger::Numbers;
 use payload::Header;
 use payload::Reading;
 use payload::Stamp;
+use sizes::HeaderKind;
 use sizes::Opening;
 
 // A session record, in two parts: taking it apart is access to a field.
@@ -125,7 +126,7 @@ fn with(opening: Opening, closed: bool) -> Session
 }
 
 impl Session {
-    // Opens a session on the negotiated sizes and framing byte, with the buffer that frames will be written to.
+    // Opens a session on the negotiated sizes and framing byte and on the header kind, with the buffer that frames will be written to.
     // A refused opening gives a closed session with no sizes, which every call refuses by 50.
     pub fn open(o: Opening, buffer: &[u8]) -> Opened
         ensures { λ r. ⌜ r ≡ openOf o (length (now (buffer .entry))) ⌝ }
@@ -137,6 +138,7 @@ impl Session {
                     frame: 0,
                     payload: 0,
                     framing: 0,
+                    kind: HeaderKind::Old,
                 },
                 true,
             );

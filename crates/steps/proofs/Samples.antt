@@ -9,9 +9,12 @@ use Rattle.rules.specs.Pick.{pick}
 use Rattle.rules.specs.Numbered.{firstFrom, anyBelow}
 use Rattle.sizes.specs.Sizes.{frameSizeBroken, payloadSizeBroken, sizesBroken}
 use Rattle.sizes.specs.declared.Opening.{Opening}
+use Rattle.sizes.specs.declared.HeaderKind.the-variants.{Old}
 use Rattle.sizes.specs.Framing.{byEof}
 use Rattle.payload.specs.declared.Stamp.the-variants.{At}
-use Rattle.payload.specs.Transfer.{flagOf, needOf, transferFlags, stampOf, headerOf, readingOf}
+use Rattle.payload.specs.declared.Layer.{Layer}
+use Rattle.payload.specs.Layouts.{layoutOf}
+use Rattle.payload.specs.Transfer.{flagOf, layerPlace, needOf, flagsBy, stampOf, layerOf, headerBy, headerOf, readingOf}
 use Rattle.frames.specs.Inner.{turnOf, handsOf, spoiltOf, closedOf}
 use Rattle.ledger.specs.Entry.{Entry}
 use Rattle.ledger.specs.Ledger.{plusOf, timedOf, postOf, shownOf}
@@ -48,7 +51,7 @@ out-of-range = (refl, refl)
 
 -- ---- a job: five frames with stamps FFFFFFF0, 10, none, C and 20, split at the second
 abbrev opening : Opening
-opening = record { frame = 256; payload = 62; framing = 3 }
+opening = record { frame = 256; payload = 62; framing = 3; kind = Old }
 
 abbrev offered : List (List ℕ) → List Offer
 offered ts = map (Offer.take (replicate 256 0)) ts
@@ -76,27 +79,27 @@ abbrev second-half : List Offer
 second-half = offered (middle ∷ others)
 
 at-middle : Middle opening (Call.transfer first ∷ []) middle []
-unfolding pick firstFrom anyBelow frameSizeBroken payloadSizeBroken byEof flagOf needOf transferFlags stampOf headerOf readingOf turnOf spoiltOf closedOf plusOf timedOf postOf shownOf sizesBroken fillBroken accountsBroken countsBroken rule50 readOf tookOf handsOut handsOf takeOf
+unfolding pick firstFrom anyBelow frameSizeBroken payloadSizeBroken byEof layoutOf flagOf layerPlace needOf flagsBy stampOf layerOf headerBy readingOf turnOf spoiltOf closedOf plusOf timedOf postOf shownOf sizesBroken fillBroken accountsBroken countsBroken rule50 readOf tookOf handsOut handsOf takeOf
 at-middle =
     record {
-      header = headerOf middle;
+      header = headerOf opening middle;
       reads = refl;
       other = λ e. true≢false (sym e);
       unspoilt = refl;
-      item = record { entry = Entry.Delivered (record { len = 1; stamp = At 0x10 }); load = 0xBB ∷ [] };
+      item = record { entry = Entry.Delivered (record { len = 1; stamp = At 0x10; layer = Layer.Absent }); load = 0xBB ∷ [] };
       alone = refl;
-      delivery = record { len = 1; stamp = At 0x10 };
+      delivery = record { len = 1; stamp = At 0x10; layer = Layer.Absent };
       delivered = refl;
       stamp = 0x10;
       stamped = refl;
     }
 
 in-halves : BillAsWhole (job opening whole) (job opening first-half) (job opening second-half)
-unfolding pick firstFrom anyBelow frameSizeBroken payloadSizeBroken byEof flagOf needOf transferFlags stampOf headerOf readingOf turnOf spoiltOf closedOf plusOf timedOf postOf shownOf sizesBroken fillBroken accountsBroken countsBroken rule50 readOf tookOf handsOut handsOf takeOf
+unfolding pick firstFrom anyBelow frameSizeBroken payloadSizeBroken byEof layoutOf flagOf layerPlace needOf flagsBy stampOf layerOf headerBy readingOf turnOf spoiltOf closedOf plusOf timedOf postOf shownOf sizesBroken fillBroken accountsBroken countsBroken rule50 readOf tookOf handsOut handsOf takeOf
 in-halves =
     halves .of-calls opening whole first-half second-half (Call.transfer first ∷ []) middle [] (map Call.transfer others) at-middle refl refl refl
 
 -- forward 32 in the first half and 20 in the second, once backward and once untimed
 numbers : (billed (job opening whole) ticksAt ≡ 52) × (billed (job opening whole) backwardAt ≡ 1) × (billed (job opening whole) untimedAt ≡ 1)
-unfolding pick firstFrom anyBelow frameSizeBroken payloadSizeBroken byEof flagOf needOf transferFlags stampOf headerOf readingOf turnOf spoiltOf closedOf plusOf timedOf postOf shownOf sizesBroken fillBroken accountsBroken countsBroken rule50 readOf tookOf handsOut handsOf takeOf
+unfolding pick firstFrom anyBelow frameSizeBroken payloadSizeBroken byEof layoutOf flagOf layerPlace needOf flagsBy stampOf layerOf headerBy readingOf turnOf spoiltOf closedOf plusOf timedOf postOf shownOf sizesBroken fillBroken accountsBroken countsBroken rule50 readOf tookOf handsOut handsOf takeOf
 numbers = (refl, refl, refl)

@@ -5,6 +5,7 @@ use mathlib.Core.List.{List, [], _∷_, _++_}
 use mathlib.Core.Bool.{Bool, true, false, _||_}
 use lib.ListN.{length}
 use Rattle.sizes.specs.declared.Opening.{Opening}
+use Rattle.sizes.specs.declared.HeaderKind.the-variants.{Old}
 use Rattle.ledger.specs.Ledger.{noLedger}
 use Rattle.session.specs.declared.Session.{Session}
 use Rattle.session.specs.Refusals.{ledgerOf}
@@ -18,9 +19,9 @@ use Rattle.trace.specs.declared.Printed.{Printed}
 use Rattle.session.specs.Call.{Ask}
 use Rattle.session.specs.Calls.{refusal, next, offerWith, bufferNext}
 
--- frame size 256, payload size 62, and framing 3: frames end by EOF
+-- frame size 256, payload size 62, framing 3, so that frames end by EOF, and the old kind of header
 abbrev pub sizes : Opening
-sizes = record { frame = 256; payload = 62; framing = 3 }
+sizes = record { frame = 256; payload = 62; framing = 3; kind = Old }
 
 abbrev pub newTrace : Trace
 newTrace = record { session = fresh sizes; state = Good }

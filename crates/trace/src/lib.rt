@@ -18,13 +18,15 @@ use session::Outcome;
 use session::Report;
 use session::Rest;
 use session::Session;
+use sizes::HeaderKind;
 use sizes::Opening;
 
-// What every trace is read with: its sizes, and frames that end by EOF.
+// What every trace is read with: its sizes, frames that end by EOF, and the old kind of header.
 const SIZES: Opening = Opening {
     frame: 256,
     payload: 62,
     framing: 3,
+    kind: HeaderKind::Old,
 };
 
 // How a trace stands.

@@ -29,16 +29,20 @@ filled-requires c κs = search needs
 earlier-requires : tie.Need-earlier-requires
 earlier-requires c κs = search needs
 
+later-requires : tie.Need-later-requires
+later-requires c κs = search needs
+
 returns : tie.Need-returns
 returns c = simp (
-  c .earlier .ensures,
-  c .before .filled .ensures,
-  c .before .before .first-of4 .ensures,
-  c .before .before .before .first-of3 .ensures,
-  c .before .before .before .before .first-of2 .ensures,
-  c .before .before .before .before .before .clash .ensures,
-  c .before .before .before .before .before .before .first-of .ensures,
-  c .before .before .before .before .before .before .before .same .ensures,
+  c .later .ensures,
+  c .before .earlier .ensures,
+  c .before .before .filled .ensures,
+  c .before .before .before .first-of4 .ensures,
+  c .before .before .before .before .first-of3 .ensures,
+  c .before .before .before .before .before .first-of2 .ensures,
+  c .before .before .before .before .before .before .clash .ensures,
+  c .before .before .before .before .before .before .before .first-of .ensures,
+  c .before .before .before .before .before .before .before .before .same .ensures,
 )
 
 pub joined-spec : {M : Type 1} → statement M
@@ -54,4 +58,5 @@ joined-spec =
     first-of-requires-4
     filled-requires
     earlier-requires
+    later-requires
     returns)

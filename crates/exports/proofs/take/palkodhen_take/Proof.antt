@@ -2,6 +2,7 @@ use mathlib.Core.Path.{_≡_}
 use Prim.Native.Nat.{_+_, _*_, _-_, _≤_, _<_}
 use lib.ListN.{length}
 use native.Mathlib.Omega.{arith}
+use Rattle.sizes.specs.declared.HeaderKind.the-variants.{Old}
 use Rattle.exports.specs.Taking.{opened}
 use Rattle.exports.proofs.Rounds.{round-less, Going, going-start, going-more, going-round, all-taken, no-size, too-short}
 use borrow.Author.Needs.{needs}
@@ -12,7 +13,7 @@ use Rattle.exports.proofs.take.palkodhen_take.Tie as tie
 abbrev Inv-loop : tie.InvT-loop
 Inv-loop frame payload framing size times buffer₀ transfers numbers₀ rest₀ i₀ at₀ buffer numbers rest i at =
     (length buffer ≡ length buffer₀) × (0 < size) × (at + size ≤ length transfers) × (i ≤ times)
-    × Going size times transfers (opened (record { frame = frame; payload = payload; framing = framing }) buffer₀) buffer (wholeOf rest numbers) i at
+    × Going size times transfers (opened (record { frame = frame; payload = payload; framing = framing; kind = Old }) buffer₀) buffer (wholeOf rest numbers) i at
 
 abbrev μ-loop : tie.MeasureT-loop
 μ-loop frame payload framing size times buffer₀ transfers numbers₀ rest₀ i₀ at₀ buffer numbers rest i at = (times - i) * (length transfers + 1) + (length transfers - at)
