@@ -205,19 +205,19 @@ past-line : (k : ℕ) → accountCount ≤ k → (w : Reason) (n : ℕ) → 0 �
 past-line k h w n = sym (rw (ne-eqb (placeOf (accountFor w)) k (λ z. omega (arith, place-lt (accountFor w)))))
 
 lost-gain : (a : Stamp) (e : Entry) → gain lostAt a e ≡ oneIn lostLine e
-lost-gain = single-gain lostAt (omega arith) (λ a e. oneIn lostLine e) (λ a s n. refl) (λ a d. refl) (λ a w n. past-line lostLine (omega arith) w n) (λ a n. refl) (λ a n. refl) (λ a n. refl) (λ a n. refl) (λ a. refl) (λ a. refl)
+lost-gain = single-gain lostAt (omega arith) (λ a e. oneIn lostLine e) (λ a d. refl) (λ a d. refl) (λ a w n. past-line lostLine (omega arith) w n) (λ a n. refl) (λ a n. refl) (λ a n. refl) (λ a n. refl) (λ a. refl) (λ a. refl)
 
 idle-gain : (a : Stamp) (e : Entry) → gain idleAt a e ≡ oneIn idleLine e
-idle-gain = single-gain idleAt (omega arith) (λ a e. oneIn idleLine e) (λ a s n. refl) (λ a d. refl) (λ a w n. past-line idleLine (omega arith) w n) (λ a n. refl) (λ a n. refl) (λ a n. refl) (λ a n. refl) (λ a. refl) (λ a. refl)
+idle-gain = single-gain idleAt (omega arith) (λ a e. oneIn idleLine e) (λ a d. refl) (λ a d. refl) (λ a w n. past-line idleLine (omega arith) w n) (λ a n. refl) (λ a n. refl) (λ a n. refl) (λ a n. refl) (λ a. refl) (λ a. refl)
 
 untimed-gain : (a : Stamp) (e : Entry) → gain untimedAt a e ≡ untimed e
-untimed-gain = single-gain untimedAt (omega arith) (λ a e. untimed e) (λ a s n. zero-add _ ∙ zero-add _) (λ a d. refl) (λ a w n. refl) (λ a n. refl) (λ a n. refl) (λ a n. refl) (λ a n. refl) (λ a. refl) (λ a. refl)
+untimed-gain = single-gain untimedAt (omega arith) (λ a e. untimed e) (λ a d. zero-add _ ∙ zero-add _) (λ a d. refl) (λ a w n. refl) (λ a n. refl) (λ a n. refl) (λ a n. refl) (λ a n. refl) (λ a. refl) (λ a. refl)
 
 ticks-gain : (a : Stamp) (e : Entry) → gain ticksAt a e ≡ since forward a (stampIn e)
-ticks-gain = single-gain ticksAt (omega arith) (λ a e. since forward a (stampIn e)) (λ a s n. add-zero _) (λ a d. refl) (λ a w n. refl) (λ a n. refl) (λ a n. refl) (λ a n. refl) (λ a n. refl) (λ a. refl) (λ a. refl)
+ticks-gain = single-gain ticksAt (omega arith) (λ a e. since forward a (stampIn e)) (λ a d. add-zero _) (λ a d. refl) (λ a w n. refl) (λ a n. refl) (λ a n. refl) (λ a n. refl) (λ a n. refl) (λ a. refl) (λ a. refl)
 
 backward-gain : (a : Stamp) (e : Entry) → gain backwardAt a e ≡ since back a (stampIn e)
-backward-gain = single-gain backwardAt (omega arith) (λ a e. since back a (stampIn e)) (λ a s n. zero-add _ ∙ add-zero _) (λ a d. refl) (λ a w n. refl) (λ a n. refl) (λ a n. refl) (λ a n. refl) (λ a n. refl) (λ a. refl) (λ a. refl)
+backward-gain = single-gain backwardAt (omega arith) (λ a e. since back a (stampIn e)) (λ a d. zero-add _ ∙ add-zero _) (λ a d. refl) (λ a w n. refl) (λ a n. refl) (λ a n. refl) (λ a n. refl) (λ a n. refl) (λ a. refl) (λ a. refl)
 
 pub loose-stamped : (es : List Event) → stamps (loose es) ≡ []
 loose-stamped [] = refl

@@ -13,6 +13,7 @@ use Rattle.rules.proofs.Firsts.{lt-or-ge}
 use Rattle.sizes.specs.declared.Opening.{Opening}
 use Rattle.payload.specs.declared.Stamp.{Stamp}
 use Rattle.payload.specs.declared.Stamp.the-variants.{Absent, At}
+use Rattle.payload.specs.declared.Layer.{Layer}
 use Rattle.frames.specs.declared.Reason.{Reason}
 use Rattle.frames.specs.declared.Reason.the-variants.{Gap, Error, Clock, Mixed, Long, Cut, Empty}
 use Rattle.frames.specs.declared.Fault.{Fault}
@@ -20,7 +21,7 @@ use Rattle.frames.specs.declared.Fault.the-variants.{Sound, Bad}
 use Rattle.ledger.specs.declared.Account.{Account}
 use Rattle.ledger.specs.Accounts.{placeOf, accountFor}
 use Rattle.ledger.specs.Entry.{Entry}
-use Rattle.books.specs.Rule.{Event, idle, unreadable, missing, readable, mark, events, isOpen, Seen, readables, runs, closes, frameOf, strayOf, complete, dataOf, firstStamp, stillOf, fault, Item, handedOut, verdict, strays, judge, nothing, judged, framesOf, framesBy, loose, entryOf, entries, lineOf, bytesIn, oneIn, partIn, total, stampList, stampsOf, stamps, noStamp, untimed, step, forward, back, between, received}
+use Rattle.books.specs.Rule.{Event, idle, unreadable, missing, readable, mark, events, isOpen, Seen, readables, runs, closes, frameOf, strayOf, complete, dataOf, firstStamp, lastLayer, stillOf, fault, Item, handedOut, verdict, strays, judge, nothing, judged, framesOf, framesBy, loose, entryOf, entries, lineOf, bytesIn, oneIn, partIn, total, stampList, stampsOf, stamps, noStamp, untimed, step, forward, back, between, received}
 use Rattle.books.proofs.Runs.{runs-concat, runs-longest}
 use Rattle.books.proofs.Posts.{total-append}
 use Rattle.books.proofs.History.{map-append, stamps-append}
@@ -116,17 +117,17 @@ line-low Long = omega arith
 line-low Cut = omega arith
 line-low Empty = omega arith
 
-verdict-low : (w c : Bool) (q : Fault) (s : Stamp) (b : Bool) (n : ℕ) → lineOf (verdict w c q s b n) < looseLine
-verdict-low w true (Bad k) s b n = line-low k
-verdict-low w true Sound s b n = go (eqb n 0) b
+verdict-low : (w c : Bool) (q : Fault) (s : Stamp) (y : Layer) (b : Bool) (n : ℕ) → lineOf (verdict w c q s y b n) < looseLine
+verdict-low w true (Bad k) s y b n = line-low k
+verdict-low w true Sound s y b n = go (eqb n 0) b
   where
-    go : (c b : Bool) → lineOf (cond c (Entry.Dropped Empty n) (handedOut b (record { len = n; stamp = s }))) < looseLine
+    go : (c b : Bool) → lineOf (cond c (Entry.Dropped Empty n) (handedOut b (record { len = n; stamp = s; layer = y }))) < looseLine
     go true b = omega arith
     go false true = omega arith
     go false false = omega arith
-verdict-low true false q s b n = omega arith
-verdict-low false false (Bad k) s b n = line-low k
-verdict-low false false Sound s b n = omega arith
+verdict-low true false q s y b n = omega arith
+verdict-low false false (Bad k) s y b n = line-low k
+verdict-low false false Sound s y b n = omega arith
 
 one-none : (k : ℕ) (e : Entry) → (lineOf e ≡ k → ⊥) → oneIn k e ≡ 0
 one-none k e h = rw (ne-eqb (lineOf e) k h)
@@ -143,8 +144,8 @@ module _ (k : ℕ) where
   judged-none h o p [] = refl
   judged-none h o p (r ∷ rs) =
       let f : List Seen = frameOf o r in
-      let v : Entry = verdict (p && nothing rs) (complete o (nothing rs) f) (fault o f) (firstStamp f) (stillOf f) (length (dataOf f)) in
-      let l = verdict-low (p && nothing rs) (complete o (nothing rs) f) (fault o f) (firstStamp f) (stillOf f) (length (dataOf f)) in
+      let v : Entry = verdict (p && nothing rs) (complete o (nothing rs) f) (fault o f) (firstStamp f) (lastLayer f) (stillOf f) (length (dataOf f)) in
+      let l = verdict-low (p && nothing rs) (complete o (nothing rs) f) (fault o f) (firstStamp f) (lastLayer f) (stillOf f) (length (dataOf f)) in
       ap (total (oneIn k)) (map-append (judge o p (nothing rs) r) (judged o p rs))
       ∙ total-append (oneIn k) (map entryOf (judge o p (nothing rs) r)) (map entryOf (judged o p rs))
       ∙ omega (arith, one-none k v (λ z. omega arith), strays-none h (strayOf o r), judged-none h o p rs)

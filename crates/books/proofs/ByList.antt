@@ -36,7 +36,7 @@ use Rattle.books.proofs.Owed.{hands-whole}
 use Rattle.books.proofs.Sound.{Fit, fit-took, fit-next, fit-out, run-opening}
 use Rattle.books.proofs.Answers.{answerBy, took-answer, more-proper}
 use Rattle.books.proofs.OneMore.{pending, pending-more, seenWith, spoilt, noted, spoilLast, runsIn, runsBy, runs-more, lastIn, last-more}
-use Rattle.books.proofs.Grown.{closed-spoilt, data-spoilt, stamp-spoilt, still-spoilt, fault-spoilt}
+use Rattle.books.proofs.Grown.{closed-spoilt, data-spoilt, stamp-spoilt, layer-spoilt, still-spoilt, fault-spoilt}
 use Rattle.books.proofs.Tracked.{Of, Tracks, Turned, turn-right, part-closed, past-ended, hands-right, out-right, out-tracks}
 use Rattle.books.proofs.Passed.{changed-passed, added-passed, turned-marked}
 
@@ -58,6 +58,7 @@ spoilt-tracks o (Under x) (u ∷ us) e =
         fault₀ = first-or (x .fault) true Gap ∙ ap (_or Bad Gap) (p .fault₀) ∙ sym (fault-spoilt o u us (p .going));
         still₀ = p .still₀ ∙ sym (still-spoilt r);
         stamp₀ = p .stamp₀ ∙ sym (stamp-spoilt r);
+        layer₀ = p .layer₀ ∙ sym (layer-spoilt r);
         bytes₀ = p .bytes₀ ∙ ap length (sym (data-spoilt r));
       },
     )

@@ -12,6 +12,7 @@ use Rattle.sizes.specs.Framing.{byEof}
 use Rattle.payload.specs.declared.Header.{Header}
 use Rattle.payload.specs.declared.Stamp.{Stamp}
 use Rattle.payload.specs.declared.Stamp.the-variants.{Absent, At}
+use Rattle.payload.specs.declared.Layer.{Layer}
 use Rattle.frames.specs.declared.Reason.{Reason}
 use Rattle.frames.specs.declared.Reason.the-variants.{Gap, Error, Clock, Mixed, Long, Empty}
 use Rattle.frames.specs.declared.Fault.{Fault}
@@ -22,9 +23,9 @@ use Rattle.frames.specs.declared.Phase.the-variants.{Fresh, Under, Past}
 use Rattle.frames.specs.declared.Fate.{Fate}
 use Rattle.frames.specs.declared.Delivery.{Delivery}
 use Rattle.ledger.specs.Entry.{Entry}
-use Rattle.books.specs.Rule.{Seen, ahead, runs, frameOf, strayOf, closed, dataOf, _orStamp_, firstStamp, _or_, when, differs, mixes, faultAt, faultFrom, Item, handedOut, settled, strays, nothing, judged}
+use Rattle.books.specs.Rule.{Seen, ahead, runs, frameOf, strayOf, closed, dataOf, _orStamp_, firstStamp, _thenLayer_, lastLayer, _or_, when, differs, mixes, faultAt, faultFrom, Item, handedOut, settled, strays, nothing, judged}
 use Rattle.books.specs.Demands.{fateItems}
-use Rattle.frames.specs.Inner.{firstOf, clashOf, earlierOf, sameOf, mixedOf, faultOf, joinedOf, completeOf, endsOf, fateOf, phaseOf}
+use Rattle.frames.specs.Inner.{firstOf, clashOf, earlierOf, laterOf, sameOf, mixedOf, faultOf, joinedOf, completeOf, endsOf, fateOf, phaseOf}
 
 abbrev pub first : Bool → List Seen → List Seen
 first f [] = []
@@ -53,11 +54,11 @@ restOf o m r = cond m [] (frameOf o r)
 abbrev pub pastOf : Opening → Bool → List Seen → List Seen
 pastOf o m r = cond m r (strayOf o r)
 
--- what is owed of a frame part read: its fault so far q, its data so far D, its first stamp s, its still bit b; r is the rest of its run, rs the runs after it
-abbrev pub cont : Opening → Bool → Fault → List ℕ → Stamp → Bool → Bool → List Seen → List (List Seen) → List Item
-cont o p q D s b m r rs =
+-- what is owed of a frame part read: its fault so far q, its data so far D, its first stamp s, its last layer y, its still bit b; r is the rest of its run, rs the runs after it
+abbrev pub cont : Opening → Bool → Fault → List ℕ → Stamp → Layer → Bool → Bool → List Seen → List (List Seen) → List Item
+cont o p q D s y b m r rs =
     settled (p && nothing rs) ((m || closed o (restOf o m r)) || (not (byEof o) && not (nothing rs)))
-    (q or faultFrom o (s orStamp firstStamp (restOf o m r)) b (length D) (restOf o m r)) (s orStamp firstStamp (restOf o m r)) b (D ++ dataOf (restOf o m r))
+    (q or faultFrom o (s orStamp firstStamp (restOf o m r)) b (length D) (restOf o m r)) (s orStamp firstStamp (restOf o m r)) (y thenLayer lastLayer (restOf o m r)) b (D ++ dataOf (restOf o m r))
     ∷ (strays (pastOf o m r) ++ judged o p rs)
 
 abbrev pub pass : Opening → Bool → List Seen → List (List Seen) → List Item
@@ -67,7 +68,7 @@ pass o p r rs = strays r ++ judged o p rs
 abbrev pub onward : Opening → Bool → Phase → Bool → Bool → List ℕ → List Seen → List (List Seen) → List Item
 onward o p Fresh a m D r rs = judged o p rs
 onward o p (Past f) a m D r rs = pass o p r rs
-onward o p (Under x) a m D r rs = cont o p (x .fault or when a Gap) D (x .stamp) (x .still) m r rs
+onward o p (Under x) a m D r rs = cont o p (x .fault or when a Gap) D (x .stamp) (x .layer) (x .still) m r rs
 
 pub or-assoc : (x y z : Fault) → x or (y or z) ≡ (x or y) or z
 or-assoc Sound y z = refl
@@ -85,6 +86,19 @@ pub stamp-absent : (x : Stamp) → x orStamp Absent ≡ x
 stamp-absent Absent = refl
 stamp-absent (At w) = refl
 
+pub layer-assoc : (x y z : Layer) → x thenLayer (y thenLayer z) ≡ (x thenLayer y) thenLayer z
+layer-assoc x y Layer.Absent = refl
+layer-assoc x y (Layer.At w) = refl
+
+pub absent-layer : (x : Layer) → Layer.Absent thenLayer x ≡ x
+absent-layer Layer.Absent = refl
+absent-layer (Layer.At w) = refl
+
+-- a run of which nothing is read yet
+pub cont-new : (o : Opening) (p : Bool) (t : Seen) (r : List Seen) (rs : List (List Seen))
+    → judged o p ((t ∷ r) ∷ rs) ≡ cont o p (when (t .before) Gap) [] Absent Layer.Absent (t .header .still) false (t ∷ r) rs
+cont-new o p t r rs = rw (absent-layer (lastLayer (frameOf o (t ∷ r))))
+
 -- the tracker's words and the rule's
 pub first-or : (q : Fault) (b : Bool) (w : Reason) → firstOf q b w ≡ q or when b w
 first-or (Bad v) b w = refl
@@ -94,6 +108,10 @@ first-or Sound false w = refl
 pub earlier-or : (s t : Stamp) → earlierOf s t ≡ s orStamp t
 earlier-or Absent t = refl
 earlier-or (At x) t = refl
+
+pub later-then : (y z : Layer) → laterOf y z ≡ y thenLayer z
+later-then y Layer.Absent = refl
+later-then y (Layer.At w) = refl
 
 -- a stamp is held to the frame's first, whether that came before it or is its own
 pub clash-or : (s t z : Stamp) → clashOf s t ≡ differs (s orStamp (t orStamp z)) t
@@ -134,14 +152,14 @@ fault-or o x h d z =
 
 module _ (o : Opening) (p : Bool) (r : List Seen) (rs : List (List Seen)) where
   -- a complete frame
-  end-law : (q : Fault) (s : Stamp) (b : Bool) (n : ℕ) (D : List ℕ) (way : Bool) (rest : List Item) → n ≡ length D
-      → settled way true q s b D ∷ rest ≡ fateItems (completeOf q n s b) n D ++ rest
+  end-law : (q : Fault) (s : Stamp) (y : Layer) (b : Bool) (n : ℕ) (D : List ℕ) (way : Bool) (rest : List Item) → n ≡ length D
+      → settled way true q s y b D ∷ rest ≡ fateItems (completeOf q n s y b) n D ++ rest
   unfolding pick
-  end-law (Bad w) s b n D way rest e = rw e
-  end-law Sound s b n D way rest e = rw e (go (eqb (length D) 0) b)
+  end-law (Bad w) s y b n D way rest e = rw e
+  end-law Sound s y b n D way rest e = rw e (go (eqb (length D) 0) b)
     where
       d : Delivery
-      d = record { len = length D; stamp = s }
+      d = record { len = length D; stamp = s; layer = y }
 
       go : (c b : Bool) → record { entry = cond c (Entry.Dropped Empty (length D)) (handedOut b d); load = D } ∷ rest
           ≡ fateItems (pick c (Fate.Dropped Empty) (pick b (Fate.Still d) (Fate.Delivered d))) (length D) D ++ rest
@@ -160,23 +178,26 @@ module _ (o : Opening) (p : Bool) (r : List Seen) (rs : List (List Seen)) where
     abbrev stamp : Bool → Stamp
     stamp e = x .stamp orStamp (h .stamp orStamp firstStamp (rest e))
 
+    abbrev layer : Bool → Layer
+    layer e = x .layer thenLayer (h .layer thenLayer lastLayer (rest e))
+
     abbrev led : Bool → List Item
     led e =
         settled (p && nothing rs) (((e || m) || closed o (rest e)) || (not (byEof o) && not (nothing rs)))
         (x .fault or (faultAt o (stamp e) (x .still) (length D) h (length d) or (when (not e && a) Gap or faultFrom o (stamp e) (x .still) (length D + length d) (rest e))))
-        (stamp e) (x .still) (D ++ (d ++ dataOf (rest e)))
+        (stamp e) (layer e) (x .still) (D ++ (d ++ dataOf (rest e)))
         ∷ (strays (cond (e || m) r (strayOf o r)) ++ judged o p rs)
 
     by-eof : (e : Bool) → led e ≡ fateItems (fateOf e y) (x .bytes + length d) (D ++ d) ++ onward o p (phaseOf e y) a m (D ++ d) r rs
     by-eof false =
         let z : Stamp = firstStamp (restOf o m r) in
         let S : Stamp = x .stamp orStamp (h .stamp orStamp z) in
-        rw (fault-or o x h (length d) z, earlier-or (x .stamp) (h .stamp), ← stamp-assoc (x .stamp) (h .stamp) z, u, ← or-assoc (x .fault or faultAt o S (x .still) (length D) h (length d)) (when a Gap) _, ← or-assoc (x .fault) (faultAt o S (x .still) (length D) h (length d)) _, length-append D d, append-assoc D d _)
+        rw (fault-or o x h (length d) z, earlier-or (x .stamp) (h .stamp), ← stamp-assoc (x .stamp) (h .stamp) z, later-then (x .layer) (h .layer), ← layer-assoc (x .layer) (h .layer) (lastLayer (restOf o m r)), u, ← or-assoc (x .fault or faultAt o S (x .still) (length D) h (length d)) (when a Gap) _, ← or-assoc (x .fault) (faultAt o S (x .still) (length D) h (length d)) _, length-append D d, append-assoc D d _)
     by-eof true =
         let S : Stamp = x .stamp orStamp (h .stamp orStamp Absent) in
-        rw (fault-or o x h (length d) Absent, earlier-or (x .stamp) (h .stamp), append-nil d, u, or-sound (faultAt o S (x .still) (length D) h (length d)), stamp-absent (h .stamp))
-        (end-law (x .fault or faultAt o (x .stamp orStamp h .stamp) (x .still) (length D) h (length d)) (x .stamp orStamp h .stamp) (x .still) (length D + length d) (D ++ d) (p && nothing rs) (strays r ++ judged o p rs) (sym (length-append D d)))
+        rw (fault-or o x h (length d) Absent, earlier-or (x .stamp) (h .stamp), later-then (x .layer) (h .layer), append-nil d, u, or-sound (faultAt o S (x .still) (length D) h (length d)), stamp-absent (h .stamp))
+        (end-law (x .fault or faultAt o (x .stamp orStamp h .stamp) (x .still) (length D) h (length d)) (x .stamp orStamp h .stamp) (x .layer thenLayer h .layer) (x .still) (length D + length d) (D ++ d) (p && nothing rs) (strays r ++ judged o p rs) (sym (length-append D d)))
 
-    pub take-law : (b : Bool) → cont o p (x .fault) D (x .stamp) (x .still) false (record { header = h; load = d; before = b; after = a; marked = m } ∷ r) rs
+    pub take-law : (b : Bool) → cont o p (x .fault) D (x .stamp) (x .layer) (x .still) false (record { header = h; load = d; before = b; after = a; marked = m } ∷ r) rs
         ≡ fateItems (fateOf (endsOf o h) y) (x .bytes + length d) (D ++ d) ++ onward o p (phaseOf (endsOf o h) y) a m (D ++ d) r rs
     take-law b = by-eof (endsOf o h)

@@ -12,9 +12,9 @@ use Rattle.frames.specs.declared.Reason.the-variants.{Gap}
 use Rattle.frames.specs.declared.Fault.{Fault}
 use Rattle.frames.specs.declared.Fault.the-variants.{Sound, Bad}
 use Rattle.rules.proofs.Rows.{or-second}
-use Rattle.books.specs.Rule.{Seen, eofOf, closes, frameOf, strayOf, closed, dataOf, _orStamp_, firstStamp, stillOf, _or_, when, faultAt, gapAfter, faultFrom, gapBefore, fault}
+use Rattle.books.specs.Rule.{Seen, eofOf, closes, frameOf, strayOf, closed, dataOf, _orStamp_, firstStamp, _thenLayer_, lastLayer, stillOf, _or_, when, faultAt, gapAfter, faultFrom, gapBefore, fault}
 use Rattle.books.specs.Answer.{earlier}
-use Rattle.books.proofs.Cut.{or-sound, or-assoc, stamp-assoc, stamp-absent}
+use Rattle.books.proofs.Cut.{or-sound, or-assoc, stamp-assoc, stamp-absent, layer-assoc, absent-layer}
 use Rattle.books.proofs.OneMore.{spoilLast, markLast}
 
 abbrev pub and : List Seen → Seen → List Seen
@@ -97,7 +97,7 @@ earlier-more [] t = refl
 earlier-more (u ∷ []) t = refl
 earlier-more (u ∷ (v ∷ vs)) t = ap (u ∷_) (earlier-more (v ∷ vs) t)
 
--- ---- its data, its first stamp and its fault
+-- ---- its data, its first stamp, its last layer and its fault
 pub data-more : (r : List Seen) (t : Seen) → dataOf (and r t) ≡ dataOf r ++ t .load
 data-more [] t = append-nil (t .load)
 data-more (u ∷ us) t = ap (u .load ++_) (data-more us t) ∙ sym (append-assoc (u .load) (dataOf us) (t .load))
@@ -105,6 +105,10 @@ data-more (u ∷ us) t = ap (u .load ++_) (data-more us t) ∙ sym (append-assoc
 pub stamp-more : (r : List Seen) (t : Seen) → firstStamp (and r t) ≡ firstStamp r orStamp t .header .stamp
 stamp-more [] t = stamp-absent (t .header .stamp)
 stamp-more (u ∷ us) t = ap (u .header .stamp orStamp_) (stamp-more us t) ∙ stamp-assoc (u .header .stamp) (firstStamp us) (t .header .stamp)
+
+pub layer-more : (r : List Seen) (t : Seen) → lastLayer (and r t) ≡ lastLayer r thenLayer t .header .layer
+layer-more [] t = sym (absent-layer (t .header .layer))
+layer-more (u ∷ us) t = ap (u .header .layer thenLayer_) (layer-more us t) ∙ layer-assoc (u .header .layer) (lastLayer us) (t .header .layer)
 
 module _ (o : Opening) where
   -- where the frame has no stamp, none differs, whatever the first one will be
@@ -170,6 +174,11 @@ pub stamp-spoilt : (r : List Seen) → firstStamp (spoilLast r) ≡ firstStamp r
 stamp-spoilt [] = refl
 stamp-spoilt (t ∷ []) = refl
 stamp-spoilt (t ∷ (u ∷ us)) = ap (t .header .stamp orStamp_) (stamp-spoilt (u ∷ us))
+
+pub layer-spoilt : (r : List Seen) → lastLayer (spoilLast r) ≡ lastLayer r
+layer-spoilt [] = refl
+layer-spoilt (t ∷ []) = refl
+layer-spoilt (t ∷ (u ∷ us)) = ap (t .header .layer thenLayer_) (layer-spoilt (u ∷ us))
 
 pub still-spoilt : (r : List Seen) → stillOf (spoilLast r) ≡ stillOf r
 still-spoilt [] = refl

@@ -91,7 +91,7 @@ close-end o Fresh b D e = refl
 close-end o (Past f) b D e = refl
 close-end o (Under x) b D e = go (x .fault)
   where
-    go : (q : Fault) → cont o false (q or Sound) D (x .stamp) (x .still) false [] [] ≡ endedItems (Frame (whyOf q Cut)) (x .bytes) D
+    go : (q : Fault) → cont o false (q or Sound) D (x .stamp) (x .layer) (x .still) false [] [] ≡ endedItems (Frame (whyOf q Cut)) (x .bytes) D
     go Sound = rw (append-nil D, e, and-false (not (byEof o)))
     go (Bad w) = rw (append-nil D, e, and-false (not (byEof o)))
 

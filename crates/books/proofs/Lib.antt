@@ -21,6 +21,8 @@ pub mod HandedOut
 pub mod Held
 pub mod Whole
 pub mod Print
+pub mod Each
 pub mod Stills
+pub mod HeaderKinds
 pub mod Theorems
 pub mod Samples

@@ -7,6 +7,7 @@ use Rattle.rules.specs.Pick.{pick}
 use Rattle.sizes.specs.declared.Opening.{Opening}
 use Rattle.payload.specs.declared.Header.{Header}
 use Rattle.payload.specs.declared.Stamp.{Stamp}
+use Rattle.payload.specs.declared.Layer.{Layer}
 use Rattle.frames.specs.declared.Reason.the-variants.{Empty}
 use Rattle.frames.specs.declared.Fault.{Fault}
 use Rattle.frames.specs.declared.Fault.the-variants.{Sound, Bad}
@@ -39,18 +40,18 @@ Framed (Fate.Still d) = Unit {0}
 Framed (Fate.Dropped w) = Unit {0}
 Framed (Fate.Unreadable k) = ⊥
 
-complete-framed : (q : Fault) (n : ℕ) (s : Stamp) (b : Bool) → Framed (completeOf q n s b)
+complete-framed : (q : Fault) (n : ℕ) (s : Stamp) (y : Layer) (b : Bool) → Framed (completeOf q n s y b)
 unfolding pick
-complete-framed (Bad w) n s b = tt
-complete-framed Sound n s b = go (eqb n 0) b
+complete-framed (Bad w) n s y b = tt
+complete-framed Sound n s y b = go (eqb n 0) b
   where
-    go : (c b : Bool) → Framed (pick c (Fate.Dropped Empty) (pick b (Fate.Still (record { len = n; stamp = s })) (Fate.Delivered (record { len = n; stamp = s }))))
+    go : (c b : Bool) → Framed (pick c (Fate.Dropped Empty) (pick b (Fate.Still (record { len = n; stamp = s; layer = y })) (Fate.Delivered (record { len = n; stamp = s; layer = y }))))
     go true b = tt
     go false true = tt
     go false false = tt
 
 fate-framed : (e : Bool) (x : Run) → Framed (fateOf e x)
-fate-framed true x = complete-framed (x .fault) (x .bytes) (x .stamp) (x .still)
+fate-framed true x = complete-framed (x .fault) (x .bytes) (x .stamp) (x .layer) (x .still)
 fate-framed false x = tt
 
 pub turn-framed : (o : Opening) (h : Header) (n : ℕ) (ph : Phase) (b : Bool) → Framed (turnBy ph o b h n .answer .fate)

@@ -12,6 +12,7 @@ use Rattle.sizes.specs.Framing.{byEof}
 use Rattle.payload.specs.declared.Header.{Header}
 use Rattle.payload.specs.declared.Stamp.{Stamp}
 use Rattle.payload.specs.declared.Stamp.the-variants.{Absent}
+use Rattle.payload.specs.declared.Layer.{Layer}
 use Rattle.frames.specs.declared.Reason.the-variants.{Gap, Cut, Empty}
 use Rattle.frames.specs.declared.Fault.{Fault}
 use Rattle.frames.specs.declared.Fault.the-variants.{Sound, Bad}
@@ -26,14 +27,14 @@ use Rattle.ledger.specs.Entry.{Entry}
 use Rattle.books.specs.Rule.{Event, idle, unreadable, missing, readable, mark, Seen, spoiled, marks, readables, runs, _orStamp_, _or_, when, Item, handedOut, settled, judged, nothing}
 use Rattle.books.specs.Demands.{endedItems, fateItems}
 use Rattle.books.proofs.Made.{base, turnItems}
-use Rattle.books.proofs.Cut.{first, later, runs-cut, cont, pass, onward, or-sound, stamp-absent, same-beq, take-law}
+use Rattle.books.proofs.Cut.{first, later, runs-cut, cont, cont-new, pass, onward, or-sound, stamp-absent, same-beq, take-law}
 use Rattle.frames.specs.Inner.{firstOf, whyOf, sameOf, begunOf, joinedOf, endsOf, turnedWhy, fateOf, phaseOf, joinTurn, strayTurn, turnBy, readyOf, handsBy, outBy, spoiltBy}
 
 -- what the rule owes, from a phase, whether a gap is pending, the data so far, and the events to come; p is whether the session stays open
 abbrev pub owed : Opening → Bool → Phase → Bool → List ℕ → List Event → List Item
 owed o p Fresh b D es = judged o p (runs (readables b es))
 owed o p (Past f) b D es = pass o p (first f (readables b es)) (runs (later f (readables b es)))
-owed o p (Under x) b D es = cont o p (x .fault or when (spoiled es) Gap) D (x .stamp) (x .still) (marks es) (first (x .fid) (readables b es)) (runs (later (x .fid) (readables b es)))
+owed o p (Under x) b D es = cont o p (x .fault or when (spoiled es) Gap) D (x .stamp) (x .layer) (x .still) (marks es) (first (x .fid) (readables b es)) (runs (later (x .fid) (readables b es)))
 
 -- the bytes of the run under way are those of its data
 abbrev pub Holds : Phase → List ℕ → Type 0
@@ -68,7 +69,7 @@ module _ (o : Opening) (p : Bool) (h : Header) (d : List ℕ) (es : List Event) 
       fateItems (fateOf (endsOf o h) (joinedOf o x h (length d))) (x .bytes + length d) (D ++ d) ++ owed o p (phaseOf (endsOf o h) (joinedOf o x h (length d))) false (D ++ d) es
 
   go-on : (b : Bool) (x : Run) (D : List ℕ) → x .bytes ≡ length D
-      → cont o p (x .fault) D (x .stamp) (x .still) false (seen b ∷ first (x .fid) (readables false es)) (runs (later (x .fid) (readables false es))) ≡ thereby x D
+      → cont o p (x .fault) D (x .stamp) (x .layer) (x .still) false (seen b ∷ first (x .fid) (readables false es)) (runs (later (x .fid) (readables false es))) ≡ thereby x D
   go-on b x D e =
       take-law o p (first (x .fid) (readables false es)) (runs (later (x .fid) (readables false es))) x D h d (spoiled es) (marks es) e b
       ∙ ap (fateItems (fateOf (endsOf o h) (joinedOf o x h (length d))) (x .bytes + length d) (D ++ d) ++_) (onward-owed o p (endsOf o h) (joinedOf o x h (length d)) (D ++ d) es)
@@ -76,22 +77,23 @@ module _ (o : Opening) (p : Bool) (h : Header) (d : List ℕ) (es : List Event) 
   start-new : (b : Bool) → judged o p (runs (readables b (readable h d ∷ es))) ≡ thereby (begunOf b (h .fid) (h .still)) []
   start-new b =
       ap (judged o p) (runs-cut (seen b) (readables false es))
-      ∙ ap (λ (q : Fault). cont o p q [] Absent (h .still) false (seen b ∷ first (h .fid) (readables false es)) (runs (later (h .fid) (readables false es)))) (sym (begun-fault b))
+      ∙ cont-new o p (seen b) (first (h .fid) (readables false es)) (runs (later (h .fid) (readables false es)))
+      ∙ ap (λ (q : Fault). cont o p q [] Absent Layer.Absent (h .still) false (seen b ∷ first (h .fid) (readables false es)) (runs (later (h .fid) (readables false es)))) (sym (begun-fault b))
       ∙ go-on b (begunOf b (h .fid) (h .still)) [] refl
 
   -- a frame that another FID ends, and that is not handed out
   turn-new : (b : Bool) (x : Run) (D : List ℕ) → x .bytes ≡ length D → (not (byEof o) && readyOf (x .fault) (x .bytes)) ≡ false
-      → cont o p (x .fault or Sound) D (x .stamp) (x .still) false [] (runs (readables b (readable h d ∷ es))) ≡ endedItems (Frame (whyOf (x .fault) (turnedWhy o))) (x .bytes) D ++ thereby (begunOf b (h .fid) (h .still)) []
+      → cont o p (x .fault or Sound) D (x .stamp) (x .layer) (x .still) false [] (runs (readables b (readable h d ∷ es))) ≡ endedItems (Frame (whyOf (x .fault) (turnedWhy o))) (x .bytes) D ++ thereby (begunOf b (h .fid) (h .still)) []
   unfolding pick
   turn-new b x D e n = rw (ap nothing (runs-cut (seen b) (readables false es)), and-false p, append-nil D, e) (go (byEof o) (x .fault) (rw e at n))
     where
       go : (c : Bool) (q : Fault) → (not c && readyOf q (length D)) ≡ false
-          → settled false (not c && true) ((q or Sound) or Sound) (x .stamp orStamp Absent) (x .still) D ∷ judged o p (runs (readables b (readable h d ∷ es)))
+          → settled false (not c && true) ((q or Sound) or Sound) (x .stamp orStamp Absent) (x .layer) (x .still) D ∷ judged o p (runs (readables b (readable h d ∷ es)))
           ≡ record { entry = Entry.Dropped (whyOf q (pick c Cut Empty)) (length D); load = D } ∷ thereby (begunOf b (h .fid) (h .still)) []
       go true Sound n = ap (record { entry = Entry.Dropped Cut (length D); load = D } ∷_) (start-new b)
       go c (Bad w) n = rw (settled-bad c) (ap (record { entry = Entry.Dropped w (length D); load = D } ∷_) (start-new b))
         where
-          settled-bad : (c : Bool) → settled false (not c && true) (Bad w) (x .stamp orStamp Absent) (x .still) D ≡ record { entry = Entry.Dropped w (length D); load = D }
+          settled-bad : (c : Bool) → settled false (not c && true) (Bad w) (x .stamp orStamp Absent) (x .layer) (x .still) D ≡ record { entry = Entry.Dropped w (length D); load = D }
           settled-bad true = refl
           settled-bad false = refl
       go false Sound n = rw (not-false (eqb (length D) 0) n) (ap (record { entry = Entry.Dropped Empty (length D); load = D } ∷_) (start-new b))
@@ -114,7 +116,7 @@ module _ (o : Opening) (p : Bool) (h : Header) (d : List ℕ) (es : List Event) 
   read-law (Under x) b D e n = rw (same-beq (x .fid) (h .fid)) (go (Bool·beq (x .fid) (h .fid)) (rw (same-beq (x .fid) (h .fid)) at n))
     where
       go : (c : Bool) → (not (byEof o) && (not c && readyOf (x .fault) (x .bytes))) ≡ false
-          → cont o p (x .fault or Sound) D (x .stamp) (x .still) false (cond c (seen b ∷ first (x .fid) (readables false es)) []) (runs (cond c (later (x .fid) (readables false es)) (seen b ∷ readables false es)))
+          → cont o p (x .fault or Sound) D (x .stamp) (x .layer) (x .still) false (cond c (seen b ∷ first (x .fid) (readables false es)) []) (runs (cond c (later (x .fid) (readables false es)) (seen b ∷ readables false es)))
           ≡ then (pick c (joinTurn o x h (length d) Nothing 0) (joinTurn o (begunOf b (h .fid) (h .still)) h (length d) (Frame (whyOf (x .fault) (turnedWhy o))) (x .bytes))) D (cond c D [] ++ d)
       go true m = rw or-sound (go-on b x D e)
       go false m = turn-new b x D e m
@@ -142,12 +144,12 @@ hands-whole (Under x) o h e = ready-whole (x .fault) (x .bytes) (and-both (not (
 abbrev pub outItems : Phase → List ℕ → List Item
 outItems ph D = fateItems (handing (outBy ph false .frame .still) (outBy ph false .frame .delivery)) (outBy ph false .frame .delivery .len) D
 
-handed-law : (way : Bool) (q : Fault) (s : Stamp) (b : Bool) (D : List ℕ) (rest : List Item) → q ≡ Sound → (length D ≡ 0 → ⊥)
-    → settled way true q s b D ∷ rest ≡ fateItems (handing b (record { len = length D; stamp = s })) (length D) D ++ rest
-handed-law way q s b D rest e n = rw (e, ne-eqb (length D) 0 n) (go b)
+handed-law : (way : Bool) (q : Fault) (s : Stamp) (y : Layer) (b : Bool) (D : List ℕ) (rest : List Item) → q ≡ Sound → (length D ≡ 0 → ⊥)
+    → settled way true q s y b D ∷ rest ≡ fateItems (handing b (record { len = length D; stamp = s; layer = y })) (length D) D ++ rest
+handed-law way q s y b D rest e n = rw (e, ne-eqb (length D) 0 n) (go b)
   where
     d : Delivery
-    d = record { len = length D; stamp = s }
+    d = record { len = length D; stamp = s; layer = y }
 
     go : (c : Bool) → record { entry = handedOut c d; load = D } ∷ rest ≡ fateItems (handing c d) (length D) D ++ rest
     go true = refl
@@ -160,7 +162,7 @@ mark-law o p (Past f) b D es e w = absurd w
 mark-law o p (Under x) b D es e w =
     let rs : List (List Seen) = runs (later (x .fid) (readables b es)) in
     rw (append-nil D, stamp-absent (x .stamp), e)
-    (handed-law (p && nothing rs) ((x .fault or Sound) or Sound) (x .stamp) (x .still) D (pass o p (first (x .fid) (readables b es)) rs) (rw (w .0) refl) (λ z. w .1 (e ∙ z)))
+    (handed-law (p && nothing rs) ((x .fault or Sound) or Sound) (x .stamp) (x .layer) (x .still) D (pass o p (first (x .fid) (readables b es)) rs) (rw (w .0) refl) (λ z. w .1 (e ∙ z)))
 
 -- an idle transfer changes nothing owed; an unreadable or lost one spoils
 pub idle-law : (o : Opening) (p : Bool) (ph : Phase) (b : Bool) (D : List ℕ) (es : List Event) → owed o p ph b D (idle ∷ es) ≡ owed o p ph b D es
@@ -173,8 +175,8 @@ spoil-law o p Fresh b D es = refl
 spoil-law o p (Past f) b D es = refl
 spoil-law o p (Under x) b D es = go (x .fault)
   where
-    go : (q : Fault) → cont o p (q or Bad Gap) D (x .stamp) (x .still) (marks es) (first (x .fid) (readables true es)) (runs (later (x .fid) (readables true es)))
-        ≡ cont o p (firstOf q true Gap or when (spoiled es) Gap) D (x .stamp) (x .still) (marks es) (first (x .fid) (readables true es)) (runs (later (x .fid) (readables true es)))
+    go : (q : Fault) → cont o p (q or Bad Gap) D (x .stamp) (x .layer) (x .still) (marks es) (first (x .fid) (readables true es)) (runs (later (x .fid) (readables true es)))
+        ≡ cont o p (firstOf q true Gap or when (spoiled es) Gap) D (x .stamp) (x .layer) (x .still) (marks es) (first (x .fid) (readables true es)) (runs (later (x .fid) (readables true es)))
     go Sound = refl
     go (Bad w) = refl
 

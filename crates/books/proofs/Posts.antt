@@ -250,10 +250,10 @@ module _ (p : ℕ) (high : lostAt ≤ p) where
   account-gain : (w : Reason) (n : ℕ) → entryGain (placeOf (accountFor w)) n p ≡ 0
   account-gain w n = others-keep (placeOf (accountFor w)) n p (place-lt (accountFor w)) high
 
-  pub single-gain : (m : Stamp → Entry → ℕ) → ((a s : Stamp) (n : ℕ) → timeGain a s p ≡ m a (Entry.Delivered (record { len = n; stamp = s }))) → ((a : Stamp) (d : Delivery) → 0 ≡ m a (Entry.Still d)) → ((a : Stamp) (w : Reason) (n : ℕ) → 0 ≡ m a (Entry.Dropped w n))
+  pub single-gain : (m : Stamp → Entry → ℕ) → ((a : Stamp) (d : Delivery) → timeGain a (d .stamp) p ≡ m a (Entry.Delivered d)) → ((a : Stamp) (d : Delivery) → 0 ≡ m a (Entry.Still d)) → ((a : Stamp) (w : Reason) (n : ℕ) → 0 ≡ m a (Entry.Dropped w n))
       → ((a : Stamp) (n : ℕ) → 0 ≡ m a (Entry.UnderWay n)) → ((a : Stamp) (n : ℕ) → 0 ≡ m a (Entry.Stray n)) → ((a : Stamp) (n : ℕ) → 0 ≡ m a (Entry.Unreadable n)) → ((a : Stamp) (n : ℕ) → 0 ≡ m a (Entry.Headers n))
       → ((a : Stamp) → cond (eqb lostAt p) 1 0 ≡ m a Entry.Lost) → ((a : Stamp) → cond (eqb idleAt p) 1 0 ≡ m a Entry.Idle) → (a : Stamp) (e : Entry) → gain p a e ≡ m a e
-  single-gain m f i g u v w x y z a (Entry.Delivered d) = rw (others-keep (placeOf Account.Delivered) (d .len) p (place-lt Account.Delivered) high) (zero-add _ ∙ f a (d .stamp) (d .len))
+  single-gain m f i g u v w x y z a (Entry.Delivered d) = rw (others-keep (placeOf Account.Delivered) (d .len) p (place-lt Account.Delivered) high) (zero-add _ ∙ f a d)
   single-gain m f i g u v w x y z a (Entry.Still d) = others-keep (placeOf Account.Still) (d .len) p (place-lt Account.Still) high ∙ i a d
   single-gain m f i g u v w x y z a (Entry.Dropped r n) = account-gain r n ∙ g a r n
   single-gain m f i g u v w x y z a (Entry.UnderWay n) = others-keep (placeOf Account.UnderWay) n p (place-lt Account.UnderWay) high ∙ u a n

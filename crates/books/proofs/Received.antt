@@ -1,25 +1,24 @@
 -- The bytes of the rule's entries are the bytes received, and the byte accounts hold them all.
-use Prim.Native.Nat.{ℕ, zero, suc, _+_, _≤_}
+use Prim.Native.Nat.{ℕ, _+_, _≤_}
 use mathlib.Core.Path.{_≡_, refl, _∙_, ap}
 use mathlib.Core.Bool.{Bool, true, false, cond, _&&_}
 use mathlib.Core.List.{List, [], _∷_, map}
 use native.Mathlib.Omega.{arith}
 use lib.ListN.{length, length-append, length-drop}
 use lib.Dec.{eqb}
-use borrow.Author.Tests.{ltb-false}
-use Rattle.rules.specs.Numbered.{firstFrom, Down}
-use Rattle.rules.proofs.Numbered.{first-zero}
 use Rattle.sizes.specs.declared.Opening.{Opening}
 use Rattle.payload.specs.declared.Stamp.{Stamp}
+use Rattle.payload.specs.declared.Layer.{Layer}
 use Rattle.payload.specs.declared.Reading.{Reading}
 use Rattle.payload.specs.declared.Reading.the-variants.{Idle, Unreadable, Readable}
-use Rattle.payload.specs.Transfer.{lengthAt, transferFlags, headerOf, sorted, readingOf}
+use Rattle.payload.specs.Transfer.{readingOf}
+use Rattle.payload.proofs.Readings.{idle-exactly, readable-fits}
 use Rattle.frames.specs.declared.Reason.the-variants.{Gap, Error, Clock, Mixed, Long, Cut, Empty}
 use Rattle.frames.specs.declared.Fault.{Fault}
 use Rattle.frames.specs.declared.Fault.the-variants.{Sound, Bad}
 use Rattle.ledger.specs.declared.Account.{Account}
 use Rattle.ledger.specs.Entry.{Entry}
-use Rattle.books.specs.Rule.{Event, idle, unreadable, missing, readable, mark, eventBy, events, isOpen, Seen, readables, same, ahead, runs, closes, frameOf, strayOf, complete, dataOf, firstStamp, stillOf, fault, Item, handedOut, verdict, strays, judge, nothing, judged, framesBy, loose, entryOf, entries, bytesIn, partIn, total, received}
+use Rattle.books.specs.Rule.{Event, idle, unreadable, missing, readable, mark, eventBy, events, isOpen, Seen, readables, same, ahead, runs, closes, frameOf, strayOf, complete, dataOf, firstStamp, lastLayer, stillOf, fault, Item, handedOut, verdict, strays, judge, nothing, judged, framesBy, loose, entryOf, entries, bytesIn, partIn, total, received}
 use Rattle.books.specs.Demands.{over}
 use Rattle.books.proofs.Posts.{total-append}
 use Rattle.books.proofs.History.{map-append}
@@ -32,17 +31,13 @@ Sound₀ t Idle = length t ≡ 0
 Sound₀ t (Unreadable k) = Unit {0}
 Sound₀ t (Readable h) = h .len ≤ length t
 
-sorted-sound : (o : Opening) (t : List ℕ) (k : ℕ) → firstFrom 61 (transferFlags o t) ≡ k → Sound₀ t (sorted k t)
-unfolding headerOf transferFlags
-sorted-sound o t zero e =
-    let d : Down (transferFlags o t) = first-zero 61 (transferFlags o t) (omega arith) e in
-    ltb-false (length t) (lengthAt t) (d .1 .1 .1 .0)
-sorted-sound o t (suc k) e = tt
-
 pub reading-sound : (o : Opening) (t : List ℕ) → Sound₀ t (readingOf o t)
-unfolding readingOf
-reading-sound o [] = refl
-reading-sound o (b ∷ t) = sorted-sound o (b ∷ t) (firstFrom 61 (transferFlags o (b ∷ t))) refl
+reading-sound o t = go (readingOf o t) refl
+  where
+    go : (r : Reading) → readingOf o t ≡ r → Sound₀ t r
+    go Idle e = ap length (idle-exactly o t .0 e)
+    go (Unreadable k) e = tt
+    go (Readable h) e = readable-fits o t h e .inside
 
 -- ---- the events' bytes
 abbrev pub gotten : List Event → ℕ
@@ -66,17 +61,17 @@ events-got o (Call.handed ∷ cs) = events-got o cs
 events-got o (Call.close ∷ cs) = refl
 
 -- ---- the rule's bytes
-verdict-bytes : (w c : Bool) (q : Fault) (s : Stamp) (b : Bool) (n : ℕ) → bytesIn (verdict w c q s b n) ≡ n
-verdict-bytes w true (Bad k) s b n = refl
-verdict-bytes w true Sound s b n = go (eqb n 0) b
+verdict-bytes : (w c : Bool) (q : Fault) (s : Stamp) (y : Layer) (b : Bool) (n : ℕ) → bytesIn (verdict w c q s y b n) ≡ n
+verdict-bytes w true (Bad k) s y b n = refl
+verdict-bytes w true Sound s y b n = go (eqb n 0) b
   where
-    go : (c b : Bool) → bytesIn (cond c (Entry.Dropped Empty n) (handedOut b (record { len = n; stamp = s }))) ≡ n
+    go : (c b : Bool) → bytesIn (cond c (Entry.Dropped Empty n) (handedOut b (record { len = n; stamp = s; layer = y }))) ≡ n
     go true b = refl
     go false true = refl
     go false false = refl
-verdict-bytes true false q s b n = refl
-verdict-bytes false false (Bad k) s b n = refl
-verdict-bytes false false Sound s b n = refl
+verdict-bytes true false q s y b n = refl
+verdict-bytes false false (Bad k) s y b n = refl
+verdict-bytes false false Sound s y b n = refl
 
 abbrev bytesOfItems : List Item → ℕ
 bytesOfItems xs = total bytesIn (map entryOf xs)
@@ -121,7 +116,7 @@ runs-size (t ∷ ts) = ahead-size t (runs ts) ∙ ap (length (t .load) +_) (runs
 judge-bytes : (o : Opening) (p l : Bool) (r : List Seen) → bytesOfItems (judge o p l r) ≡ sizeOf r
 judge-bytes o p l r =
     let f : List Seen = frameOf o r in
-    omega (arith, verdict-bytes (p && l) (complete o l f) (fault o f) (firstStamp f) (stillOf f) (length (dataOf f)), data-size f, strays-bytes (strayOf o r), split-size o r)
+    omega (arith, verdict-bytes (p && l) (complete o l f) (fault o f) (firstStamp f) (lastLayer f) (stillOf f) (length (dataOf f)), data-size f, strays-bytes (strayOf o r), split-size o r)
 
 judged-bytes : (o : Opening) (p : Bool) (rs : List (List Seen)) → bytesOfItems (judged o p rs) ≡ sizes rs
 judged-bytes o p [] = refl

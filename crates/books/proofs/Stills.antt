@@ -1,8 +1,8 @@
--- Where no readable transfer has D5, no frame is a still or mixed, and both accounts are zero.
+-- Where no readable transfer has the still bit, no frame is a still or mixed, and both accounts are zero.
 use Prim.Native.Nat.{ℕ, _+_}
-use mathlib.Core.Path.{_≡_, refl, sym, _∙_, ap, subst}
-use mathlib.Core.Bool.{Bool, true, false, cond, _&&_, true≢false}
-use mathlib.Core.List.{List, [], _∷_, _++_, map}
+use mathlib.Core.Path.{_≡_, refl, sym, _∙_, ap}
+use mathlib.Core.Bool.{Bool, true, false, cond, true≢false}
+use mathlib.Core.List.{List, [], _∷_, map}
 use native.Mathlib.Omega.{arith}
 use native.Mathlib.Nat.{zero-add}
 use lib.ListN.{length}
@@ -11,6 +11,7 @@ use borrow.Author.Tests.{ne-eqb}
 use Rattle.sizes.specs.declared.Opening.{Opening}
 use Rattle.payload.specs.declared.Header.{Header}
 use Rattle.payload.specs.declared.Stamp.{Stamp}
+use Rattle.payload.specs.declared.Layer.{Layer}
 use Rattle.frames.specs.declared.Reason.{Reason}
 use Rattle.frames.specs.declared.Reason.the-variants.{Gap, Error, Clock, Mixed, Long, Cut, Empty}
 use Rattle.frames.specs.declared.Fault.{Fault}
@@ -20,49 +21,15 @@ use Rattle.ledger.specs.declared.Ledger.{Ledger}
 use Rattle.ledger.specs.Accounts.{placeOf, accountFor}
 use Rattle.ledger.specs.Entry.{Entry}
 use Rattle.session.specs.Call.{Call}
-use Rattle.books.specs.Rule.{Event, idle, unreadable, missing, readable, mark, events, isOpen, Seen, readables, same, ahead, runs, closes, frameOf, strayOf, complete, dataOf, firstStamp, stillOf, _or_, when, differs, faultAt, gapAfter, faultFrom, gapBefore, fault, verdict, strays, judge, nothing, judged, loose, entryOf, framesBy, entries, lineOf, oneIn, partIn, total}
-use Rattle.books.specs.Demands.{Right, Film, NoStill, NoneStill, WithoutStills}
-use Rattle.books.proofs.History.{map-append}
+use Rattle.books.specs.Rule.{Event, idle, unreadable, missing, readable, mark, events, Seen, dataOf, firstStamp, lastLayer, stillOf, _or_, when, differs, faultAt, gapAfter, faultFrom, gapBefore, fault, verdict, loose, entryOf, framesBy, entries, lineOf, oneIn, partIn, total}
+use Rattle.books.specs.Demands.{Right, EachEntry, FilmHeader, Film, NoStill, WithoutStills}
+use Rattle.books.proofs.Each.{each-append, EachSeen, frames-each}
 
--- ---- no transfer of a list, or of any run, has D5
+-- ---- a frame of which no transfer has it
 abbrev Clear : List Seen → Type 0
-Clear [] = Unit {0}
-Clear (t ∷ ts) = (t .header .still ≡ false) × Clear ts
+Clear r = EachSeen FilmHeader r
 
-abbrev AllClear : List (List Seen) → Type 0
-AllClear [] = Unit {0}
-AllClear (r ∷ rs) = Clear r × AllClear rs
-
-readables-clear : (b : Bool) (es : List Event) → Film es → Clear (readables b es)
-readables-clear b [] f = tt
-readables-clear b (idle ∷ es) f = readables-clear b es f
-readables-clear b (unreadable n ∷ es) f = readables-clear true es f
-readables-clear b (missing ∷ es) f = readables-clear true es f
-readables-clear b (readable h d ∷ es) f = (f .0, readables-clear false es (f .1))
-readables-clear b (mark ∷ es) f = readables-clear b es f
-
-ahead-clear : (t : Seen) (rs : List (List Seen)) → t .header .still ≡ false → AllClear rs → AllClear (ahead t rs)
-ahead-clear t [] e c = ((e, tt), tt)
-ahead-clear t ([] ∷ rs) e c = ((e, tt), c .1)
-ahead-clear t ((u ∷ us) ∷ rs) e c = go (same t u)
-  where
-    go : (b : Bool) → AllClear (cond b ((t ∷ u ∷ us) ∷ rs) ((t ∷ []) ∷ (u ∷ us) ∷ rs))
-    go true = ((e, c .0), c .1)
-    go false = ((e, tt), c)
-
-runs-clear : (ts : List Seen) → Clear ts → AllClear (runs ts)
-runs-clear [] c = tt
-runs-clear (t ∷ ts) c = ahead-clear t (runs ts) (c .0) (runs-clear ts (c .1))
-
-frame-clear : (o : Opening) (r : List Seen) → Clear r → Clear (frameOf o r)
-frame-clear o [] c = tt
-frame-clear o (t ∷ ts) c = (c .0, go (closes o t) (frame-clear o ts (c .1)))
-  where
-    go : (b : Bool) → Clear (frameOf o ts) → Clear (cond b [] (frameOf o ts))
-    go true rec = tt
-    go false rec = rec
-
-still-clear : (r : List Seen) → Clear r → stillOf r ≡ false
+pub still-clear : (r : List Seen) → Clear r → stillOf r ≡ false
 still-clear [] c = refl
 still-clear (t ∷ ts) c = c .0
 
@@ -109,37 +76,22 @@ fault-not : (o : Opening) (r : List Seen) → Clear r → NotMixed (fault o r)
 fault-not o r c = or-not (when (gapBefore r) Gap) _ (when-not (gapBefore r) Gap refl) (rw (still-clear r c) (from-not o (firstStamp r) 0 r c))
 
 -- ---- and no still
-verdict-film : (w c : Bool) (q : Fault) (s : Stamp) (b : Bool) (n : ℕ) → NotMixed q → b ≡ false → NoStill (verdict w c q s b n)
-verdict-film w true (Bad k) s b n h e = h
-verdict-film w true Sound s true n h e = absurd (true≢false e)
-verdict-film w true Sound s false n h e = go (eqb n 0)
+verdict-film : (w c : Bool) (q : Fault) (s : Stamp) (y : Layer) (b : Bool) (n : ℕ) → NotMixed q → b ≡ false → NoStill (verdict w c q s y b n)
+verdict-film w true (Bad k) s y b n h e = h
+verdict-film w true Sound s y true n h e = absurd (true≢false e)
+verdict-film w true Sound s y false n h e = go (eqb n 0)
   where
-    go : (c : Bool) → NoStill (cond c (Entry.Dropped Empty n) (Entry.Delivered (record { len = n; stamp = s })))
+    go : (c : Bool) → NoStill (cond c (Entry.Dropped Empty n) (Entry.Delivered (record { len = n; stamp = s; layer = y })))
     go true = other Empty refl
     go false = tt
-verdict-film true false q s b n h e = tt
-verdict-film false false (Bad k) s b n h e = h
-verdict-film false false Sound s b n h e = other Cut refl
+verdict-film true false q s y b n h e = tt
+verdict-film false false (Bad k) s y b n h e = h
+verdict-film false false Sound s y b n h e = other Cut refl
 
-none-append : (xs ys : List Entry) → NoneStill xs → NoneStill ys → NoneStill (xs ++ ys)
-none-append [] ys a b = b
-none-append (x ∷ xs) ys a b = (a .0, none-append xs ys (a .1) b)
+pub judged-film : (o : Opening) (way c : Bool) (f : List Seen) → Clear f → NoStill (verdict way c (fault o f) (firstStamp f) (lastLayer f) (stillOf f) (length (dataOf f)))
+judged-film o way c f k = verdict-film way c (fault o f) (firstStamp f) (lastLayer f) (stillOf f) (length (dataOf f)) (fault-not o f k) (still-clear f k)
 
-strays-film : (ts : List Seen) → NoneStill (map entryOf (strays ts))
-strays-film [] = tt
-strays-film (t ∷ ts) = (tt, strays-film ts)
-
-judged-film : (o : Opening) (p : Bool) (rs : List (List Seen)) → AllClear rs → NoneStill (map entryOf (judged o p rs))
-judged-film o p [] c = tt
-judged-film o p (r ∷ rs) c =
-    let f : List Seen = frameOf o r in
-    let k = frame-clear o r (c .0) in
-    subst NoneStill (sym (map-append (judge o p (nothing rs) r) (judged o p rs)))
-    (none-append (map entryOf (judge o p (nothing rs) r)) (map entryOf (judged o p rs))
-    (verdict-film (p && nothing rs) (complete o (nothing rs) f) (fault o f) (firstStamp f) (stillOf f) (length (dataOf f)) (fault-not o f k) (still-clear f k), strays-film (strayOf o r))
-    (judged-film o p rs (c .1)))
-
-loose-film : (es : List Event) → NoneStill (loose es)
+loose-film : (es : List Event) → EachEntry NoStill (loose es)
 loose-film [] = tt
 loose-film (idle ∷ es) = (tt, loose-film es)
 loose-film (unreadable n ∷ es) = (tt, loose-film es)
@@ -147,8 +99,8 @@ loose-film (missing ∷ es) = (tt, loose-film es)
 loose-film (readable h d ∷ es) = (tt, loose-film es)
 loose-film (mark ∷ es) = loose-film es
 
-frames-film : (o : Opening) (cs : List Call) → Film (events o cs) → NoneStill (map entryOf (framesBy o cs))
-frames-film o cs f = judged-film o (isOpen cs) (runs (readables false (events o cs))) (runs-clear (readables false (events o cs)) (readables-clear false (events o cs) f))
+frames-film : (o : Opening) (cs : List Call) → Film (events o cs) → EachEntry NoStill (map entryOf (framesBy o cs))
+frames-film o cs f = frames-each FilmHeader o NoStill (judged-film o) (λ n. tt) cs f
 
 -- ---- both accounts are zero
 reason-line : (w : Reason) → (w ≡ Mixed → ⊥) → (placeOf (accountFor w) ≡ placeOf Account.Still → ⊥) × (placeOf (accountFor w) ≡ placeOf Account.Mixed → ⊥)
@@ -172,17 +124,17 @@ entry-line Entry.Lost h = (λ e. omega arith, λ e. omega arith)
 entry-line Entry.Idle h = (λ e. omega arith, λ e. omega arith)
 
 module _ (k : ℕ) (apart : (x : Entry) → NoStill x → lineOf x ≡ k → ⊥) where
-  none-one : (es : List Entry) → NoneStill es → total (oneIn k) es ≡ 0
+  none-one : (es : List Entry) → EachEntry NoStill es → total (oneIn k) es ≡ 0
   none-one [] f = refl
   none-one (x ∷ es) f = rw (ne-eqb (lineOf x) k (apart x (f .0))) (zero-add _ ∙ none-one es (f .1))
 
-  none-part : (es : List Entry) → NoneStill es → total (partIn k) es ≡ 0
+  none-part : (es : List Entry) → EachEntry NoStill es → total (partIn k) es ≡ 0
   none-part [] f = refl
   none-part (x ∷ es) f = rw (ne-eqb (lineOf x) k (apart x (f .0))) (zero-add _ ∙ none-part es (f .1))
 
 pub without-stills : (o : Opening) (cs : List Call) (l : Ledger) → Right o cs l → Film (events o cs) → WithoutStills o cs l
 without-stills o cs l r f =
-    let n : NoneStill (entries o cs) = none-append (map entryOf (framesBy o cs)) (loose (events o cs)) (frames-film o cs f) (loose-film (events o cs)) in
+    let n : EachEntry NoStill (entries o cs) = each-append NoStill (map entryOf (framesBy o cs)) (loose (events o cs)) (frames-film o cs f) (loose-film (events o cs)) in
     record {
       frames = frames-film o cs f;
       stills = r .counts Account.Still ∙ none-one (placeOf Account.Still) (λ x h. entry-line x h .0) (entries o cs) n;

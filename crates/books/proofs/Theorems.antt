@@ -12,7 +12,10 @@ use borrow.Author.Tests.{le-ltb}
 use Rattle.rules.specs.Numbered.{firstFrom, orElse, Down}
 use Rattle.rules.proofs.Numbered.{first-zero}
 use Rattle.sizes.specs.declared.Opening.{Opening}
+use Rattle.sizes.specs.declared.HeaderKind.the-variants.{Old, Vp8}
 use Rattle.sizes.specs.Framing.{byEof}
+use Rattle.payload.specs.OldKind.{OldKind}
+use Rattle.payload.proofs.OldKind as old
 use Rattle.frames.specs.declared.Answer.{Answer}
 use Rattle.frames.specs.declared.Delivery.{Delivery}
 use Rattle.frames.specs.declared.Ended.{Ended}
@@ -30,6 +33,7 @@ use Rattle.session.specs.Session.{fresh, openBy, openOf, takeOf, bufferBy, buff
 use Rattle.books.specs.Rule.{events, entries, numbersOf, stamps, forward, between, received}
 use Rattle.books.specs.Demands.{Right, over, allBytes, endedItems, fateItems, Gains, Says, Whole, Film, WithoutStills}
 use Rattle.books.specs.HandedOut.{HandsOut, HandedWhole, MarkedBefore, EofFraming}
+use Rattle.books.specs.HeaderKinds.{NoLayers, ReportsNone, ClosesNoStill, AnswersNoStill}
 use Rattle.books.specs.Answer.{answerOf, outcomeOf, endingOf, writtenOf}
 use Rattle.books.proofs.Taken.{next-refused, after-run, Proper, taken-proper, close-last}
 use Rattle.books.proofs.Accounts.{all-right}
@@ -43,6 +47,7 @@ use Rattle.books.proofs.Whole.{delivered-whole}
 use Rattle.books.proofs.Whole as buffers
 use Rattle.books.proofs.Print.{run-numbers}
 use Rattle.books.proofs.Stills.{without-stills}
+use Rattle.books.proofs.HeaderKinds.{no-layers, reports-none, all-film, answers-no-still, closes-no-still}
 use Rattle.books.proofs.Samples.{opening, transfers, printed, by-rule, by-session}
 use Rattle.ledger.specs.Accounts.{ticksAt, accounts}
 use Rattle.sizes.specs.Sizes.{sizesBroken}
@@ -77,7 +82,7 @@ history o xs = after-run (fresh o) xs
 pub nothing-after-close : (o : Opening) (xs : List Offer) (before rest : List Call) → taken (fresh o) xs ≡ before ++ (Call.close ∷ rest) → rest ≡ []
 nothing-after-close o xs before rest e = close-last before rest (fresh o) (subst (Proper (fresh o)) e (taken-proper (fresh o) xs))
 
--- 2. "Each account is what document 01's rule gives from the opening sizes (and the framing byte) and the list of calls alone": every count and every byte, lost, idle, ticks, backward and untimed.
+-- 2. "Each account is what document 01's rule gives from the opening sizes (and the framing byte, and the header kind) and the list of calls alone": every count and every byte, lost, idle, ticks, backward and untimed.
 pub accounts-right : (o : Opening) (xs : List Offer) → Right o (taken (fresh o) xs) (ledgerOf (after (fresh o) xs))
 accounts-right o xs = subst (λ (s : Session). Right o (taken (fresh o) xs) (ledgerOf s)) (sym (history o xs)) (all-right o (taken (fresh o) xs) (taken-proper (fresh o) xs))
 
@@ -93,7 +98,7 @@ nothing-missing o xs =
 pub ticks-right : (o : Opening) (xs : List Offer) → getD (ledgerOf (after (fresh o) xs) .numbers) ticksAt 0 ≡ between forward (stamps (entries o (taken (fresh o) xs)))
 ticks-right o xs = accounts-right o xs .ticks
 
--- 4. Each answer is one definition of the list: a frame handed out; or what became of a frame ended, and the transfer's own fate, with number, length and stamp.
+-- 4. Each answer is one definition of the list: a frame handed out; or what became of a frame ended, and the transfer's own fate, with number, length, stamp and layer.
 pub answer-right : (o : Opening) (xs : List Offer) (buffer t : List ℕ) → refusal (after (fresh o) xs) (Offer.take buffer t) ≡ 0
     → takeOf (after (fresh o) xs) (length buffer) t .outcome ≡ outcomeOf o (taken (fresh o) xs) t
 answer-right = transfer-answers
@@ -181,9 +186,27 @@ pub never-twice : (s : Session) (b t c u : List ℕ) (x y : HandOut) → takeOf 
     → takeOf (takeOf s (length b) t .session) (length c) u .outcome ≡ Outcome.Handed y → ⊥
 never-twice = out.never-twice
 
--- "Still pictures among the film" (document 02, Ten): where no readable transfer has D5, no frame is a still or mixed, and both accounts are zero.
+-- "Still pictures among the film" (document 02, Ten): where no readable transfer has the still bit, no frame is a still or mixed, and both accounts are zero.
 pub no-stills : (o : Opening) (xs : List Offer) → Film (events o (taken (fresh o) xs)) → WithoutStills o (taken (fresh o) xs) (ledgerOf (after (fresh o) xs))
 no-stills o xs f = without-stills o (taken (fresh o) xs) (ledgerOf (after (fresh o) xs)) (accounts-right o xs) f
+
+-- "Demand 3 reads from it as from the framing byte" (document 02, Twelve): with the old kind of header each parameter of the reading is document 01's, and no layer is reported, in
+-- the list or by any take.
+pub old-kind : (o : Opening) (xs : List Offer) → o .kind ≡ Old → OldKind o × NoLayers o (taken (fresh o) xs)
+old-kind o xs e = (old.old-kind o e, no-layers o e (taken (fresh o) xs))
+
+pub old-kind-answers : (o : Opening) (xs : List Offer) (buffer t : List ℕ) → o .kind ≡ Old → ReportsNone (takeOf (after (fresh o) xs) (length buffer) t .outcome)
+old-kind-answers o xs buffer t e = reports-none o e xs buffer t
+
+-- "D5 marks an intra frame there, so this kind has no stills and no mixed": not in the list, not in the accounts, and not by any take or close.
+pub vp8-stills : (o : Opening) (xs : List Offer) → o .kind ≡ Vp8 → WithoutStills o (taken (fresh o) xs) (ledgerOf (after (fresh o) xs))
+vp8-stills o xs e = no-stills o xs (all-film o e (taken (fresh o) xs))
+
+pub vp8-answers : (o : Opening) (xs : List Offer) (buffer t : List ℕ) → o .kind ≡ Vp8 → AnswersNoStill (takeOf (after (fresh o) xs) (length buffer) t .outcome)
+vp8-answers o xs buffer t e = answers-no-still o e xs buffer t
+
+pub vp8-close : (o : Opening) (xs : List Offer) → o .kind ≡ Vp8 → ClosesNoStill (closeOf (after (fresh o) xs) .closing)
+vp8-close o xs e = closes-no-still o e xs
 
 -- 7. The ledger sample of document 01, about the rule and about the session, as computed equalities.
 pub sample-by-rule : numbersOf (entries opening (map Call.transfer transfers)) ≡ printed

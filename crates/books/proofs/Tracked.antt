@@ -12,6 +12,7 @@ use Rattle.sizes.specs.Framing.{byEof}
 use Rattle.payload.specs.declared.Header.{Header}
 use Rattle.payload.specs.declared.Stamp.{Stamp}
 use Rattle.payload.specs.declared.Stamp.the-variants.{Absent}
+use Rattle.payload.specs.declared.Layer.{Layer}
 use Rattle.frames.specs.declared.Reason.the-variants.{Gap, Cut, Empty}
 use Rattle.frames.specs.declared.Fault.{Fault}
 use Rattle.frames.specs.declared.Fault.the-variants.{Sound, Bad}
@@ -26,13 +27,13 @@ use Rattle.frames.specs.declared.Turn.{Turn}
 use Rattle.frames.specs.Inner.{whyOf, sameOf, begunOf, joinedOf, completeOf, endsOf, turnedWhy, fateOf, phaseOf, joinTurn, strayTurn, turnBy, readyOf, handsBy, outBy}
 use Rattle.frames.specs.Inner as track
 use Rattle.ledger.specs.Entry.{Entry}
-use Rattle.books.specs.Rule.{Seen, closes, frameOf, strayOf, closed, complete, dataOf, _orStamp_, firstStamp, stillOf, _or_, when, faultAt, fault, handedOut, verdict}
+use Rattle.books.specs.Rule.{Seen, closes, frameOf, strayOf, closed, complete, dataOf, _orStamp_, firstStamp, _thenLayer_, lastLayer, stillOf, _or_, when, faultAt, fault, handedOut, verdict}
 use Rattle.books.specs.Answer.{frameEntry, reasonIn, endedIn, turnedIn, goesOn, fateIn, fateBy, fateOn, turns, isSound, handsIn, outOf, earlier, writtenBy, writtenIn}
-use Rattle.books.proofs.Cut.{or-sound, stamp-absent, earlier-or, same-beq, fault-or}
+use Rattle.books.proofs.Cut.{or-sound, stamp-absent, earlier-or, later-then, same-beq, fault-or}
 use Rattle.books.proofs.Owed.{and-false, not-false, begun-fault, Whole}
 use Rattle.books.proofs.Sound.{Snug, Fit, faultBy, snug-begun}
 use Rattle.books.proofs.OneMore.{seenWith, markLast, grown}
-use Rattle.books.proofs.Grown.{and, frame-whole, closed-frame, closed-more, closed-marked, frame-more, stray-none, stray-more, earlier-more, data-more, stamp-more, soFar, fault-more}
+use Rattle.books.proofs.Grown.{and, frame-whole, closed-frame, closed-more, closed-marked, frame-more, stray-none, stray-more, earlier-more, data-more, stamp-more, layer-more, soFar, fault-more}
 
 or-false : (b : Bool) → (b || false) ≡ b
 or-false true = refl
@@ -53,6 +54,7 @@ pub record Part (o : Opening) (q : Fault) (b : Bool) (x : Run) (r : List Seen) :
   pub fault₀ : x .fault ≡ q
   pub still₀ : x .still ≡ b
   pub stamp₀ : x .stamp ≡ firstStamp r
+  pub layer₀ : x .layer ≡ lastLayer r
   pub bytes₀ : x .bytes ≡ length (dataOf r)
 
 -- what the tracker knows of the last run
@@ -62,21 +64,21 @@ Tracks o (Under x) r = Of (x .fid) r × Part o (fault o r) (stillOf r) x r
 Tracks o (Past f) r = Of f r × (closed o r ≡ true)
 
 -- ---- the tracker's words and the rule's
-complete-same : (q : Fault) (s : Stamp) (b : Bool) (n : ℕ) → completeOf q n s b ≡ fateIn (verdict true true q s b n)
+complete-same : (q : Fault) (s : Stamp) (y : Layer) (b : Bool) (n : ℕ) → completeOf q n s y b ≡ fateIn (verdict true true q s y b n)
 unfolding pick
-complete-same (Bad w) s b n = refl
-complete-same Sound s b n = go (eqb n 0) b
+complete-same (Bad w) s y b n = refl
+complete-same Sound s y b n = go (eqb n 0) b
   where
     d : Delivery
-    d = record { len = n; stamp = s }
+    d = record { len = n; stamp = s; layer = y }
 
     go : (c b : Bool) → pick c (Fate.Dropped Empty) (pick b (Fate.Still d) (Fate.Delivered d)) ≡ fateIn (cond c (Entry.Dropped Empty n) (handedOut b d))
     go true b = refl
     go false true = refl
     go false false = refl
 
-fate-same : (e : Bool) (y : Run) → fateOf e y ≡ fateIn (verdict true e (y .fault) (y .stamp) (y .still) (y .bytes))
-fate-same true y = complete-same (y .fault) (y .stamp) (y .still) (y .bytes)
+fate-same : (e : Bool) (y : Run) → fateOf e y ≡ fateIn (verdict true e (y .fault) (y .stamp) (y .layer) (y .still) (y .bytes))
+fate-same true y = complete-same (y .fault) (y .stamp) (y .layer) (y .still) (y .bytes)
 fate-same false y = refl
 
 -- where no fault comes with a transfer, there was none before it, and all the data is written
@@ -99,6 +101,9 @@ module _ (o : Opening) (h : Header) (d : List ℕ) (b : Bool) where
     joined-stamp : y .stamp ≡ firstStamp (and r t)
     joined-stamp = earlier-or (x .stamp) (h .stamp) ∙ ap (_orStamp h .stamp) (p .stamp₀) ∙ sym (stamp-more r t)
 
+    joined-layer : y .layer ≡ lastLayer (and r t)
+    joined-layer = later-then (x .layer) (h .layer) ∙ ap (_thenLayer h .layer) (p .layer₀) ∙ sym (layer-more r t)
+
     alone : fault o (and r t) ≡ soFar o t r or faultAt o (firstStamp (and r t)) (stillOf (and r t)) (length (dataOf r)) h n
     alone =
         let f : Fault = faultAt o (firstStamp (and r t)) (stillOf (and r t)) (length (dataOf r)) h n in
@@ -120,15 +125,16 @@ module _ (o : Opening) (h : Header) (d : List ℕ) (b : Bool) where
     joined-eof = closed-more o r t ∙ ap (_|| closes o t) (p .going) ∙ or-false (endsOf o h)
 
     -- its fate is the rule's
-    entry-right : frameEntry o true true (and r t) ≡ verdict true (endsOf o h) (y .fault) (y .stamp) (y .still) (y .bytes)
+    entry-right : frameEntry o true true (and r t) ≡ verdict true (endsOf o h) (y .fault) (y .stamp) (y .layer) (y .still) (y .bytes)
     entry-right =
-        ap (λ (f : List Seen). verdict true (complete o true f) (fault o f) (firstStamp f) (stillOf f) (length (dataOf f))) (frame-more o r t (p .going))
-        ∙ ap (λ (e : Bool). verdict true e (fault o (and r t)) (firstStamp (and r t)) (stillOf (and r t)) (length (dataOf (and r t)))) (complete-last o (and r t))
-        ∙ sym (ap (λ (q : Fault). verdict true (endsOf o h) q (y .stamp) (y .still) (y .bytes)) joined-fault
-        ∙ ap (λ (s : Stamp). verdict true (endsOf o h) (fault o (and r t)) s (y .still) (y .bytes)) joined-stamp
-        ∙ ap (λ (c : Bool). verdict true (endsOf o h) (fault o (and r t)) (firstStamp (and r t)) c (y .bytes)) (p .still₀)
-        ∙ ap (verdict true (endsOf o h) (fault o (and r t)) (firstStamp (and r t)) (stillOf (and r t))) joined-bytes
-        ∙ ap (λ (e : Bool). verdict true e (fault o (and r t)) (firstStamp (and r t)) (stillOf (and r t)) (length (dataOf (and r t)))) (sym joined-eof))
+        ap (λ (f : List Seen). verdict true (complete o true f) (fault o f) (firstStamp f) (lastLayer f) (stillOf f) (length (dataOf f))) (frame-more o r t (p .going))
+        ∙ ap (λ (e : Bool). verdict true e (fault o (and r t)) (firstStamp (and r t)) (lastLayer (and r t)) (stillOf (and r t)) (length (dataOf (and r t)))) (complete-last o (and r t))
+        ∙ sym (ap (λ (q : Fault). verdict true (endsOf o h) q (y .stamp) (y .layer) (y .still) (y .bytes)) joined-fault
+        ∙ ap (λ (s : Stamp). verdict true (endsOf o h) (fault o (and r t)) s (y .layer) (y .still) (y .bytes)) joined-stamp
+        ∙ ap (λ (l : Layer). verdict true (endsOf o h) (fault o (and r t)) (firstStamp (and r t)) l (y .still) (y .bytes)) joined-layer
+        ∙ ap (λ (c : Bool). verdict true (endsOf o h) (fault o (and r t)) (firstStamp (and r t)) (lastLayer (and r t)) c (y .bytes)) (p .still₀)
+        ∙ ap (verdict true (endsOf o h) (fault o (and r t)) (firstStamp (and r t)) (lastLayer (and r t)) (stillOf (and r t))) joined-bytes
+        ∙ ap (λ (e : Bool). verdict true e (fault o (and r t)) (firstStamp (and r t)) (lastLayer (and r t)) (stillOf (and r t)) (length (dataOf (and r t)))) (sym joined-eof))
 
     joined-fate : fateOf (endsOf o h) y ≡ fateOn o (and r t)
     joined-fate =
@@ -140,7 +146,7 @@ module _ (o : Opening) (h : Header) (d : List ℕ) (b : Bool) where
       where
         go : (e : Bool) → endsOf o h ≡ e → Tracks o (phaseOf e y) (and r t)
         go true e = (f, joined-eof ∙ e)
-        go false e = (f, record { going = joined-eof ∙ e; fault₀ = joined-fault; still₀ = p .still₀; stamp₀ = joined-stamp; bytes₀ = joined-bytes })
+        go false e = (f, record { going = joined-eof ∙ e; fault₀ = joined-fault; still₀ = p .still₀; stamp₀ = joined-stamp; layer₀ = joined-layer; bytes₀ = joined-bytes })
 
     -- its data is written as the rule says
     put : (B : List ℕ) (f : Fault) → (f ≡ Sound → x .fill ≡ length (dataOf r)) → paste B (x .fill) d (track.writtenOf f n) ≡ writtenBy [] f (length (dataOf r)) d B
@@ -160,34 +166,34 @@ pub part-closed : (o : Opening) (x : Run) (u : Seen) (us : List Seen) → Part o
 part-closed o x u us p =
     let r : List Seen = u ∷ us in
     let f : List Seen = frameOf o r in
-    ap (λ (c : Bool). cond (closed o f) Nothing (reasonIn (verdict false c (fault o f) (firstStamp f) (stillOf f) (length (dataOf f))))) (complete-last o f)
-    ∙ ap (λ (c : Bool). cond c Nothing (reasonIn (verdict false c (fault o f) (firstStamp f) (stillOf f) (length (dataOf f))))) (closed-frame o r ∙ p .going)
-    ∙ reason-same (fault o f) (firstStamp f) (stillOf f) (length (dataOf f))
+    ap (λ (c : Bool). cond (closed o f) Nothing (reasonIn (verdict false c (fault o f) (firstStamp f) (lastLayer f) (stillOf f) (length (dataOf f))))) (complete-last o f)
+    ∙ ap (λ (c : Bool). cond c Nothing (reasonIn (verdict false c (fault o f) (firstStamp f) (lastLayer f) (stillOf f) (length (dataOf f))))) (closed-frame o r ∙ p .going)
+    ∙ reason-same (fault o f) (firstStamp f) (lastLayer f) (stillOf f) (length (dataOf f))
     ∙ ap (λ (g : List Seen). Frame (whyOf (fault o g) Cut)) (frame-whole o r (p .going))
     ∙ ap (λ (q : Fault). Frame (whyOf q Cut)) (sym (p .fault₀))
   where
-    reason-same : (q : Fault) (s : Stamp) (b : Bool) (k : ℕ) → reasonIn (verdict false false q s b k) ≡ Frame (whyOf q Cut)
-    reason-same Sound s b k = refl
-    reason-same (Bad w) s b k = refl
+    reason-same : (q : Fault) (s : Stamp) (y : Layer) (b : Bool) (k : ℕ) → reasonIn (verdict false false q s y b k) ≡ Frame (whyOf q Cut)
+    reason-same Sound s y b k = refl
+    reason-same (Bad w) s y b k = refl
 
 -- by another FID: with D1 clear it is complete, and would have been handed out without a fault and with data
-turned-same : (c : Bool) (q : Fault) (s : Stamp) (b : Bool) (k : ℕ) → (not c && readyOf q k) ≡ false → reasonIn (verdict false (not c && true) q s b k) ≡ Frame (whyOf q (pick c Cut Empty))
+turned-same : (c : Bool) (q : Fault) (s : Stamp) (y : Layer) (b : Bool) (k : ℕ) → (not c && readyOf q k) ≡ false → reasonIn (verdict false (not c && true) q s y b k) ≡ Frame (whyOf q (pick c Cut Empty))
 unfolding pick
-turned-same true Sound s b k n = refl
-turned-same true (Bad w) s b k n = refl
-turned-same false (Bad w) s b k n = refl
-turned-same false Sound s b k n = rw (not-false (eqb k 0) n)
+turned-same true Sound s y b k n = refl
+turned-same true (Bad w) s y b k n = refl
+turned-same false (Bad w) s y b k n = refl
+turned-same false Sound s y b k n = rw (not-false (eqb k 0) n)
 
 part-turned : (o : Opening) (x : Run) (u : Seen) (us : List Seen) → Part o (fault o (u ∷ us)) (u .header .still) x (u ∷ us) → (not (byEof o) && readyOf (x .fault) (x .bytes)) ≡ false
     → turnedIn o (u ∷ us) ≡ Frame (whyOf (x .fault) (turnedWhy o))
 part-turned o x u us p n =
     let r : List Seen = u ∷ us in
     let f : List Seen = frameOf o r in
-    ap (λ (c : Bool). cond c Nothing (reasonIn (verdict false (c || (not (byEof o) && true)) (fault o f) (firstStamp f) (stillOf f) (length (dataOf f))))) (closed-frame o r ∙ p .going)
-    ∙ ap (λ (g : List Seen). reasonIn (verdict false (not (byEof o) && true) (fault o g) (firstStamp g) (stillOf g) (length (dataOf g)))) (frame-whole o r (p .going))
-    ∙ ap (λ (q : Fault). reasonIn (verdict false (not (byEof o) && true) q (firstStamp r) (stillOf r) (length (dataOf r)))) (sym (p .fault₀))
-    ∙ ap (λ (k : ℕ). reasonIn (verdict false (not (byEof o) && true) (x .fault) (firstStamp r) (stillOf r) k)) (sym (p .bytes₀))
-    ∙ turned-same (byEof o) (x .fault) (firstStamp r) (stillOf r) (x .bytes) n
+    ap (λ (c : Bool). cond c Nothing (reasonIn (verdict false (c || (not (byEof o) && true)) (fault o f) (firstStamp f) (lastLayer f) (stillOf f) (length (dataOf f))))) (closed-frame o r ∙ p .going)
+    ∙ ap (λ (g : List Seen). reasonIn (verdict false (not (byEof o) && true) (fault o g) (firstStamp g) (lastLayer g) (stillOf g) (length (dataOf g)))) (frame-whole o r (p .going))
+    ∙ ap (λ (q : Fault). reasonIn (verdict false (not (byEof o) && true) q (firstStamp r) (lastLayer r) (stillOf r) (length (dataOf r)))) (sym (p .fault₀))
+    ∙ ap (λ (k : ℕ). reasonIn (verdict false (not (byEof o) && true) (x .fault) (firstStamp r) (lastLayer r) (stillOf r) k)) (sym (p .bytes₀))
+    ∙ turned-same (byEof o) (x .fault) (firstStamp r) (lastLayer r) (stillOf r) (x .bytes) n
 
 pub past-ended : (o : Opening) (open₀ last : Bool) (u : Seen) (us : List Seen) → closed o (u ∷ us) ≡ true → endedIn o open₀ last (u ∷ us) ≡ Nothing
 past-ended o open₀ last u us e = ap (λ (c : Bool). cond c Nothing (reasonIn (frameEntry o open₀ last (u ∷ us)))) (closed-frame o (u ∷ us) ∙ e)
@@ -209,7 +215,7 @@ stray-written (u ∷ us) t q at d B = refl
 
 module _ (o : Opening) (h : Header) (d : List ℕ) (b : Bool) where
   begun-part : Part o (when b Gap) (h .still) (begunOf b (h .fid) (h .still)) []
-  begun-part = record { going = refl; fault₀ = begun-fault b; still₀ = refl; stamp₀ = refl; bytes₀ = refl }
+  begun-part = record { going = refl; fault₀ = begun-fault b; still₀ = refl; stamp₀ = refl; layer₀ = refl; bytes₀ = refl }
 
   begun-turned : (r : List Seen) (ended : Ended) (gone : ℕ) → ended ≡ cond (goesOn h r) Nothing (turnedIn o r) → Turned o h d r (t o h d b ∷ []) (joinTurn o (begunOf b (h .fid) (h .still)) h (length d) ended gone)
   begun-turned r ended gone e =
@@ -288,8 +294,8 @@ out-right o Fresh b r w e = absurd w
 out-right o (Past f) b r w e = absurd w
 out-right o (Under x) b r w e =
     let p = e .1 in
-    sym (ap (λ (f : List Seen). record { still = stillOf f; delivery = record { len = length (dataOf f); stamp = firstStamp f } }) (frame-whole o r (p .going))
-    ∙ rw (p .still₀, p .stamp₀, p .bytes₀))
+    sym (ap (λ (f : List Seen). record { still = stillOf f; delivery = record { len = length (dataOf f); stamp = firstStamp f; layer = lastLayer f } }) (frame-whole o r (p .going))
+    ∙ rw (p .still₀, p .stamp₀, p .layer₀, p .bytes₀))
 
 noted-of : (f : Bool) (r : List Seen) → Of f r → Of f (markLast r)
 noted-of f [] e = e

@@ -24,7 +24,7 @@ use Rattle.session.specs.declared.Outcome.{Outcome}
 use Rattle.session.specs.Session.{fresh, handsOut, takeOf, bufferBy, bufferOf}
 use Rattle.session.specs.Call.{Ask, Call}
 use Rattle.session.specs.Calls.{Offer, refusal, next, after, callOf, unless, taken, offerWith, bufferNext, offers, bufferAfter}
-use Rattle.books.specs.Rule.{Event, idle, unreadable, missing, readable, mark, eventBy, events, isOpen, Seen, frameOf, strayOf, closed, complete, dataOf, firstStamp, stillOf, fault, handedOut, verdict}
+use Rattle.books.specs.Rule.{Event, idle, unreadable, missing, readable, mark, eventBy, events, isOpen, Seen, frameOf, strayOf, closed, complete, dataOf, firstStamp, lastLayer, stillOf, fault, handedOut, verdict}
 use Rattle.books.specs.Answer.{lastRun, fateIn, fateBy, fateOn, with, answerFor, answerOf, hands, outOf, writtenFor}
 use Rattle.books.specs.HandedOut.{HandedWhole}
 use Rattle.books.specs.Demands.{Whole}
@@ -62,6 +62,7 @@ record Delivers (o : Opening) (r : List Seen) (b : Bool) (d : Delivery) : Type 0
   pub bit : stillOf (frameOf o r) ≡ b
   pub size : d .len ≡ length (dataOf (frameOf o r))
   pub stamp : d .stamp ≡ firstStamp (frameOf o r)
+  pub layer : d .layer ≡ lastLayer (frameOf o r)
 
 module _ (o : Opening) where
   -- ---- the rule alone: what a call taken leaves in the buffer
@@ -208,13 +209,13 @@ delivers : (o : Opening) (r : List Seen) (b : Bool) (d : Delivery) → fateOn o 
 delivers o r b d = go (strayOf o r) refl (complete o true (frameOf o r)) refl (fault o (frameOf o r)) refl
   where
     x : Delivery
-    x = record { len = length (dataOf (frameOf o r)); stamp = firstStamp (frameOf o r) }
+    x = record { len = length (dataOf (frameOf o r)); stamp = firstStamp (frameOf o r); layer = lastLayer (frameOf o r) }
 
     k : Bool
     k = stillOf (frameOf o r)
 
     go : (ts : List Seen) → strayOf o r ≡ ts → (c : Bool) → complete o true (frameOf o r) ≡ c → (q : Fault) → fault o (frameOf o r) ≡ q
-        → fateBy ts (verdict true c q (x .stamp) k (x .len)) ≡ handing b d → Delivers o r b d
+        → fateBy ts (verdict true c q (x .stamp) (x .layer) k (x .len)) ≡ handing b d → Delivers o r b d
     go (t ∷ ts) u c v q w e = absurd (not-handed Fate.Stray b d refl e)
     go [] u false v q w e = absurd (not-handed Fate.Kept b d refl e)
     go [] u true v (Bad y) w e = absurd (not-handed (Fate.Dropped y) b d refl e)
@@ -226,7 +227,15 @@ delivers o r b d = go (strayOf o r) refl (complete o true (frameOf o r)) refl (f
             let g : handing k x ≡ handing b d = sym (fate-handed k x) ∙ f in
             let i : k ≡ b = same-bit k b x d g in
             let z : x ≡ d = same-delivery b x d (ap (λ (c : Bool). handing c x) (sym i) ∙ g) in
-            record { alone = u; ended = sym (complete-last o (frameOf o r)) ∙ v; sound = w; bit = i; size = ap (λ (y : Delivery). y .len) (sym z); stamp = ap (λ (y : Delivery). y .stamp) (sym z) }
+            record {
+              alone = u;
+              ended = sym (complete-last o (frameOf o r)) ∙ v;
+              sound = w;
+              bit = i;
+              size = ap (λ (y : Delivery). y .len) (sym z);
+              stamp = ap (λ (y : Delivery). y .stamp) (sym z);
+              layer = ap (λ (y : Delivery). y .layer) (sym z);
+            }
 
 module _ (o : Opening) (B : List ℕ) (ks : List Ask) (room : o .frame ≤ length B) where
   abbrev pub calls : List Offer
@@ -254,6 +263,7 @@ module _ (o : Opening) (B : List ℕ) (ks : List Ask) (room : o .frame ≤ lengt
         payload = rw (w .size) (l .frame (w .alone) (w .sound));
         size = w .size;
         stamp = w .stamp;
+        layer = w .layer;
       }
 
   abbrev at-end : Session

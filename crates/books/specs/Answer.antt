@@ -22,7 +22,7 @@ use Rattle.frames.specs.declared.HandOut.{HandOut}
 use Rattle.ledger.specs.Entry.{Entry}
 use Rattle.session.specs.declared.Outcome.{Outcome}
 use Rattle.session.specs.Call.{Call}
-use Rattle.books.specs.Rule.{events, Seen, readables, runs, frameOf, strayOf, closed, complete, dataOf, firstStamp, stillOf, fault, verdict}
+use Rattle.books.specs.Rule.{events, Seen, readables, runs, frameOf, strayOf, closed, complete, dataOf, firstStamp, lastLayer, stillOf, fault, verdict}
 
 -- THE LAST RUN of a list; none, where no transfer is readable
 abbrev pub lastOf : List (List Seen) → List Seen
@@ -36,7 +36,7 @@ lastRun o cs = lastOf (runs (readables false (events o cs)))
 -- what the rule makes of a run's frame: the session is open or closed, and the run the last or not
 abbrev pub frameEntry : Opening → Bool → Bool → List Seen → Entry
 frameEntry o open₀ last r =
-    verdict (open₀ && last) (complete o last (frameOf o r)) (fault o (frameOf o r)) (firstStamp (frameOf o r)) (stillOf (frameOf o r))
+    verdict (open₀ && last) (complete o last (frameOf o r)) (fault o (frameOf o r)) (firstStamp (frameOf o r)) (lastLayer (frameOf o r)) (stillOf (frameOf o r))
     (length (dataOf (frameOf o r)))
 
 -- "WHAT BECAME OF A FRAME ENDED": its reason, or none
@@ -124,9 +124,13 @@ handsFor (Readable h) o cs = handsIn o h (lastRun o cs)
 abbrev pub hands : Opening → List Call → List ℕ → Bool
 hands o cs t = handsFor (readingOf o t) o cs
 
--- the frame as it is handed out: its still bit, its length and its stamp
+-- the frame as it is handed out: its still bit, its length, its stamp and its layer
 abbrev pub outOf : Opening → List Seen → HandOut
-outOf o r = record { still = stillOf (frameOf o r); delivery = record { len = length (dataOf (frameOf o r)); stamp = firstStamp (frameOf o r) } }
+outOf o r =
+    record {
+      still = stillOf (frameOf o r);
+      delivery = record { len = length (dataOf (frameOf o r)); stamp = firstStamp (frameOf o r); layer = lastLayer (frameOf o r) };
+    }
 
 -- THE OUTCOME of a take that is not refused
 abbrev pub outcomeOf : Opening → List Call → List ℕ → Outcome

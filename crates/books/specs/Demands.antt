@@ -5,6 +5,7 @@ use mathlib.Core.Bool.{Bool, true, false}
 use mathlib.Core.List.{List, [], _∷_, _++_, map}
 use lib.ListN.{length, getD, take}
 use Rattle.sizes.specs.declared.Opening.{Opening}
+use Rattle.payload.specs.declared.Header.{Header}
 use Rattle.frames.specs.declared.Reason.the-variants.{Mixed}
 use Rattle.frames.specs.declared.Fault.the-variants.{Sound}
 use Rattle.frames.specs.declared.Ended.{Ended}
@@ -16,7 +17,7 @@ use Rattle.ledger.specs.declared.Account.{Account}
 use Rattle.ledger.specs.Entry.{Entry}
 use Rattle.ledger.specs.declared.Ledger.{Ledger}
 use Rattle.ledger.specs.Ledger.{countOf, bytesOf}
-use Rattle.books.specs.Rule.{Event, idle, unreadable, missing, readable, mark, frameOf, strayOf, closed, dataOf, firstStamp, stillOf, fault, Item, framesBy, entryOf, entries, lostLine, idleLine, oneIn, partIn, total, stamps, untimed, forward, back, between}
+use Rattle.books.specs.Rule.{Event, idle, unreadable, missing, readable, mark, frameOf, strayOf, closed, dataOf, firstStamp, lastLayer, stillOf, fault, Item, framesBy, entryOf, entries, lostLine, idleLine, oneIn, partIn, total, stamps, untimed, forward, back, between}
 use Rattle.ledger.specs.Accounts.{accounts, placeOf, lostAt, idleAt, ticksAt, backwardAt, untimedAt}
 use Rattle.session.specs.Call.{Call}
 use Rattle.books.specs.Answer.{lastRun}
@@ -77,7 +78,7 @@ pub record Says (o : Opening) (cs : List Call) (c : Call) (a : Answer) : Type 0 
   pub gains : Gains o cs c (endedItems (a .ended) n d ++ fateItems (a .fate) m e)
 
 -- DELIVERED IS WHOLE: after these calls the last run's frame has its EOF, no fault and no stray after it; its still bit is b; the buffer's first bytes are
--- its payload bytes, in order, as many as the delivery says, and the delivery's stamp is the frame's first.
+-- its payload bytes, in order, as many as the delivery says, the delivery's stamp is the frame's first and its layer the frame's last.
 pub record Whole (o : Opening) (cs : List Call) (b : Bool) (d : Delivery) (buffer : List ℕ) : Type 0 where
   pub ended : closed o (frameOf o (lastRun o cs)) ≡ true
   pub sound : fault o (frameOf o (lastRun o cs)) ≡ Sound
@@ -86,15 +87,28 @@ pub record Whole (o : Opening) (cs : List Call) (b : Bool) (d : Delivery) (buffe
   pub payload : take (d .len) buffer ≡ dataOf (frameOf o (lastRun o cs))
   pub size : d .len ≡ length (dataOf (frameOf o (lastRun o cs)))
   pub stamp : d .stamp ≡ firstStamp (frameOf o (lastRun o cs))
+  pub layer : d .layer ≡ lastLayer (frameOf o (lastRun o cs))
 
--- NO STILLS: no readable transfer has D5
+-- every readable transfer's header has it
+abbrev pub EachHeader : (Header → Type 0) → List Event → Type 0
+EachHeader P [] = Unit {0}
+EachHeader P (idle ∷ es) = EachHeader P es
+EachHeader P (unreadable n ∷ es) = EachHeader P es
+EachHeader P (missing ∷ es) = EachHeader P es
+EachHeader P (readable h d ∷ es) = P h × EachHeader P es
+EachHeader P (mark ∷ es) = EachHeader P es
+
+-- every entry has it
+abbrev pub EachEntry : (Entry → Type 0) → List Entry → Type 0
+EachEntry Q [] = Unit {0}
+EachEntry Q (e ∷ es) = Q e × EachEntry Q es
+
+-- NO STILLS: no readable transfer has the still bit
+abbrev pub FilmHeader : Header → Type 0
+FilmHeader h = h .still ≡ false
+
 abbrev pub Film : List Event → Type 0
-Film [] = Unit {0}
-Film (idle ∷ es) = Film es
-Film (unreadable n ∷ es) = Film es
-Film (missing ∷ es) = Film es
-Film (readable h d ∷ es) = (h .still ≡ false) × Film es
-Film (mark ∷ es) = Film es
+Film es = EachHeader FilmHeader es
 
 -- neither a still nor mixed
 abbrev pub NoStill : Entry → Type 0
@@ -108,13 +122,9 @@ NoStill (Entry.Headers n) = Unit {0}
 NoStill Entry.Lost = Unit {0}
 NoStill Entry.Idle = Unit {0}
 
-abbrev pub NoneStill : List Entry → Type 0
-NoneStill [] = Unit {0}
-NoneStill (e ∷ es) = NoStill e × NoneStill es
-
 -- no frame is a still or mixed, and both accounts are zero
 pub record WithoutStills (o : Opening) (cs : List Call) (l : Ledger) : Type 0 where
-  pub frames : NoneStill (map entryOf (framesBy o cs))
+  pub frames : EachEntry NoStill (map entryOf (framesBy o cs))
   pub stills : countOf l (placeOf Account.Still) ≡ 0
   pub still-bytes : bytesOf l (placeOf Account.Still) ≡ 0
   pub mixed : countOf l (placeOf Account.Mixed) ≡ 0

@@ -3,3 +3,4 @@ pub mod Longest
 pub mod Demands
 pub mod Answer
 pub mod HandedOut
+pub mod HeaderKinds

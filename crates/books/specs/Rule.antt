@@ -1,4 +1,4 @@
--- Document 01, "The frame rule, from the list alone", "Steps" and the accounts, with document 02, "Two" (cameras that send no EOF) and "Ten" (stills). List functions only:
+-- Document 01, "The frame rule, from the list alone", "Steps" and the accounts, with document 02, "Two" (cameras that send no EOF), "Ten" (stills) and "Twelve" (layers). List functions only:
 -- no state, and nothing of the session but the reading of one transfer. The framing byte is read in two places: whether EOF counts, and what a run that is not the last makes of its frame.
 use Prim.Native.Nat.{ℕ, _+_, _-_, _%_, _^_}
 use mathlib.Core.Bool.{Bool, true, false, cond, not, _&&_, _||_, Bool·beq}
@@ -10,6 +10,7 @@ use Rattle.sizes.specs.Framing.{byEof}
 use Rattle.payload.specs.declared.Header.{Header}
 use Rattle.payload.specs.declared.Stamp.{Stamp}
 use Rattle.payload.specs.declared.Stamp.the-variants.{Absent, At}
+use Rattle.payload.specs.declared.Layer.{Layer}
 use Rattle.payload.specs.declared.Reading.{Reading}
 use Rattle.payload.specs.declared.Reading.the-variants.{Idle, Unreadable, Readable}
 use Rattle.payload.specs.Transfer.{readingOf}
@@ -137,6 +138,16 @@ abbrev pub firstStamp : List Seen → Stamp
 firstStamp [] = Absent
 firstStamp (t ∷ ts) = t .header .stamp orStamp firstStamp ts
 
+-- its layer: that of its last transfer that has one
+infixr 30 _thenLayer_
+abbrev pub _thenLayer_ : Layer → Layer → Layer
+x thenLayer Layer.Absent = x
+x thenLayer Layer.At y = Layer.At y
+
+abbrev pub lastLayer : List Seen → Layer
+lastLayer [] = Layer.Absent
+lastLayer (t ∷ ts) = t .header .layer thenLayer lastLayer ts
+
 -- its still bit: that of its first transfer
 abbrev pub stillOf : List Seen → Bool
 stillOf [] = false
@@ -194,15 +205,15 @@ abbrev pub handedOut : Bool → Delivery → Entry
 handedOut true d = Entry.Still d
 handedOut false d = Entry.Delivered d
 
-abbrev pub verdict : Bool → Bool → Fault → Stamp → Bool → ℕ → Entry
-verdict way true (Bad w) s b n = Entry.Dropped w n
-verdict way true Sound s b n = cond (eqb n 0) (Entry.Dropped Empty n) (handedOut b (record { len = n; stamp = s }))
-verdict true false q s b n = Entry.UnderWay n
-verdict false false (Bad w) s b n = Entry.Dropped w n
-verdict false false Sound s b n = Entry.Dropped Cut n
+abbrev pub verdict : Bool → Bool → Fault → Stamp → Layer → Bool → ℕ → Entry
+verdict way true (Bad w) s y b n = Entry.Dropped w n
+verdict way true Sound s y b n = cond (eqb n 0) (Entry.Dropped Empty n) (handedOut b (record { len = n; stamp = s; layer = y }))
+verdict true false q s y b n = Entry.UnderWay n
+verdict false false (Bad w) s y b n = Entry.Dropped w n
+verdict false false Sound s y b n = Entry.Dropped Cut n
 
-abbrev pub settled : Bool → Bool → Fault → Stamp → Bool → List ℕ → Item
-settled way c q s b d = record { entry = verdict way c q s b (length d); load = d }
+abbrev pub settled : Bool → Bool → Fault → Stamp → Layer → Bool → List ℕ → Item
+settled way c q s y b d = record { entry = verdict way c q s y b (length d); load = d }
 
 abbrev pub strays : List Seen → List Item
 strays [] = []
@@ -210,7 +221,8 @@ strays (t ∷ ts) = record { entry = Entry.Stray (length (t .load)); load = t .l
 
 abbrev pub judge : Opening → Bool → Bool → List Seen → List Item
 judge o open₀ last r =
-    settled (open₀ && last) (complete o last (frameOf o r)) (fault o (frameOf o r)) (firstStamp (frameOf o r)) (stillOf (frameOf o r)) (dataOf (frameOf o r))
+    settled (open₀ && last) (complete o last (frameOf o r)) (fault o (frameOf o r)) (firstStamp (frameOf o r)) (lastLayer (frameOf o r)) (stillOf (frameOf o r))
+    (dataOf (frameOf o r))
     ∷ strays (strayOf o r)
 
 abbrev pub nothing : List (List Seen) → Bool
