@@ -10,19 +10,21 @@
 //!   A revision is 0 for 1.0, 1 for 1.1 and 2 for 1.5.
 //!   D configuration  part configuration: its reading, with the settings of each streaming interface
 //!   K pick       part configuration, byte interface number, four bytes payload size
-//!   T calls      four bytes frame size, four bytes payload size, byte framing, part buffer, four bytes number of calls, and each call:
-//!                byte 0 and part transfer, byte 1 (lost), byte 2 (close)
+//!   T calls      four bytes frame size, four bytes payload size, byte framing, byte header kind, part buffer, four bytes number of calls, and
+//!                each call: byte 0 and part transfer, byte 1 (lost), byte 2 (close)
 //!   F forged     session record, part buffer, part transfer
 //!   U settings   byte 0 build: part control block, bytes interface, unit, setting and request (places of their names), part room
 //!                byte 1 read: part control block, byte interface, part bytes
 //!                byte 2 nearest: byte setting, two bytes each minimum, maximum, step and wanted
-//! The record: eight bytes frame size, eight bytes payload size, byte framing, byte closed, four bytes taken, the phase, byte gap, 31 numbers of eight
-//! bytes, the last stamp. A stamp: byte present and four bytes. The phase: byte 0 fresh; 1 under way and byte FID, byte fault (0 none,
-//! 1 gap to 6 empty), eight bytes data so far, eight bytes fill, the stamp, byte still; 2 past a frame and byte FID.
+//!   A header kind is 0 for the old one and 1 for VP8.
+//! The record: eight bytes frame size, eight bytes payload size, byte framing, byte header kind, byte closed, four bytes taken, the phase, byte gap,
+//! 31 numbers of eight bytes, the last stamp. A stamp: byte present and four bytes. A layer: byte present and two bytes. The phase: byte 0 fresh;
+//! 1 under way and byte FID, byte fault (0 none, 1 gap to 6 empty), eight bytes data so far, eight bytes fill, the stamp, byte still, the layer;
+//! 2 past a frame and byte FID.
 
 use crate::configuration;
 use crate::control::{self, Revision};
-use crate::frames::Call;
+use crate::frames::{Call, Opening};
 use crate::session::{self, Phase, Record};
 use crate::setup::{self, REQUESTS, SETTINGS};
 use crate::streaming::{self, Place, Table};
@@ -39,7 +41,7 @@ pub enum Case {
     Write(Revision, Vec<u8>, Vec<u8>),
     Configuration(Vec<u8>),
     Pick(Vec<u8>, u8, u32),
-    Calls { frame: u32, payload: u32, framing: u8, buffer: Vec<u8>, calls: Vec<Call> },
+    Calls { opening: Opening, buffer: Vec<u8>, calls: Vec<Call> },
     Forged(Record, Vec<u8>, Vec<u8>),
     Build { control: Vec<u8>, interface: u8, unit: u8, setting: usize, request: usize, room: Vec<u8> },
     ReadBack(Vec<u8>, u8, Vec<u8>),
@@ -59,16 +61,17 @@ fn stamp(out: &mut Vec<u8>, s: Option<u32>) {
 fn record(out: &mut Vec<u8>, r: &Record) {
     out.extend(r.frame.to_le_bytes());
     out.extend(r.payload.to_le_bytes());
-    out.extend([r.framing, u8::from(r.closed)]);
+    out.extend([r.framing, r.kind as u8, u8::from(r.closed)]);
     out.extend(r.taken.to_le_bytes());
     match r.phase {
         Phase::Fresh => out.push(0),
-        Phase::Under { fid, fault, bytes, fill, stamp: s, still } => {
+        Phase::Under { fid, fault, bytes, fill, stamp: s, still, layer } => {
             out.extend([1, u8::from(fid), fault]);
             out.extend(bytes.to_le_bytes());
             out.extend(fill.to_le_bytes());
             stamp(out, s);
-            out.push(u8::from(still));
+            out.extend([u8::from(still), u8::from(layer.is_some())]);
+            out.extend(layer.unwrap_or(0).to_le_bytes());
         }
         Phase::Past(fid) => out.extend([2, u8::from(fid)]),
     }
@@ -142,10 +145,10 @@ impl Case {
                 out.push(*interface);
                 out.extend(payload.to_le_bytes());
             }
-            Case::Calls { frame, payload, framing, buffer, calls } => {
-                out.extend(frame.to_le_bytes());
-                out.extend(payload.to_le_bytes());
-                out.push(*framing);
+            Case::Calls { opening, buffer, calls } => {
+                out.extend((opening.frame as u32).to_le_bytes());
+                out.extend((opening.payload as u32).to_le_bytes());
+                out.extend([opening.framing, opening.kind as u8]);
                 part(&mut out, buffer);
                 out.extend((calls.len() as u32).to_le_bytes());
                 for call in calls {
@@ -204,7 +207,7 @@ impl Case {
                 Ok(x) => format!("pick {} {}\n", x.number, x.bytes),
                 Err(r) => format!("pick refused {} at {}\n", r.number, r.offset),
             },
-            Case::Calls { frame, payload, framing, buffer, calls } => session::calls(*frame, *payload, *framing, buffer, calls),
+            Case::Calls { opening, buffer, calls } => session::calls(opening, buffer, calls),
             Case::Forged(r, buffer, transfer) => session::forged(r, buffer, transfer),
             Case::Build { control, interface, unit, setting, request, room } => {
                 let mut room = room.clone();

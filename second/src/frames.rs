@@ -9,12 +9,24 @@ pub enum Call {
     Mark,
 }
 
+/// The header that a camera sends: that of document 01, or that of source document 004.
+#[derive(Clone, Copy, Debug, PartialEq, Eq)]
+pub enum HeaderKind {
+    Old,
+    Vp8,
+}
+
+impl HeaderKind {
+    pub const ALL: [HeaderKind; 2] = [HeaderKind::Old, HeaderKind::Vp8];
+}
+
 /// What a session is opened with.
 #[derive(Clone, Copy, Debug)]
 pub struct Opening {
     pub frame: usize,
     pub payload: usize,
     pub framing: u8,
+    pub kind: HeaderKind,
 }
 
 impl Opening {
@@ -39,33 +51,44 @@ pub enum Reason {
 pub enum Sort {
     Idle,
     Unreadable(u8),
-    Readable { fid: bool, eof: bool, still: bool, error: bool, stamp: Option<u32>, header: usize },
+    Readable { fid: bool, eof: bool, still: bool, error: bool, stamp: Option<u32>, layer: Option<u16>, header: usize },
 }
 
-pub fn sort(t: &[u8], payload: usize) -> Sort {
+pub fn sort(t: &[u8], opening: &Opening) -> Sort {
+    let vp8 = opening.kind == HeaderKind::Vp8;
+    // The header's length and its flags: one byte of flags, or three.
+    let least = if vp8 { 4 } else { 2 };
     match t.len() {
         0 => return Sort::Idle,
-        1 => return Sort::Unreadable(61),
-        n if n > payload => return Sort::Unreadable(62),
+        n if n < least => return Sort::Unreadable(61),
+        n if n > opening.payload => return Sort::Unreadable(62),
         _ => {}
     }
-    let bit = |n: u32| t[1] >> n & 1 == 1;
     let header = t[0] as usize;
-    if header < 2 {
+    if header < least {
         return Sort::Unreadable(63);
     }
     if header > t.len() {
         return Sort::Unreadable(64);
     }
-    let need = 2 + if bit(2) { 4 } else { 0 } + if bit(3) { 6 } else { 0 };
-    if header < need {
+    let flags = t[1..least].iter().rev().fold(0u32, |n, &b| n << 8 | u32::from(b));
+    let bit = |n: u32| flags >> n & 1 == 1;
+    let (has_stamp, has_clock, has_layer) = (bit(2), bit(3), vp8 && bit(7));
+    // The stamp, the source clock and the layer follow each other, each where its bit is set.
+    let layer_at = least + if has_stamp { 4 } else { 0 } + if has_clock { 6 } else { 0 };
+    if header < layer_at + if has_layer { 2 } else { 0 } {
         return Sort::Unreadable(65);
     }
-    if !bit(7) {
+    if !bit(if vp8 { 23 } else { 7 }) {
         return Sort::Unreadable(66);
     }
-    let stamp = if bit(2) { Some(u32::from_le_bytes([t[2], t[3], t[4], t[5]])) } else { None };
-    Sort::Readable { fid: bit(0), eof: bit(1), still: bit(5), error: bit(6), stamp, header }
+    if vp8 && !has_stamp {
+        return Sort::Unreadable(67);
+    }
+    let stamp = if has_stamp { Some(u32::from_le_bytes([t[least], t[least + 1], t[least + 2], t[least + 3]])) } else { None };
+    let layer = if has_layer { Some(u16::from_le_bytes([t[layer_at], t[layer_at + 1]])) } else { None };
+    // D5 of a VP8 header marks an intra frame.
+    Sort::Readable { fid: bit(0), eof: bit(1), still: !vp8 && bit(5), error: bit(6), stamp, layer, header }
 }
 
 /// A readable transfer, by its place in the list.
@@ -76,6 +99,7 @@ struct Piece {
     still: bool,
     error: bool,
     stamp: Option<u32>,
+    layer: Option<u16>,
     data: usize,
     /// An unreadable or lost transfer comes straight before, or straight after, with no readable one between (nor, after it, a mark).
     before: bool,
@@ -84,10 +108,17 @@ struct Piece {
     marked: bool,
 }
 
+/// What is reported with a frame that is delivered, or a still, beside its length: the first stamp, and the layer of its last transfer that has one.
+#[derive(Clone, Copy, Debug, PartialEq)]
+pub struct Delivery {
+    pub stamp: Option<u32>,
+    pub layer: Option<u16>,
+}
+
 #[derive(Clone, Copy, Debug, PartialEq)]
 pub enum Becomes {
-    Delivered(Option<u32>),
-    Still(Option<u32>),
+    Delivered(Delivery),
+    Still(Delivery),
     Dropped(Reason),
     UnderWay,
 }
@@ -132,7 +163,7 @@ pub fn judge(calls: &[Call], opening: &Opening) -> Verdict {
                 pieces.last_mut().unwrap().marked = true;
                 false
             }
-            Call::Transfer(t) => match sort(t, opening.payload) {
+            Call::Transfer(t) => match sort(t, opening) {
                 Sort::Idle => {
                     v.idle += 1;
                     false
@@ -141,7 +172,7 @@ pub fn judge(calls: &[Call], opening: &Opening) -> Verdict {
                     v.unreadable.push(t.len());
                     true
                 }
-                Sort::Readable { fid, eof, still, error, stamp, header } => {
+                Sort::Readable { fid, eof, still, error, stamp, layer, header } => {
                     v.headers.push(header);
                     let data = t.len() - header;
                     pieces.push(Piece {
@@ -151,6 +182,7 @@ pub fn judge(calls: &[Call], opening: &Opening) -> Verdict {
                         still,
                         error,
                         stamp,
+                        layer,
                         data,
                         before: spoilt,
                         after: false,
@@ -216,11 +248,12 @@ fn one(frame: &[Piece], frame_size: usize, complete: bool, over: bool) -> Judged
         }
     }
     let fault = faults.first().copied();
+    let delivery = Delivery { stamp: first_stamp, layer: frame.iter().rev().find_map(|p| p.layer) };
     let becomes = match (complete, fault) {
         (true, Some((_, r))) => Becomes::Dropped(r),
         (true, None) if size == 0 => Becomes::Dropped(Reason::Empty),
-        (true, None) if frame[0].still => Becomes::Still(first_stamp),
-        (true, None) => Becomes::Delivered(first_stamp),
+        (true, None) if frame[0].still => Becomes::Still(delivery),
+        (true, None) => Becomes::Delivered(delivery),
         (false, _) if !over => Becomes::UnderWay,
         (false, Some((_, r))) => Becomes::Dropped(r),
         (false, None) => Becomes::Dropped(Reason::Cut),
@@ -239,9 +272,9 @@ pub fn ledger(v: &Verdict) -> Vec<u64> {
     let mut untimed = 0;
     for f in &v.frames {
         match f.becomes {
-            Becomes::Delivered(stamp) => {
+            Becomes::Delivered(d) => {
                 add(0, f.bytes);
-                match stamp {
+                match d.stamp {
                     Some(s) => stamps.push(s),
                     None => untimed += 1,
                 }
@@ -305,7 +338,7 @@ pub fn answer(calls: &[Call], old: &Verdict, new: &Verdict, opening: &Opening) -
     };
     let fate = match &calls[place] {
         Call::Close | Call::Lost | Call::Mark => String::new(),
-        Call::Transfer(t) => match sort(t, opening.payload) {
+        Call::Transfer(t) => match sort(t, opening) {
             Sort::Idle => "idle".into(),
             Sort::Unreadable(k) => format!("unreadable {k}"),
             Sort::Readable { .. } => {
@@ -325,11 +358,11 @@ pub fn answer(calls: &[Call], old: &Verdict, new: &Verdict, opening: &Opening) -
     (ended, fate)
 }
 
-/// A frame that is delivered, or a still, with its length and stamp.
+/// A frame that is delivered, or a still, with its length, stamp and layer.
 pub fn handed_out(becomes: Becomes, bytes: usize) -> Option<String> {
     match becomes {
-        Becomes::Delivered(s) => Some(format!("delivered {bytes} {}", stamp_or_dash(s))),
-        Becomes::Still(s) => Some(format!("still {bytes} {}", stamp_or_dash(s))),
+        Becomes::Delivered(d) => Some(format!("delivered {bytes} {} {}", or_dash(d.stamp), or_dash(d.layer))),
+        Becomes::Still(d) => Some(format!("still {bytes} {} {}", or_dash(d.stamp), or_dash(d.layer))),
         _ => None,
     }
 }
@@ -337,7 +370,7 @@ pub fn handed_out(becomes: Becomes, bytes: usize) -> Option<String> {
 /// What is handed out before a transfer is taken, if anything is: the camera sends no EOF, the transfer is readable, of another FID than the last
 /// readable one taken, and the frame under way would be delivered, or be a still, if a mark stood here.
 pub fn hand_out(calls: &[Call], old: &Verdict, transfer: &[u8], opening: &Opening) -> Option<String> {
-    let fid_of = |t: &[u8]| match sort(t, opening.payload) {
+    let fid_of = |t: &[u8]| match sort(t, opening) {
         Sort::Readable { fid, .. } => Some(fid),
         _ => None,
     };
@@ -354,8 +387,8 @@ pub fn hand_out(calls: &[Call], old: &Verdict, transfer: &[u8], opening: &Openin
     handed_out(frame.becomes, frame.bytes)
 }
 
-fn stamp_or_dash(stamp: Option<u32>) -> String {
-    stamp.map_or("-".into(), |s| s.to_string())
+fn or_dash<T: ToString>(number: Option<T>) -> String {
+    number.map_or("-".into(), |n| n.to_string())
 }
 
 fn data(call: &Call) -> &[u8] {

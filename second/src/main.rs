@@ -1,4 +1,4 @@
-//! A second reader, from document 01's text alone, and what compares the answers program with it.
+//! A second reader, from the documents' text alone, and what compares the answers program with it.
 //!
 //!   second corpus STDIN STDOUT       writes the stored cases, and what is to be printed of them
 //!   second compare N SEED COMMAND..  makes N cases from the seed, runs the command on them and compares what it prints

@@ -3,7 +3,7 @@
 use crate::cases::{asked, controls, table};
 use crate::configuration;
 use crate::control;
-use crate::frames::{judge, ledger, Call, Opening};
+use crate::frames::{judge, ledger, Call, HeaderKind, Opening};
 use crate::setup::{self, REQUESTS, SETTINGS};
 use crate::streaming;
 use crate::Refusal;
@@ -199,8 +199,8 @@ const ACCOUNTS: [&str; 13] =
 const COUNTS: [&str; 5] = ["lost", "idle", "ticks", "backward", "untimed"];
 
 pub const RECORD: usize = 64;
-const PAYLOAD: usize = 62;
-const OPENING: Opening = Opening { frame: 256, payload: PAYLOAD, framing: 3 };
+pub const PAYLOAD: usize = 62;
+pub const OPENING: Opening = Opening { frame: 256, payload: PAYLOAD, framing: 3, kind: HeaderKind::Old };
 
 /// The calls of a trace, or the number of its first bad record.
 fn calls(trace: &[u8]) -> Result<Vec<Call>, usize> {

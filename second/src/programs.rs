@@ -1,7 +1,7 @@
 //! Runs the launcher on fresh files, and compares what each program prints, and its status, with what the second reader says.
 
 use crate::blocks::{CONTROL_TOTAL, STREAMING_TOTAL};
-use crate::cases::{table, Case};
+use crate::cases::table;
 use crate::configurations;
 use crate::frames::Call;
 use crate::printed::{self, Printed, Words, RECORD};
@@ -61,8 +61,8 @@ fn trace(r: &mut Random) -> Vec<u8> {
         1 => 3000,
         _ => 60,
     };
-    let Case::Calls { calls, .. } = random::calls(r, most) else { unreachable!() };
-    let fits = |c: &&Call| !matches!(c, Call::Transfer(t) if t.len() > 62);
+    let calls = random::list(r, &printed::OPENING, most);
+    let fits = |c: &&Call| !matches!(c, Call::Transfer(t) if t.len() > printed::PAYLOAD);
     let mut bytes: Vec<u8> = calls.iter().filter(fits).flat_map(record).collect();
     if r.once_in(2) {
         spoil(r, &mut bytes);

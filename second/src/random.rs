@@ -4,7 +4,7 @@ use crate::blocks::{self, CONTROL_TOTAL, STREAMING_TOTAL};
 use crate::cases::{table, Case};
 use crate::configurations;
 use crate::control::Revision;
-use crate::frames::Call;
+use crate::frames::{Call, HeaderKind, Opening};
 use crate::session::{Phase, Record};
 use crate::setup::{self, REQUESTS, SETTINGS};
 use crate::streaming::Place;
@@ -419,24 +419,66 @@ fn write(r: &mut Random) -> Case {
     Case::Write(revision, r.bytes(n), r.bytes(m))
 }
 
-/// A list of calls on one session: frames of a few transfers, with every fault now and then.
-pub fn calls(r: &mut Random, most: usize) -> Case {
+/// A readable transfer of this kind with the flags D0 to D6 and a few further header bytes. Of VP8 it has a stamp, a layer or none, and any flags that
+/// are ignored.
+fn readable(r: &mut Random, kind: HeaderKind, flags: u8, stamp: u32, data: &[u8]) -> Vec<u8> {
+    let more = if r.once_in(6) { r.below(5) } else { 0 };
+    match kind {
+        HeaderKind::Old => blocks::transfer(blocks::END | flags, stamp, more, data),
+        HeaderKind::Vp8 => {
+            let layered = if r.once_in(3) { blocks::LAYER } else { 0 };
+            let layer = r.pick(&[0, 1, 0x80, 0x1234, 0xFF00, 0xFFFF]);
+            let flags = [blocks::PTS | layered | flags, r.byte(), blocks::END | r.byte()];
+            blocks::vp8(flags, stamp, layer, more, data)
+        }
+    }
+}
+
+/// A transfer of this kind that is nearly readable, or is.
+fn nearly(r: &mut Random, kind: HeaderKind, stamp: u32) -> Vec<u8> {
+    let flags = r.byte() & 0x7F;
+    let mut t = readable(r, kind, flags, stamp, &[1, 2]);
+    match (r.below(4), kind) {
+        (0, _) => t[0] = r.below(5) as u8,
+        (1, _) => t[0] = t.len() as u8 + 1,
+        (2, HeaderKind::Old) => t[1] |= r.pick(&[4, 8, 12]),
+        (_, HeaderKind::Old) => t[1] &= 0x7F,
+        (2, HeaderKind::Vp8) => t[1] |= r.pick(&[8, 0x80, 0x88]),
+        (_, HeaderKind::Vp8) => {
+            // D23, the stamp's bit, or both are clear.
+            let clear = r.pick(&[1, 2, 2, 3]);
+            t[3] &= if clear & 1 == 1 { 0x7F } else { 0xFF };
+            t[1] &= if clear & 2 == 2 { !blocks::PTS } else { 0xFF };
+        }
+    }
+    t
+}
+
+/// A list of calls on one session of either kind.
+fn calls(r: &mut Random, most: usize) -> Case {
+    let kind = r.pick(&HeaderKind::ALL);
     let frame = match r.below(30) {
-        0 => r.pick(&[0, 16_777_216, 16_777_217, u32::MAX]),
+        0 => r.pick(&[0, 16_777_216, 16_777_217, u32::MAX as usize]),
         1 => 1,
-        _ => 1 + r.below(40) as u32,
+        _ => 1 + r.below(40),
     };
     let payload = match r.below(30) {
         0 => r.pick(&[0, 1, 2, 65_536, 65_537]),
-        1 => 2 + r.below(12) as u32,
-        _ => 20 + r.below(60) as u32,
+        1 => 2 + r.below(12),
+        _ => 20 + r.below(60),
     };
+    let opening = Opening { frame, payload, framing: framing(r), kind };
     let room = match r.below(30) {
-        0 => (frame as usize).saturating_sub(1).min(300),
-        _ => (frame as usize).min(300) + r.below(8),
+        0 => frame.saturating_sub(1).min(300),
+        _ => frame.min(300) + r.below(8),
     };
-    let buffer = r.bytes(room);
-    let framing = framing(r);
+    Case::Calls { opening, buffer: r.bytes(room), calls: list(r, &opening, most) }
+}
+
+/// Up to `most` calls and some more: frames of a few transfers, with every fault now and then.
+pub fn list(r: &mut Random, opening: &Opening, most: usize) -> Vec<Call> {
+    let kind = opening.kind;
+    let frame = opening.frame.min(60);
     let n = r.below(most + 1);
     let eofs = 1 + r.below(6);
     let turns = 1 + r.below(8);
@@ -448,26 +490,26 @@ pub fn calls(r: &mut Random, most: usize) -> Case {
     let mut list = Vec::with_capacity(n);
     for i in 0..n {
         if r.once_in(faulty * 2) {
-            list.push(match r.below(8) {
+            list.push(match r.below(10) {
                 0 | 1 => Call::Transfer(vec![]),
                 2 | 3 => Call::Lost,
-                4 => Call::Transfer(vec![r.byte()]),
+                4 => {
+                    let k = 1 + r.below(3);
+                    Call::Transfer(r.bytes(k))
+                }
                 5 => {
                     let k = 2 + r.below(20);
                     Call::Transfer(r.bytes(k))
                 }
-                6 => {
-                    let mut t = blocks::transfer(blocks::END | (r.byte() & 0x7F), stamp, 0, &[1, 2]);
-                    match r.below(4) {
-                        0 => t[0] = r.below(3) as u8,
-                        1 => t[0] = t.len() as u8 + 1,
-                        2 => t[1] |= r.pick(&[4, 8, 12]),
-                        _ => t[1] &= 0x7F,
-                    }
+                6..=8 => Call::Transfer(nearly(r, kind, stamp)),
+                _ if i + 3 > n || r.once_in(40) => Call::Close,
+                _ => {
+                    // Around the payload size.
+                    let k = opening.payload.min(300) + r.below(3);
+                    let mut t = readable(r, kind, 0, stamp, &[]);
+                    t.resize(k.max(t.len()), 0xEE);
                     Call::Transfer(t)
                 }
-                _ if i + 3 > n || r.once_in(40) => Call::Close,
-                _ => Call::Transfer(blocks::transfer(0x80, 0, payload.min(300) as usize + r.below(3), &[])),
             });
             continue;
         }
@@ -481,7 +523,7 @@ pub fn calls(r: &mut Random, most: usize) -> Case {
                 _ => stamp.wrapping_add(r.below(40) as u32),
             };
         }
-        let mut flags = blocks::END | fid | still | (r.byte() & 0x10);
+        let mut flags = fid | still | (r.byte() & 0x10);
         if r.once_in(faulty * 2) {
             flags ^= blocks::STILL;
         }
@@ -498,16 +540,15 @@ pub fn calls(r: &mut Random, most: usize) -> Case {
             flags |= blocks::ERROR;
         }
         let s = if r.once_in(faulty * 2) { stamp ^ 1 } else { stamp };
-        let more = if r.once_in(6) { r.below(5) } else { 0 };
         let size = match r.below(5) {
             0 => 0,
-            1 => r.below(frame.min(60) as usize + 3),
-            _ => r.below(frame.min(60) as usize / 3 + 2),
+            1 => r.below(frame + 3),
+            _ => r.below(frame / 3 + 2),
         };
         let data = r.bytes(size);
-        let offered = Call::Transfer(blocks::transfer(flags, s, more, &data));
+        let offered = Call::Transfer(readable(r, kind, flags, s, &data));
         // A hand-out does not take the transfer: it is offered again, mostly at once.
-        if framing & 2 == 0 && r.once_in(2) {
+        if !opening.sends_eof() && r.once_in(2) {
             list.push(offered.clone());
             if r.once_in(6) {
                 list.push(r.pick(&[Call::Lost, Call::Transfer(vec![]), Call::Transfer(vec![2])]));
@@ -525,7 +566,7 @@ pub fn calls(r: &mut Random, most: usize) -> Case {
         let at = r.below(list.len().min(4) + 1);
         list.insert(at, Call::Transfer(vec![2; 65_536 + r.below(2)]));
     }
-    Case::Calls { frame, payload, framing, buffer, calls: list }
+    list
 }
 
 /// A framing byte: that of the trace programs, or one with D1 clear, or any.
@@ -555,6 +596,7 @@ pub fn record(r: &mut Random) -> Record {
             fill,
             stamp,
             still: r.once_in(2),
+            layer: r.pick(&[None, Some(0), Some(0x1234), Some(0xFFFF)]),
         },
     };
     let mut numbers = [0; 31];
@@ -572,6 +614,7 @@ pub fn record(r: &mut Random) -> Record {
         frame,
         payload: 2 + r.below(60) as u64,
         framing: framing(r),
+        kind: r.pick(&HeaderKind::ALL),
         closed: r.once_in(8),
         taken,
         phase,
@@ -621,12 +664,14 @@ fn forged(r: &mut Random) -> Case {
             r.bytes(k)
         }
         1 if r.once_in(10) => vec![2; 65_536 + r.below(2)],
+        2 => nearly(r, it.kind, 7),
         _ => {
-            let flags = 0x80 | r.byte();
+            let error = if r.once_in(2) { 0 } else { blocks::ERROR };
+            let flags = r.byte() & (0x3F | error);
             let k = r.below(20);
             let data = r.bytes(k);
             let stamp = r.pick(&[7, 8]);
-            blocks::transfer(if r.once_in(2) { flags & !blocks::ERROR } else { flags }, stamp, 0, &data)
+            readable(r, it.kind, flags, stamp, &data)
         }
     };
     Case::Forged(it, buffer, transfer)

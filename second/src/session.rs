@@ -1,6 +1,7 @@
 //! Opening, the calls on a session, and the refusals that are no part of its history.
 
-use crate::frames::{answer, hand_out, handed_out, judge, ledger, reason_name, sort, written, Becomes, Call, Opening, Reason, Sort};
+use crate::frames::{answer, hand_out, handed_out, judge, ledger, reason_name, sort, written};
+use crate::frames::{Becomes, Call, Delivery, HeaderKind, Opening, Reason, Sort};
 use crate::streaming::sizes;
 use std::fmt::Write;
 
@@ -8,7 +9,7 @@ use std::fmt::Write;
 #[derive(Clone, Debug)]
 pub enum Phase {
     Fresh,
-    Under { fid: bool, fault: u8, bytes: u64, fill: u64, stamp: Option<u32>, still: bool },
+    Under { fid: bool, fault: u8, bytes: u64, fill: u64, stamp: Option<u32>, still: bool, layer: Option<u16> },
     Past(bool),
 }
 
@@ -17,12 +18,19 @@ pub struct Record {
     pub frame: u64,
     pub payload: u64,
     pub framing: u8,
+    pub kind: HeaderKind,
     pub closed: bool,
     pub taken: u32,
     pub phase: Phase,
     pub gap: bool,
     pub numbers: [u64; 31],
     pub last: Option<u32>,
+}
+
+impl Record {
+    fn opening(&self) -> Opening {
+        Opening { frame: self.frame as usize, payload: self.payload as usize, framing: self.framing, kind: self.kind }
+    }
 }
 
 pub fn hash(bytes: &[u8]) -> u32 {
@@ -38,21 +46,20 @@ fn why(reason: Option<Reason>) -> &'static str {
 }
 
 /// All that is printed of a list of calls.
-pub fn calls(frame: u32, payload: u32, framing: u8, initial: &[u8], list: &[Call]) -> String {
+pub fn calls(given: &Opening, initial: &[u8], list: &[Call]) -> String {
     let mut out = String::new();
     let mut buffer = initial.to_vec();
-    let opening = match sizes(u64::from(frame), u64::from(payload)) {
+    let opening = match sizes(given.frame as u64, given.payload as u64) {
         Err(r) => Some(r.number),
-        Ok(()) if buffer.len() < frame as usize => Some(47),
+        Ok(()) if buffer.len() < given.frame => Some(47),
         Ok(()) => None,
     };
     match opening {
         Some(k) => writeln!(out, "open refused {k}").unwrap(),
         None => writeln!(out, "open").unwrap(),
     }
-    let given = Opening { frame: frame as usize, payload: payload as usize, framing };
     let mut taken: Vec<Call> = Vec::new();
-    let mut old = judge(&taken, &given);
+    let mut old = judge(&taken, given);
     for call in list {
         // What a refused opening leaves behind has no sizes; 51 and 52 cannot be met here.
         let refused = if opening.is_some() {
@@ -66,7 +73,7 @@ pub fn calls(frame: u32, payload: u32, framing: u8, initial: &[u8], list: &[Call
             }
         };
         let handed = match call {
-            Call::Transfer(t) => hand_out(&taken, &old, t, &given),
+            Call::Transfer(t) => hand_out(&taken, &old, t, given),
             _ => None,
         };
         if let Some(k) = refused {
@@ -74,12 +81,12 @@ pub fn calls(frame: u32, payload: u32, framing: u8, initial: &[u8], list: &[Call
         } else if let Some(frame) = handed {
             // The mark stands in the list, and the transfer does not.
             taken.push(Call::Mark);
-            old = judge(&taken, &given);
+            old = judge(&taken, given);
             write!(out, "handed {frame}").unwrap();
         } else {
             taken.push(call.clone());
-            let new = judge(&taken, &given);
-            let (ended, fate) = answer(&taken, &old, &new, &given);
+            let new = judge(&taken, given);
+            let (ended, fate) = answer(&taken, &old, &new, given);
             if let Some((at, data)) = written(&taken, &new) {
                 buffer[at..at + data.len()].copy_from_slice(data);
             }
@@ -149,7 +156,7 @@ fn refusal(r: &Record, lost_or_take: bool, take: Option<(usize, usize)>) -> Opti
 
 /// Where a transfer writes on a record that refuses nothing. The record's gap is for a frame that begins; its fault is the frame's.
 fn place(r: &Record, transfer: &[u8]) -> Option<(usize, usize)> {
-    if let Sort::Readable { fid, still, error, stamp, header, .. } = sort(transfer, r.payload as usize) {
+    if let Sort::Readable { fid, still, error, stamp, header, .. } = sort(transfer, &r.opening()) {
         let n = transfer.len() - header;
         let begins = Some((r.gap, 0, 0, None, still));
         let run = match r.phase {
@@ -161,7 +168,7 @@ fn place(r: &Record, transfer: &[u8]) -> Option<(usize, usize)> {
                     begins
                 }
             }
-            Phase::Under { fid: f, fault, bytes, fill, stamp, still } => {
+            Phase::Under { fid: f, fault, bytes, fill, stamp, still, .. } => {
                 if f == fid {
                     Some((fault != 0, bytes, fill, stamp, still))
                 } else {
@@ -181,11 +188,12 @@ fn place(r: &Record, transfer: &[u8]) -> Option<(usize, usize)> {
 
 /// The frame that a record hands out before it takes the transfer.
 fn given_up(r: &Record, transfer: &[u8]) -> Option<String> {
-    match (&r.phase, sort(transfer, r.payload as usize)) {
-        (&Phase::Under { fid: f, fault: 0, bytes, stamp, still, .. }, Sort::Readable { fid, .. })
-            if r.framing & 2 == 0 && f != fid && bytes > 0 =>
+    match (&r.phase, sort(transfer, &r.opening())) {
+        (&Phase::Under { fid: f, fault: 0, bytes, stamp, still, layer, .. }, Sort::Readable { fid, .. })
+            if !r.opening().sends_eof() && f != fid && bytes > 0 =>
         {
-            handed_out(if still { Becomes::Still(stamp) } else { Becomes::Delivered(stamp) }, bytes as usize)
+            let delivery = Delivery { stamp, layer };
+            handed_out(if still { Becomes::Still(delivery) } else { Becomes::Delivered(delivery) }, bytes as usize)
         }
         _ => None,
     }

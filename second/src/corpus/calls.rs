@@ -1,8 +1,8 @@
-//! Sessions: 45 to 47, 53, 55, 61 to 66, every fate and every fault.
+//! Sessions of cameras with the old header: 45 to 47, 53, 55, 61 to 66, every fate and every fault.
 
 use crate::blocks::*;
 use crate::cases::Case;
-use crate::frames::Call;
+use crate::frames::{Call, HeaderKind, Opening};
 
 pub fn all() -> Vec<Case> {
     let mut all = transfers();
@@ -20,7 +20,11 @@ fn session(frame: u32, payload: u32, room: usize, calls: Vec<Call>) -> Case {
 }
 
 fn framed(frame: u32, payload: u32, framing: u8, room: usize, calls: Vec<Call>) -> Case {
-    Case::Calls { frame, payload, framing, buffer: vec![0xAA; room], calls }
+    of_kind(HeaderKind::Old, frame as usize, payload as usize, framing, room, calls)
+}
+
+pub fn of_kind(kind: HeaderKind, frame: usize, payload: usize, framing: u8, room: usize, calls: Vec<Call>) -> Case {
+    Case::Calls { opening: Opening { frame, payload, framing, kind }, buffer: vec![0xAA; room], calls }
 }
 
 fn send(flags: u8, data: &[u8]) -> Call {

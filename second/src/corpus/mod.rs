@@ -7,6 +7,7 @@ mod documents;
 mod records;
 mod settings;
 mod streams;
+mod vp8;
 
 use crate::blocks::descriptor;
 use crate::cases::Case;
@@ -53,14 +54,21 @@ fn covered(answers: &[String]) -> Result<(), String> {
                 seen.insert(pair.join(" "));
             }
         }
+        // Length, stamp and layer follow.
+        if let Some(i) = words.iter().position(|w| ["delivered", "still"].contains(w)) {
+            let layer = if words[i + 3] == "-" { "no layer" } else { "a layer" };
+            seen.insert(format!("{} {} with {layer}", words[i - 1], words[i]));
+        }
     }
     let numbers = (1..=16).chain(20..=47).chain(50..=53).chain([55]).chain(70..=75).chain(90..=95);
     let mut wanted: Vec<String> = numbers.map(|n| format!("refused {n}")).collect();
-    wanted.extend((61..=66).map(|n| format!("unreadable {n}")));
+    wanted.extend((61..=67).map(|n| format!("unreadable {n}")));
     wanted.extend(["idle", "kept", "stray", "delivered", "still", "dropped", "unreadable"].map(|f| format!("fate {f}")));
     wanted.extend(["gap", "error", "clock", "mixed", "long", "empty"].map(|f| format!("dropped {f}")));
     wanted.extend(["none", "gap", "error", "clock", "mixed", "long", "cut", "empty"].map(|f| format!("ended {f}")));
     wanted.extend(["delivered", "still"].map(|f| format!("handed {f}")));
+    wanted.extend(["fate delivered", "handed delivered", "handed still"].map(|f| format!("{f} with a layer")));
+    wanted.extend(["fate delivered", "fate still", "handed delivered", "handed still"].map(|f| format!("{f} with no layer")));
     wanted.extend(["none", "gap", "error", "clock", "mixed", "long", "cut"].map(|f| format!("closed {f}")));
     wanted
         .extend(["control", "streaming", "check", "probe", "write", "configuration", "build", "nearest"].map(|f| format!("{f} accepted")));
@@ -80,6 +88,7 @@ fn chosen() -> Vec<Case> {
     all.extend(configurations::all());
     all.extend(documents::all());
     all.extend(calls::all());
+    all.extend(vp8::all());
     all.extend(records::all());
     all.extend(settings::all());
     all

@@ -2,10 +2,22 @@
 
 use crate::blocks::*;
 use crate::cases::Case;
+use crate::frames::HeaderKind;
 use crate::session::{Phase, Record};
 
-fn plain_record() -> Record {
-    Record { frame: 8, payload: 32, framing: 3, closed: false, taken: 10, phase: Phase::Fresh, gap: false, numbers: [0; 31], last: None }
+pub fn plain_record() -> Record {
+    Record {
+        frame: 8,
+        payload: 32,
+        framing: 3,
+        kind: HeaderKind::Old,
+        closed: false,
+        taken: 10,
+        phase: Phase::Fresh,
+        gap: false,
+        numbers: [0; 31],
+        last: None,
+    }
 }
 
 /// 50, and 53, 52, 51, 55 in their order.
@@ -55,7 +67,7 @@ pub fn all() -> Vec<Case> {
         ] {
             for fid in [false, true] {
                 for gap in [false, true] {
-                    let phase = Phase::Under { fid, fault, bytes, fill, stamp: None, still: false };
+                    let phase = Phase::Under { fid, fault, bytes, fill, stamp: None, still: false, layer: None };
                     add(&Record { phase, gap, ..plain_record() }, 9, &good);
                 }
             }
@@ -63,7 +75,7 @@ pub fn all() -> Vec<Case> {
     }
     for stamp in [None, Some(7), Some(8)] {
         for flags in [0, FID, ERROR, EOF, FID | ERROR] {
-            let phase = Phase::Under { fid: false, fault: 0, bytes: 2, fill: 2, stamp, still: false };
+            let phase = Phase::Under { fid: false, fault: 0, bytes: 2, fill: 2, stamp, still: false, layer: None };
             add(&Record { phase, ..plain_record() }, 9, &transfer(END | PTS | flags, 7, 0, &[1, 2]));
         }
     }
@@ -71,13 +83,17 @@ pub fn all() -> Vec<Case> {
     for still in [false, true] {
         for flags in [0, STILL, FID, FID | STILL, STILL | EOF, EOF] {
             for fault in [0, 3] {
-                let phase = Phase::Under { fid: false, fault, bytes: 2, fill: 2, stamp: None, still };
+                let phase = Phase::Under { fid: false, fault, bytes: 2, fill: 2, stamp: None, still, layer: None };
                 add(&Record { phase, ..plain_record() }, 9, &transfer(END | flags, 0, 0, &[1, 2]));
             }
         }
     }
     add(
-        &Record { taken: 0, phase: Phase::Under { fid: false, fault: 0, bytes: 0, fill: 0, stamp: None, still: false }, ..plain_record() },
+        &Record {
+            taken: 0,
+            phase: Phase::Under { fid: false, fault: 0, bytes: 0, fill: 0, stamp: None, still: false, layer: None },
+            ..plain_record()
+        },
         8,
         &good,
     );
@@ -92,12 +108,12 @@ pub fn all() -> Vec<Case> {
         for (fault, bytes) in [(0, 0), (0, 2), (1, 2), (6, 2)] {
             for flags in [0, FID, FID | EOF, EOF] {
                 for still in [false, true] {
-                    let phase = Phase::Under { fid: false, fault, bytes, fill: bytes, stamp: Some(7), still };
+                    let phase = Phase::Under { fid: false, fault, bytes, fill: bytes, stamp: Some(7), still, layer: None };
                     add(&Record { framing, phase, ..plain_record() }, 9, &transfer(END | flags, 0, 0, &[1, 2]));
                 }
             }
         }
-        let phase = Phase::Under { fid: false, fault: 0, bytes: 2, fill: 2, stamp: None, still: false };
+        let phase = Phase::Under { fid: false, fault: 0, bytes: 2, fill: 2, stamp: None, still: false, layer: None };
         // Nothing is handed out for what is idle or unreadable, nor where the call is refused: 52 comes first.
         for t in [&[][..], &[2][..], &[2, FID][..]] {
             add(&Record { framing, phase: phase.clone(), ..plain_record() }, 9, t);
