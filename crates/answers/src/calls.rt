@@ -9,12 +9,14 @@ use frames::HandOut;
 use frames::Reason;
 use ledger::Ledger;
 use ledger::Numbers;
+use payload::Layer;
 use payload::Stamp;
 use session::Closing;
 use session::Outcome;
 use session::Report;
 use session::Session;
 use session::Start;
+use sizes::HeaderKind;
 use sizes::Opening;
 
 // The session after a call, and whether the call was read.
@@ -27,6 +29,7 @@ pub fn run() -> bool {
     let frame = input::word() as usize;
     let payload = input::word() as usize;
     let framing = input::byte();
+    let kind = header_kind();
     let mut buffer = [0u8; 70000];
     let part = input::part(&mut buffer);
     let n = part.count;
@@ -37,8 +40,18 @@ pub fn run() -> bool {
         frame,
         payload,
         framing,
+        kind,
     };
     listed(opening, &mut buffer[..n])
+}
+
+// 1 is VP8, every other byte the old kind.
+pub fn header_kind() -> HeaderKind {
+    let kind = input::byte();
+    match kind {
+        1 => HeaderKind::Vp8,
+        _ => HeaderKind::Old,
+    }
 }
 
 fn listed(opening: Opening, buffer: &mut [u8]) -> bool {
@@ -237,6 +250,11 @@ fn delivery(d: Delivery) {
     match s {
         Stamp::Absent => print::text(b" -"),
         Stamp::At(x) => print::field(x as u64),
+    }
+    let l = d.layer;
+    match l {
+        Layer::Absent => print::text(b" -"),
+        Layer::At(x) => print::half(x),
     }
 }
 

@@ -1,9 +1,9 @@
 // A session record as it stands in the input, and what take, lost and close say to it.
 //
-// The record: eight bytes frame size, eight bytes payload size, byte framing, byte closed, four bytes taken, the phase, byte gap,
-// the ledger's numbers of eight bytes each, the last stamp. A stamp: byte present and four bytes. The phase: byte 0 fresh, 2 past and byte FID, or
-// any other and byte FID, byte fault (1 gap, 2 error, 3 clock, 4 long, 5 cut, 6 empty, any other none), eight bytes data so far, eight bytes fill, the stamp,
-// byte still.
+// The record: eight bytes frame size, eight bytes payload size, byte framing, byte header kind, byte closed, four bytes taken, the phase, byte gap,
+// the ledger's numbers of eight bytes each, the last stamp. A stamp: byte present and four bytes. A layer: byte present and two bytes. The phase: byte 0
+// fresh, 2 past and byte FID, or any other and byte FID, byte fault (1 gap, 2 error, 3 clock, 4 long, 5 cut, 6 empty, any other none), eight bytes data so
+// far, eight bytes fill, the stamp, byte still, the layer.
 use crate::calls;
 use cases::input;
 use cases::print;
@@ -14,6 +14,7 @@ use frames::Run;
 use frames::Track;
 use ledger::Ledger;
 use ledger::Numbers;
+use payload::Layer;
 use payload::Stamp;
 use session::Closing;
 use session::Outcome;
@@ -46,6 +47,7 @@ fn record() -> Session {
     let frame = input::long() as usize;
     let payload = input::long() as usize;
     let framing = input::byte();
+    let kind = calls::header_kind();
     let closed = input::flag();
     let taken = input::word();
     let phase = phase();
@@ -58,6 +60,7 @@ fn record() -> Session {
                 frame,
                 payload,
                 framing,
+                kind,
             },
             closed,
             taken,
@@ -84,6 +87,7 @@ fn under() -> Run {
     let fill = input::long() as usize;
     let stamp = stamp();
     let still = input::flag();
+    let layer = layer();
     Run {
         fid,
         still,
@@ -91,6 +95,7 @@ fn under() -> Run {
         bytes,
         fill,
         stamp,
+        layer,
     }
 }
 
@@ -110,6 +115,12 @@ fn stamp() -> Stamp {
     let there = input::flag();
     let n = input::word();
     if there { Stamp::At(n) } else { Stamp::Absent }
+}
+
+fn layer() -> Layer {
+    let there = input::flag();
+    let n = input::half();
+    if there { Layer::At(n) } else { Layer::Absent }
 }
 
 fn numbers() -> Numbers {

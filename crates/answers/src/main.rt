@@ -4,13 +4,13 @@
 //   C control    part block
 //   M map        part block, byte ID
 //   S streaming  part control block, part streaming block: the table of a refused control block is used all the same
-//   H hostile    byte count, 32 entities (byte ID, byte kind, two bytes type, two bytes offset), part streaming block
+//   H hostile    byte count, byte revision, 32 entities (byte ID, byte kind, two bytes type, two bytes offset), part streaming block
 //   P check      part control block, part streaming block, part probe block
-//   W write      part probe block, part room: read, and what was read is written into the room
+//   W write      byte revision, part probe block, part room: read, and what was read is written into the room
 //   D configuration  part configuration: its reading, with the settings of each streaming interface
 //   K pick       part configuration, byte interface number, four bytes payload size
-//   T calls      four bytes frame size, four bytes payload size, byte framing, part buffer, four bytes number of calls, and each call:
-//                byte 0 and part transfer, byte 1 (lost), byte 2 (close)
+//   T calls      four bytes frame size, four bytes payload size, byte framing, byte header kind (1 VP8, any other old), part buffer,
+//                four bytes number of calls, and each call: byte 0 and part transfer, byte 1 (lost), byte 2 (close)
 //   F forged     session record (forged.rt), part buffer, part transfer: which of take, lost and close are refused on this record
 //   U settings   byte 0 build: part control block, bytes interface, unit, setting (0 brightness, 1 contrast, 2 hue, 3 saturation), request
 //                (0 get_cur, 1 get_min, 2 get_max, 3 get_res, 4 get_def, 5 set_cur), part room
