@@ -53,7 +53,7 @@ int main(int argc, char **argv) {
     static uint8_t input[INPUT];
     size_t have = 0;
     int fd = argc > 1 ? open(argv[1], O_RDONLY) : 0;
-    session_open(&s, FRAME, PAYLOAD, FRAMING, FRAME);
+    session_open(&s, FRAME, PAYLOAD, FRAMING, OLD, FRAME);
     for (;;) {
         ssize_t got = read(fd, input + have, INPUT - have);
         if (got < 0) {

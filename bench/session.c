@@ -81,19 +81,32 @@ static void delivered(struct session *s) {
     s->last = s->stamp;
 }
 
-/* 61 to 66, or 0 */
+/* the bytes of a header with no field */
+static size_t least(const struct session *s) { return s->kind == VP8 ? 4 : 2; }
+
+static int has_layer(const struct session *s, int flags) { return s->kind == VP8 && flags & 0x80; }
+
+/* the bytes of a header with the fields that its flags announce */
+static size_t need(const struct session *s, int flags) {
+    return least(s) + (flags & 4 ? 4 : 0) + (flags & 8 ? 6 : 0) + (has_layer(s, flags) ? 2 : 0);
+}
+
+/* 61 to 67, or 0 */
 static unsigned unreadable(const struct session *s, const uint8_t *t, size_t n) {
-    if (n < 2)
+    size_t bare = least(s);
+    if (n < bare)
         return 61;
     if (n > s->payload)
         return 62;
-    if (t[0] < 2)
+    if (t[0] < bare)
         return 63;
     if (t[0] > n)
         return 64;
-    if (t[0] < 2 + (t[1] & 4 ? 4 : 0) + (t[1] & 8 ? 6 : 0))
+    if (t[0] < need(s, t[1]))
         return 65;
-    return t[1] & 0x80 ? 0 : 66;
+    if (!(t[bare - 1] & 0x80))
+        return 66;
+    return s->kind == VP8 && !(t[1] & 4) ? 67 : 0;
 }
 
 static void put(uint8_t *to, const uint8_t *from, size_t n) {
@@ -116,11 +129,13 @@ static void whole(struct session *s, struct answer *a) {
     a->length = s->bytes;
     a->stamped = s->stamped;
     a->stamp = s->stamp;
+    a->layered = s->layered;
+    a->layer = s->layer;
 }
 
 /* a readable transfer with n bytes of data */
 static void readable(struct session *s, uint8_t *buffer, const uint8_t *t, const uint8_t *data, size_t n, struct answer *a) {
-    int flags = t[1], fid = flags & 1, still = flags & 0x20;
+    int flags = t[1], fid = flags & 1, still = s->kind == OLD && flags & 0x20;
     if (s->phase == FRESH || s->fid != fid) {
         a->ended = end(s, by_eof(s) ? CUT : EMPTY);
         s->phase = UNDER;
@@ -130,6 +145,7 @@ static void readable(struct session *s, uint8_t *buffer, const uint8_t *t, const
         s->bytes = 0;
         s->fill = 0;
         s->stamped = 0;
+        s->layered = 0;
     }
     s->gap = 0;
     if (s->phase == PAST) {
@@ -140,13 +156,19 @@ static void readable(struct session *s, uint8_t *buffer, const uint8_t *t, const
     if (s->fault == DELIVERED && flags & 0x40)
         s->fault = ERROR;
     if (flags & 4) {
-        uint32_t stamp = (uint32_t)t[2] | (uint32_t)t[3] << 8 | (uint32_t)t[4] << 16 | (uint32_t)t[5] << 24;
+        const uint8_t *at = t + least(s);
+        uint32_t stamp = (uint32_t)at[0] | (uint32_t)at[1] << 8 | (uint32_t)at[2] << 16 | (uint32_t)at[3] << 24;
         if (!s->stamped) {
             s->stamped = 1;
             s->stamp = stamp;
         } else if (s->fault == DELIVERED && s->stamp != stamp) {
             s->fault = CLOCK;
         }
+    }
+    if (has_layer(s, flags)) {
+        const uint8_t *end = t + need(s, flags);
+        s->layered = 1;
+        s->layer = (uint16_t)(end[-2] | end[-1] << 8);
     }
     if (s->fault == DELIVERED && s->still != still)
         s->fault = MIXED;
@@ -170,7 +192,7 @@ static void readable(struct session *s, uint8_t *buffer, const uint8_t *t, const
     }
 }
 
-unsigned session_open(struct session *s, size_t frame, size_t payload, uint8_t framing, size_t room) {
+unsigned session_open(struct session *s, size_t frame, size_t payload, uint8_t framing, enum kind kind, size_t room) {
     unsigned number = (unsigned)sizes_broken(frame, payload);
     memset(s, 0, sizeof *s);
     if (number == 0 && room < frame)
@@ -182,6 +204,7 @@ unsigned session_open(struct session *s, size_t frame, size_t payload, uint8_t f
     s->frame = frame;
     s->payload = payload;
     s->framing = framing;
+    s->kind = kind;
     return 0;
 }
 

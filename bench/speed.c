@@ -14,7 +14,7 @@ uint64_t palkodhen_take(size_t frame, size_t payload, uint8_t framing, size_t si
                         const uint8_t *transfers, size_t length);
 
 /* session.c once more, with memcpy for its copying loop */
-unsigned memcpy_open(struct session *s, size_t frame, size_t payload, uint8_t framing, size_t room);
+unsigned memcpy_open(struct session *s, size_t frame, size_t payload, uint8_t framing, enum kind kind, size_t room);
 struct answer memcpy_take(struct session *s, uint8_t *buffer, size_t room, const uint8_t *t, size_t n);
 
 enum { RUNS = 11, FRAME = 1048576, PAYLOAD = 65536, FRAMING = 3, ROUND = 8, SIZE_MOST = 16384, CONTROL_MOST = 4096, STREAMING_MOST = 16384 };
@@ -54,13 +54,13 @@ static uint64_t ours(size_t size, uint64_t times, uint8_t *buffer) {
     return palkodhen_take(FRAME, PAYLOAD, FRAMING, size, times, buffer, FRAME, transfers, ROUND * size);
 }
 
-typedef unsigned opening(struct session *s, size_t frame, size_t payload, uint8_t framing, size_t room);
+typedef unsigned opening(struct session *s, size_t frame, size_t payload, uint8_t framing, enum kind kind, size_t room);
 typedef struct answer taking(struct session *s, uint8_t *buffer, size_t room, const uint8_t *t, size_t n);
 
 /* inlined where it is used, so that the two functions are called by name */
 static inline __attribute__((always_inline)) uint64_t rounds(opening *open, taking *take, size_t size, uint64_t times, uint8_t *buffer) {
     struct session s;
-    open(&s, FRAME, PAYLOAD, FRAMING, FRAME);
+    open(&s, FRAME, PAYLOAD, FRAMING, OLD, FRAME);
     for (uint64_t i = 0; i < times; i++)
         for (size_t at = 0; at < ROUND * size; at += size)
             take(&s, buffer, FRAME, transfers + at, size);
