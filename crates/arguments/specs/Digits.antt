@@ -22,3 +22,12 @@ spelt most v (d ∷ l) = pick (noDigit d || ltb most (next v d)) None (spelt mos
 unfoldable pub numberOf : ℕ → List ℕ → Number
 numberOf most [] = None
 numberOf most (d ∷ l) = spelt most 0 (d ∷ l)
+
+-- the number, or another where there is none
+abbrev pub numberOr : ℕ → Number → ℕ
+numberOr other (Is n) = n
+numberOr other None = other
+
+-- a number of 8 bits, or 256
+unfoldable pub byteOf : List ℕ → ℕ
+byteOf l = numberOr 256 (numberOf 255 l)

@@ -1,6 +1,10 @@
 // Numbers as arguments: decimal digits.
 ghost use mathlib.Core.Path.{_≡_};
-ghost use Rattle.arguments.specs.Digits.{numberOf};
+ghost use Prim.Native.Nat.{_≤_};
+ghost use Rattle.arguments.specs.Digits.{numberOf, numberOr, byteOf};
+
+// What stands for no number of 8 bits.
+pub const NO_BYTE: u32 = 256;
 
 // The number that a word spells, if it is one.
 pub enum Number {
@@ -32,4 +36,21 @@ pub fn read(word: &[u8], most: u32) -> Number
         i += 1;
     }
     Number::Is(value as u32)
+}
+
+// The number, or `other` where there is none.
+pub fn or_else(n: Number, other: u32) -> u32
+    ensures { λ r. ⌜ r ≡ numberOr other n ⌝ }
+{
+    match n {
+        Number::Is(x) => x,
+        Number::None => other,
+    }
+}
+
+// The number from 0 to 255 that decimal digits spell, or 256 where they spell none.
+pub fn byte_of(word: &[u8]) -> u32
+    ensures { λ r. ⌜ (r ≡ byteOf (now (word .entry))) × (r ≤ 256) ⌝ }
+{
+    or_else(read(word, 255), NO_BYTE)
 }

@@ -1,12 +1,11 @@
 // `describe map FILE ID`: the control bytes of a camera terminal or a processing unit, as many as it has, or the refusal.
-use arguments::Number;
 use console::files;
 use console::print;
 
 pub fn describe(which: usize, word: usize) {
     let mut text = [0u8; 16];
     let k = os::arg(word, &mut text);
-    let id = id_of(&text[..k]);
+    let id = arguments::byte_of(&text[..k]);
     if 255 < id {
         print::problem(b"ID: not a decimal number from 0 to 255\n");
         return;
@@ -21,12 +20,4 @@ pub fn describe(which: usize, word: usize) {
     let answer = control_map::controls(&buf[..n], id as u8);
     let m = block_text::map(&mut lines, answer);
     print::answer(&lines[..m], block_text::is_given(answer));
-}
-
-// The number that decimal digits spell, or 256 for anything but a number from 0 to 255.
-fn id_of(digits: &[u8]) -> u32 {
-    match arguments::read(digits, 255) {
-        Number::Is(n) => n,
-        Number::None => 256,
-    }
 }

@@ -3,16 +3,14 @@ use arguments::Number;
 use console::files;
 use console::print;
 
-// The largest interface number, and the largest payload size.
-const INTERFACE: u32 = 255;
-
+// The largest payload size.
 const PAYLOAD: u32 = 4294967295;
 
 pub fn describe(which: usize, first: usize, second: usize) {
     let mut text = [0u8; 16];
     let k = os::arg(first, &mut text);
-    let interface = interface_of(&text[..k]);
-    if INTERFACE < interface {
+    let interface = arguments::byte_of(&text[..k]);
+    if 255 < interface {
         print::problem(b"INTERFACE: not a decimal number from 0 to 255\n");
         return;
     }
@@ -33,12 +31,4 @@ pub fn describe(which: usize, first: usize, second: usize) {
     let verdict = p.verdict;
     let j = configuration_text::picked(&mut lines, p);
     print::answer(&lines[..j], block_text::is_accepted(verdict));
-}
-
-// The number that decimal digits spell, or 256 for anything but a number from 0 to 255.
-fn interface_of(digits: &[u8]) -> u32 {
-    match arguments::read(digits, INTERFACE) {
-        Number::Is(n) => n,
-        Number::None => INTERFACE + 1,
-    }
 }

@@ -1,4 +1,5 @@
 // `describe streaming CONTROL STREAMING`: the endpoint, the link, the formats and the frames of a streaming block, or a refusal.
+ghost use Rattle.describe_streaming.specs.Known.{Knows};
 use console::files;
 use console::print;
 use control::Control;
@@ -11,7 +12,9 @@ pub struct Known {
     pub table: Table,
 }
 
-pub fn control_of(which: usize) -> Known {
+pub fn control_of(which: usize) -> Known
+    ensures { λ r. ⌜ Knows r ⌝ }
+{
     let mut buf = [0u8; 4097];
     let file = files::load(which, &mut buf);
     let n = file.count;

@@ -1,47 +1,57 @@
 // The words of the call. What is wrong with one is a line on standard error.
-use arguments::Number;
+ghost use mathlib.Core.Path.{_≡_};
+ghost use mathlib.Core.List.{List};
+ghost use Prim.Native.Nat.{ℕ};
+ghost use Rattle.arguments.specs.Digits.{numberOr, byteOf};
+ghost use Rattle.setup_arguments.specs.Arguments.{SettingNamed, RequestNamed, wordOf};
 use camera_settings::RequestFound;
 use camera_settings::Setting;
 use camera_settings::SettingFound;
 use console::print;
 use libc::STDERR_FILENO;
 
-// No number of 8 bits, and none of 16.
-pub const NO_BYTE: u32 = 256;
+// What stands for no word of 16 bits.
+const NO_WORD: u32 = 65536;
 
-pub const NO_WORD: u32 = 65536;
-
-// Argument `which` as a number from 0 to 255, or 256 where it is none and a line says so.
-pub fn byte(which: usize, name: &[u8]) -> u32 {
+// Argument `which` as a number from 0 to 255, or 256 where it is none and a line says so. No contract can say what an argument is: here and below it is some text.
+pub fn byte(which: usize, name: &[u8]) -> u32
+    ensures { λ r. ⌜ ((text : List ℕ) × (r ≡ byteOf text)) ⌝ }
+{
     let mut text = [0u8; 16];
     let k = os::arg(which, &mut text);
-    let Number::Is(n) = arguments::read(&text[..k], 255) else {
+    let n = arguments::byte_of(&text[..k]);
+    if 255 < n {
         wrong(name, b": not a decimal number from 0 to 255\n");
-        return NO_BYTE;
-    };
+    }
     n
 }
 
 // Argument `which` as the word of a number of the setting, or 65,536 where it is none and a line says so.
-pub fn word(which: usize, name: &[u8], setting: Setting) -> u32 {
+pub fn word(which: usize, name: &[u8], setting: Setting) -> u32
+    ensures { λ r. ⌜ ((text : List ℕ) × (r ≡ numberOr 65536 (wordOf setting text))) ⌝ }
+{
     let mut text = [0u8; 16];
     let k = os::arg(which, &mut text);
-    let Number::Is(n) = setup_arguments::word_of(setting, &text[..k]) else {
+    let n = arguments::or_else(setup_arguments::word_of(setting, &text[..k]), NO_WORD);
+    if 65535 < n {
         outside(name, setting);
-        return NO_WORD;
-    };
+    }
     n
 }
 
 // Argument `which` as the name of a setting.
-pub fn setting(which: usize) -> SettingFound {
+pub fn setting(which: usize) -> SettingFound
+    ensures { λ r. ⌜ ((text : List ℕ) × SettingNamed text r) ⌝ }
+{
     let mut text = [0u8; 16];
     let k = os::arg(which, &mut text);
     setup_arguments::setting_named(&text[..k])
 }
 
 // Argument `which` as the name of a request.
-pub fn request(which: usize) -> RequestFound {
+pub fn request(which: usize) -> RequestFound
+    ensures { λ r. ⌜ ((text : List ℕ) × RequestNamed text r) ⌝ }
+{
     let mut text = [0u8; 16];
     let k = os::arg(which, &mut text);
     setup_arguments::request_named(&text[..k])
