@@ -1,5 +1,4 @@
 // The lines of an answer. Those of entities, formats, frames, controls and refusals are those that `describe` prints.
-use block_lines::LINE_MOST;
 use cases::print;
 use control_map::CONTROLS_MOST;
 use entities::Revision;
@@ -9,6 +8,7 @@ use streaming_descriptors::Format;
 use streaming_descriptors::Frame;
 use streaming_rules::FORMATS_MOST;
 use streaming_rules::FRAMES_MOST;
+use text::LINE_MOST;
 
 // A reader's verdict, after its name.
 pub fn verdict(name: &[u8], v: Verdict) {

@@ -6,9 +6,8 @@ use native.Mathlib.Omega.{arith}
 use lib.ListN.{length, take, getD}
 use lib.Seq.{take-all}
 use Rattle.text.specs.Put.{Put}
-use Rattle.text.specs.Text.{texts}
+use Rattle.text.specs.Text.{texts, lineMost}
 use Rattle.text.proofs.Texts.{turn}
-use Rattle.block_lines.specs.Lines.{lineMost}
 
 -- the first i places of a table of so many are printed
 abbrev pub Printed : {A : Type 0} → (A → List ℕ) → List A → ℕ → ℕ → List ℕ → ℕ → ℕ → ℕ → List ℕ → Type 0

@@ -37,7 +37,3 @@ refusedLine k o = bytes "refused" ++ (number k ++ line (bytes " at") (o ∷ []))
 
 abbrev pub acceptedLine : List ℕ
 acceptedLine = bytes "accepted\n"
-
--- a line has at most so many bytes: a name of at most 16, eight numbers of 21, and its end
-abbrev pub lineMost : ℕ
-lineMost = 192

@@ -2,9 +2,9 @@
 ghost use Prim.Native.Nat.{_+_, _*_, _≤_};
 ghost use lib.ListN.{length, take};
 ghost use Rattle.text.specs.Put.{Put};
-ghost use Rattle.text.specs.Text.{number, texts};
+ghost use Rattle.text.specs.Text.{lineMost, number, texts};
 ghost use Rattle.entities.specs.Table.{entitiesMost, used};
-ghost use Rattle.block_lines.specs.Lines.{lineMost, entityLine, formatLine, frameLine, controlsLine, revisionLine, refusedLine};
+ghost use Rattle.block_lines.specs.Lines.{entityLine, formatLine, frameLine, controlsLine, revisionLine, refusedLine};
 use control_map::CONTROLS_MOST;
 use entities::ENTITIES_MOST;
 use entities::Entity;
@@ -14,9 +14,6 @@ use streaming_descriptors::Format;
 use streaming_descriptors::Frame;
 use streaming_rules::FORMATS_MOST;
 use streaming_rules::FRAMES_MOST;
-
-// A line has at most so many bytes.
-pub const LINE_MOST: usize = 192;
 
 // Inner: the lines of the used places of an entity table.
 pub fn entities(buf: &mut [u8], start: usize, t: Table) -> usize

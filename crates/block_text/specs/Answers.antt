@@ -11,8 +11,8 @@ use Rattle.control.specs.declared.Control.{Control}
 use Rattle.control_map.specs.declared.Map.{Map}
 use Rattle.streaming.specs.declared.Streaming.{Streaming}
 use Rattle.probe.specs.declared.Probe.{Probe}
-use Rattle.text.specs.Text.{bytes, line, texts}
-use Rattle.block_lines.specs.Lines.{entityLine, formatLine, frameLine, controlsLine, revisionLine, refusedLine, acceptedLine, lineMost}
+use Rattle.text.specs.Text.{bytes, line, texts, lineMost}
+use Rattle.block_lines.specs.Lines.{entityLine, formatLine, frameLine, controlsLine, revisionLine, refusedLine, acceptedLine}
 use Rattle.probe_lines.specs.Fields.{fieldsText}
 use Rattle.words.specs.Words.{wordsOf}
 

@@ -8,13 +8,13 @@ ghost use Rattle.text.specs.Written.{answerOf, bufferOf};
 ghost use Rattle.rules.specs.declared.Verdict.the-variants.{Accepted};
 ghost use Rattle.block_lines.specs.Lines.{controlsLine};
 ghost use Rattle.block_text.specs.Answers.{room, refusedText, tableText, controlBy, controlText, mapText, listedText, streamingText, probeText, isAccepted, isGiven};
-use block_lines::LINE_MOST;
 use control::Control;
 use control_map::Map;
 use entities::Table;
 use probe::Probe;
 use rules::Verdict;
 use streaming::Streaming;
+use text::LINE_MOST;
 
 // How many bytes are enough for any answer: a streaming block has the most lines.
 pub const ROOM: usize = LINE_MOST * 75;

@@ -10,7 +10,7 @@ use lib.Seq.{take-all}
 use Rattle.text.specs.Put.{Put}
 use Rattle.text.specs.Text.{texts}
 use Rattle.text.proofs.Texts.{turn}
-use Rattle.block_lines.specs.Lines.{lineMost}
+use Rattle.text.specs.Text.{lineMost}
 use Rattle.settings.specs.Settings.{kthOf}
 use Rattle.settings.specs.Holding.{noSetting}
 use Rattle.settings.specs.declared.Setting.{Setting}

@@ -2,8 +2,8 @@
 use mathlib.Core.List.{List, [], _∷_, _++_}
 use Prim.Native.Nat.{ℕ, _*_}
 use lib.ListN.{take}
-use Rattle.text.specs.Text.{bytes, line, texts}
-use Rattle.block_lines.specs.Lines.{acceptedLine, lineMost}
+use Rattle.text.specs.Text.{bytes, line, texts, lineMost}
+use Rattle.block_lines.specs.Lines.{acceptedLine}
 use Rattle.block_text.specs.Answers.{toldBy}
 use Rattle.interfaces.specs.Blocks.{settingsMost}
 use Rattle.interfaces.specs.declared.Block.{Block}

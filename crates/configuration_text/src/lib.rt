@@ -6,11 +6,10 @@ ghost use Rattle.io.specs.Counts.{Counts};
 ghost use Rattle.text.specs.Put.{Put};
 ghost use Rattle.text.specs.Text.{texts};
 ghost use Rattle.text.specs.Written.{answerOf, bufferOf};
-ghost use Rattle.block_lines.specs.Lines.{lineMost};
+ghost use Rattle.text.specs.Text.{lineMost};
 ghost use Rattle.interfaces.specs.Blocks.{settingsMost};
 ghost use Rattle.settings.specs.Settings.{settingsOf};
 ghost use Rattle.configuration_text.specs.Texts.{settingLine, streamText, streamMost, listedText, configurationText, pickedText, room};
-use block_lines::LINE_MOST;
 use configuration::Configuration;
 use interfaces::INTERFACES_MOST;
 use interfaces::SETTINGS_MOST;
@@ -19,6 +18,7 @@ use picking::Picked;
 use rules::Verdict;
 use settings::Choice;
 use settings::Setting;
+use text::LINE_MOST;
 
 // How many bytes are enough: two lines, and of each streaming interface its own and those of its settings.
 pub const ROOM: usize = LINE_MOST * 266;

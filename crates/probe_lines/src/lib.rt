@@ -4,7 +4,7 @@ ghost use mathlib.Core.List.{[], _∷_, _++_};
 ghost use lib.ListN.{length};
 ghost use Rattle.text.specs.Put.{Put};
 ghost use Rattle.text.specs.Text.{line as Text·line};
-ghost use Rattle.block_lines.specs.Lines.{lineMost};
+ghost use Rattle.text.specs.Text.{lineMost};
 ghost use Rattle.probe_lines.specs.Fields.{choiceText, ratesText, timesText, sizesText, versionsText, limitsText, settingsText, layoutText, frontText, backText, fieldsText};
 use probe::Probe;
 

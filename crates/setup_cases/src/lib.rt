@@ -1,11 +1,11 @@
 // The cases of camera settings: each is read from standard input, and its answer printed in full.
 use block_cases::lines;
-use block_lines::LINE_MOST;
 use camera_settings::Request;
 use camera_settings::Setting;
 use cases::input;
 use cases::print;
 use packets::Reading;
+use text::LINE_MOST;
 
 // Which of the three is asked.
 pub fn run() -> bool {

@@ -5,7 +5,7 @@ ghost use Prim.Native.Nat.{_+_, _≤_};
 ghost use lib.ListN.{length};
 ghost use Rattle.text.specs.Decimal.{decimal};
 ghost use Rattle.text.specs.Put.{Put};
-ghost use Rattle.block_lines.specs.Lines.{lineMost};
+ghost use Rattle.text.specs.Text.{lineMost};
 ghost use Rattle.nearest.specs.Word.{integerOf};
 ghost use Rattle.setup_lines.specs.Lines.{settingName, requestName, packetLine, asksLine, numberLine};
 ghost use Rattle.setup_lines.specs.Inner.{isBelow};

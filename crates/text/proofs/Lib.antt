@@ -6,3 +6,4 @@ pub mod Whole
 pub mod Values
 pub mod Different
 pub mod Computed
+pub mod Eight

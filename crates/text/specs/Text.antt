@@ -41,3 +41,7 @@ total (r ∷ rs) = r .count + total rs
 abbrev pub lines : List Row → List ℕ → List ℕ
 lines [] ns = []
 lines (r ∷ rs) ns = line (r .name) (take (r .count) ns) ++ lines rs (drop (r .count) ns)
+
+-- a line has at most so many bytes: a name of at most 16, eight numbers of 21, and its end
+abbrev pub lineMost : ℕ
+lineMost = 192

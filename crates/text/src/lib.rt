@@ -4,6 +4,9 @@ ghost use lib.ListN.{length};
 ghost use Rattle.text.specs.Put.{Put};
 ghost use Rattle.text.specs.Text.{number as Text·number, numbers as Text·numbers, line as Text·line};
 
+// A line has at most so many bytes.
+pub const LINE_MOST: usize = 192;
+
 // Inner: all of src into buf from index at on; answers the index after it.
 pub fn put(buf: &mut [u8], at: usize, src: &[u8]) -> usize
     requires { ⌜ at + length (now src) ≤ length (now buf) ⌝ }

@@ -3,7 +3,7 @@ use Rattle.text.proofs.Texts.{none}
 use native.Mathlib.Omega.{arith}
 use Prim.Native.Nat.{_-_}
 use Rattle.configuration_text.specs.Texts.{settingLine}
-use Rattle.block_lines.specs.Lines.{lineMost}
+use Rattle.text.specs.Text.{lineMost}
 use Rattle.settings.specs.Settings.{settingsOf}
 use Rattle.configuration_text.proofs.Lines.{Printed, setting-more, settings-end, settings-full}
 use borrow.Author.Needs.{needs}

@@ -1,7 +1,7 @@
 use borrow.Author.Needs.{needs}
 use Rattle.entities.proofs.Finding.{length-of}
 use Rattle.text.specs.Text.{bytes}
-use Rattle.probe_lines.proofs.Layouts.{laid}
+use Rattle.text.proofs.Eight.{laid}
 use Rattle.probe_lines.proofs.layout.Statement.{statement}
 use Rattle.probe_lines.proofs.layout.Tie as tie
 

@@ -1,5 +1,5 @@
 use Rattle.text.specs.Text.{bytes}
-use Rattle.probe_lines.proofs.Layouts.{laid}
+use Rattle.text.proofs.Eight.{laid}
 use borrow.Author.Needs.{needs}
 use Rattle.setup_lines.proofs.packet.Statement.{statement}
 use Rattle.setup_lines.proofs.packet.Tie as tie
