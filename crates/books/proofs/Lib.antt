@@ -21,6 +21,9 @@ pub mod HandedOut
 pub mod Held
 pub mod Whole
 pub mod Print
+pub mod Histories
+pub mod Offers
+pub mod Every
 pub mod Each
 pub mod Stills
 pub mod HeaderKinds

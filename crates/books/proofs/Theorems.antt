@@ -1,8 +1,8 @@
 -- THE THEOREMS, over the session's own open, take, lost and close: for every list of calls with any transfers and any lent buffers, from a fresh session, for all
 -- admissible sizes.
 use Prim.Native.Nat.{ℕ, zero, suc, _≤_}
-use mathlib.Core.Path.{_≡_, refl, sym, _∙_, ap, subst, fun-ext}
-use mathlib.Core.Bool.{Bool, true, false}
+use mathlib.Core.Path.{_≡_, refl, sym, _∙_, ap, subst}
+use mathlib.Core.Bool.{Bool, true, false, not}
 use mathlib.Core.List.{List, [], _∷_, _++_, map}
 use mathlib.Core.Logic.{_↔_}
 use native.Mathlib.Omega.{arith}
@@ -21,7 +21,6 @@ use Rattle.frames.specs.declared.Delivery.{Delivery}
 use Rattle.frames.specs.declared.Ended.{Ended}
 use Rattle.frames.specs.declared.HandOut.{HandOut}
 use Rattle.frames.specs.Track.{handing}
-use Rattle.ledger.specs.declared.Account.{Account}
 use Rattle.session.specs.declared.Session.{Session}
 use Rattle.session.specs.declared.Start.{Start}
 use Rattle.session.specs.declared.Outcome.{Outcome}
@@ -30,30 +29,32 @@ use Rattle.session.specs.declared.Closing.{Closing}
 use Rattle.refusals.specs.Refusals.{takenMost, openingFlags}
 use Rattle.session.specs.Refusals.{recordBroken, ledgerOf}
 use Rattle.session.specs.Session.{fresh, openBy, openOf, takeOf, bufferBy, bufferOf, lostOf, closeOf}
-use Rattle.books.specs.Rule.{events, entries, numbersOf, stamps, forward, between, received}
-use Rattle.books.specs.Demands.{Right, over, allBytes, endedItems, fateItems, Gains, Says, Whole, Film, WithoutStills}
+use Rattle.books.specs.Rule.{events, isOpen, entries, numbersOf, stamps, forward, between, received}
+use Rattle.books.specs.Demands.{Right, allBytes, endedItems, fateItems, Gains, Says, Whole, Film, WithoutStills}
 use Rattle.books.specs.HandedOut.{HandsOut, HandedWhole, MarkedBefore, EofFraming}
 use Rattle.books.specs.HeaderKinds.{NoLayers, ReportsNone, ClosesNoStill, AnswersNoStill}
 use Rattle.books.specs.Answer.{answerOf, outcomeOf, endingOf, writtenOf}
+use Rattle.books.specs.Offers.{takenIn, refusedBy, listedAs, listOf, refusedOr, takeSays, lostSays, closeSays, takeLeaves}
 use Rattle.books.proofs.Taken.{next-refused, after-run, Proper, taken-proper, close-last}
-use Rattle.books.proofs.Accounts.{all-right}
-use Rattle.books.proofs.Received.{entries-bytes, over-all}
-use Rattle.books.proofs.Sound.{taken-small, record-sound, after-opening}
+use Rattle.books.proofs.Sound.{after-opening}
+use Rattle.books.proofs.Histories.{accounts-taken, numbers-taken, bytes-taken, sound-taken}
+use Rattle.books.proofs.Offers.{list-is, closed-listed, taken-listed, broken-is, refused-listed}
+use Rattle.books.proofs.Every.{take-says, take-leaves, session-after, handed-where}
+use Rattle.books.proofs.Every as every
 use Rattle.books.proofs.Answers.{transfer-says, handed-says, lost-says, close-says}
 use Rattle.books.proofs.ByList.{transfer-answers, transfer-writes, lost-answers, close-answers, all-marked}
 use Rattle.books.proofs.HandedOut.{handed-out, by-eof-alone, again}
 use Rattle.books.proofs.HandedOut as out
 use Rattle.books.proofs.Whole.{delivered-whole}
 use Rattle.books.proofs.Whole as buffers
-use Rattle.books.proofs.Print.{run-numbers}
 use Rattle.books.proofs.Stills.{without-stills}
 use Rattle.books.proofs.HeaderKinds.{no-layers, reports-none, all-film, answers-no-still, closes-no-still}
 use Rattle.books.proofs.Samples.{opening, transfers, printed, by-rule, by-session}
-use Rattle.ledger.specs.Accounts.{ticksAt, accounts}
+use Rattle.ledger.specs.Accounts.{ticksAt}
 use Rattle.sizes.specs.Sizes.{sizesBroken}
 use Rattle.rule_50.specs.Rule50.{transferMost}
 use Rattle.session.specs.Call.{Ask, Call}
-use Rattle.session.specs.Calls.{Offer, refusal, next, after, taken, run, offers, bufferAfter}
+use Rattle.session.specs.Calls.{Offer, refusal, next, after, taken, nextCall, run, offers, bufferAfter}
 
 -- An opening that is not refused gives a fresh session of admissible sizes.
 pub opened : (o : Opening) (room : ℕ) → openOf o room .start ≡ Start.Open → (openOf o room .session ≡ fresh o) × (sizesBroken o ≡ false)
@@ -75,27 +76,42 @@ pub refused-buffer : (s : Session) (buffer t : List ℕ) (k : ℕ) → refusal s
 unfolding bufferOf
 refused-buffer s buffer t k e = ap (λ (n : ℕ). bufferBy n s buffer t) e
 
-pub history : (o : Opening) (xs : List Offer) → after (fresh o) xs ≡ run (fresh o) (taken (fresh o) xs)
-history o xs = after-run (fresh o) xs
+-- THE LIST is the rule's, from the opening and the offers alone (specs/Offers); so is when the session is closed, how many transfers it has taken and what it refuses. 50 is the opening's alone.
+pub list-right : (o : Opening) (xs : List Offer) → taken (fresh o) xs ≡ listOf o xs
+list-right = list-is
+
+pub closed-right : (o : Opening) (xs : List Offer) → after (fresh o) xs .rest .closed ≡ not (isOpen (listOf o xs))
+closed-right = closed-listed
+
+pub taken-right : (o : Opening) (xs : List Offer) → after (fresh o) xs .rest .taken ≡ takenIn (listOf o xs)
+taken-right = taken-listed
+
+pub broken-right : (o : Opening) (xs : List Offer) → recordBroken (after (fresh o) xs) ≡ sizesBroken o
+broken-right = broken-is
+
+pub refusals-right : (o : Opening) (xs : List Offer) (x : Offer) → refusal (after (fresh o) xs) x ≡ refusedBy o (listOf o xs) x
+refusals-right = refused-listed
+
+pub history : (o : Opening) (xs : List Offer) → after (fresh o) xs ≡ run (fresh o) (listOf o xs)
+history o xs = after-run (fresh o) xs ∙ ap (run (fresh o)) (list-right o xs)
 
 -- close is the last of the calls taken
 pub nothing-after-close : (o : Opening) (xs : List Offer) (before rest : List Call) → taken (fresh o) xs ≡ before ++ (Call.close ∷ rest) → rest ≡ []
 nothing-after-close o xs before rest e = close-last before rest (fresh o) (subst (Proper (fresh o)) e (taken-proper (fresh o) xs))
 
 -- 2. "Each account is what document 01's rule gives from the opening sizes (and the framing byte, and the header kind) and the list of calls alone": every count and every byte, lost, idle, ticks, backward and untimed.
-pub accounts-right : (o : Opening) (xs : List Offer) → Right o (taken (fresh o) xs) (ledgerOf (after (fresh o) xs))
-accounts-right o xs = subst (λ (s : Session). Right o (taken (fresh o) xs) (ledgerOf s)) (sym (history o xs)) (all-right o (taken (fresh o) xs) (taken-proper (fresh o) xs))
+pub accounts-right : (o : Opening) (xs : List Offer) → Right o (listOf o xs) (ledgerOf (after (fresh o) xs))
+accounts-right o xs = subst (λ (cs : List Call). Right o cs (ledgerOf (after (fresh o) xs))) (list-right o xs) (accounts-taken o xs)
 
 -- the same of all the numbers at once, in the order of print
-pub numbers-right : (o : Opening) (xs : List Offer) → ledgerOf (after (fresh o) xs) .numbers ≡ numbersOf (entries o (taken (fresh o) xs))
-numbers-right o xs = ap (λ (s : Session). ledgerOf s .numbers) (history o xs) ∙ run-numbers o (taken (fresh o) xs) (taken-proper (fresh o) xs)
+pub numbers-right : (o : Opening) (xs : List Offer) → ledgerOf (after (fresh o) xs) .numbers ≡ numbersOf (entries o (listOf o xs))
+numbers-right o xs = numbers-taken o xs ∙ ap (λ (cs : List Call). numbersOf (entries o cs)) (list-right o xs)
 
 -- 3. "Together they are the bytes received, and the ticks are the sum of forward steps." Bytes received are those of transfers taken.
-pub nothing-missing : (o : Opening) (xs : List Offer) → allBytes (ledgerOf (after (fresh o) xs)) ≡ received (taken (fresh o) xs)
-nothing-missing o xs =
-    ap (λ (f : Account → ℕ). over f accounts) (fun-ext (accounts-right o xs .bytes)) ∙ over-all (entries o (taken (fresh o) xs)) ∙ entries-bytes o (taken (fresh o) xs)
+pub nothing-missing : (o : Opening) (xs : List Offer) → allBytes (ledgerOf (after (fresh o) xs)) ≡ received (listOf o xs)
+nothing-missing o xs = bytes-taken o xs ∙ ap received (list-right o xs)
 
-pub ticks-right : (o : Opening) (xs : List Offer) → getD (ledgerOf (after (fresh o) xs) .numbers) ticksAt 0 ≡ between forward (stamps (entries o (taken (fresh o) xs)))
+pub ticks-right : (o : Opening) (xs : List Offer) → getD (ledgerOf (after (fresh o) xs) .numbers) ticksAt 0 ≡ between forward (stamps (entries o (listOf o xs)))
 ticks-right o xs = accounts-right o xs .ticks
 
 -- 4. Each answer is one definition of the list: a frame handed out; or what became of a frame ended, and the transfer's own fate, with number, length, stamp and layer.
@@ -114,6 +130,23 @@ close-right = close-answers
 pub written-right : (o : Opening) (xs : List Offer) (buffer t : List ℕ) → refusal (after (fresh o) xs) (Offer.take buffer t) ≡ 0
     → bufferOf (after (fresh o) xs) buffer t ≡ writtenOf o (taken (fresh o) xs) t buffer
 written-right = transfer-writes
+
+-- EVERY OFFER, refused or not, from the opening and the offers alone: refused by its number, with the buffer and the session as they were, and otherwise what the list says.
+pub every-answer : (o : Opening) (xs : List Offer) (buffer t : List ℕ) → takeOf (after (fresh o) xs) (length buffer) t .outcome ≡ takeSays o (listOf o xs) buffer t
+every-answer = take-says
+
+pub every-report : (o : Opening) (xs : List Offer) → lostOf (after (fresh o) xs) .report ≡ lostSays o (listOf o xs)
+every-report = every.lost-says
+
+pub every-close : (o : Opening) (xs : List Offer) → closeOf (after (fresh o) xs) .closing ≡ closeSays o (listOf o xs)
+every-close = every.close-says
+
+pub every-buffer : (o : Opening) (xs : List Offer) (buffer t : List ℕ) → bufferOf (after (fresh o) xs) buffer t ≡ takeLeaves o (listOf o xs) buffer t
+every-buffer = take-leaves
+
+pub every-session : (o : Opening) (xs : List Offer) (x : Offer)
+    → next (after (fresh o) xs) x ≡ refusedOr (refusedBy o (listOf o xs) x) (λ k. after (fresh o) xs) (nextCall (after (fresh o) xs) (listedAs o (listOf o xs) x))
+every-session = session-after
 
 -- and each answer is booked: what it says of a frame ended and of its own transfer is what the rule gains by that call
 pub answer-gains : (o : Opening) (xs : List Offer) (buffer t : List ℕ) (a : Answer) → takeOf (after (fresh o) xs) (length buffer) t .outcome ≡ Outcome.Taken a → Says o (taken (fresh o) xs) (Call.transfer t) a
@@ -148,6 +181,11 @@ pub handed-exactly : (o : Opening) (xs : List Offer) (buffer t : List ℕ) (x : 
     → (takeOf (after (fresh o) xs) (length buffer) t .outcome ≡ Outcome.Handed x) ↔ HandsOut o (taken (fresh o) xs) t x
 handed-exactly = handed-out
 
+-- and every take: exactly when the offer is not refused and the list says so
+pub every-hand-out : (o : Opening) (xs : List Offer) (buffer t : List ℕ) (x : HandOut)
+    → (takeOf (after (fresh o) xs) (length buffer) t .outcome ≡ Outcome.Handed x) ↔ ((refusedBy o (listOf o xs) (Offer.take buffer t) ≡ 0) × HandsOut o (listOf o xs) t x)
+every-hand-out = handed-where
+
 -- "A readable transfer of the other FID arrives": no frame is passed over without being handed out.
 pub marked-before : (o : Opening) (xs : List Offer) → byEof o ≡ false → MarkedBefore o (taken (fresh o) xs)
 marked-before o xs e = all-marked o (taken (fresh o) xs) e (taken-proper (fresh o) xs)
@@ -159,8 +197,7 @@ eof-framing o xs e = by-eof-alone o (taken (fresh o) xs) e (taken-proper (fresh 
 -- 6. A session reached from a fresh one is never refused by 50. An open one refuses a lost report by 52 alone, so it does a transfer of at most 65,536 bytes with a buffer of the
 -- frame size, and it never refuses close.
 pub never-stuck : (o : Opening) → sizesBroken o ≡ false → (xs : List Offer) → recordBroken (after (fresh o) xs) ≡ false
-never-stuck o e xs =
-    ap recordBroken (history o xs) ∙ record-sound o (taken (fresh o) xs) (taken-proper (fresh o) xs) (taken-small (fresh o) xs) e
+never-stuck o e xs = sound-taken o xs e
 
 module _ (o : Opening) (sizes : sizesBroken o ≡ false) (xs : List Offer) (open₀ : after (fresh o) xs .rest .closed ≡ false) where
   abbrev full : Bool
@@ -188,7 +225,7 @@ never-twice = out.never-twice
 
 -- "Still pictures among the film" (document 02, Ten): where no readable transfer has the still bit, no frame is a still or mixed, and both accounts are zero.
 pub no-stills : (o : Opening) (xs : List Offer) → Film (events o (taken (fresh o) xs)) → WithoutStills o (taken (fresh o) xs) (ledgerOf (after (fresh o) xs))
-no-stills o xs f = without-stills o (taken (fresh o) xs) (ledgerOf (after (fresh o) xs)) (accounts-right o xs) f
+no-stills o xs f = without-stills o (taken (fresh o) xs) (ledgerOf (after (fresh o) xs)) (accounts-taken o xs) f
 
 -- "Demand 3 reads from it as from the framing byte" (document 02, Twelve): with the old kind of header each parameter of the reading is document 01's, and no layer is reported, in
 -- the list or by any take.

@@ -4,3 +4,4 @@ pub mod Demands
 pub mod Answer
 pub mod HandedOut
 pub mod HeaderKinds
+pub mod Offers

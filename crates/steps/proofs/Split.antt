@@ -19,7 +19,7 @@ use Rattle.books.proofs.Taken.{Proper, taken-proper}
 use Rattle.books.proofs.Posts.{total-append}
 use Rattle.books.proofs.History.{map-append, stamps-append}
 use Rattle.books.proofs.Accounts.{loose-stamped}
-use Rattle.books.proofs.Theorems.{accounts-right}
+use Rattle.books.proofs.Histories.{accounts-taken}
 use Rattle.steps.specs.Cut.{Middle}
 use Rattle.steps.specs.Halves.{StampHalves, EntryHalves, Job, job, framesIn, Split, billed, BillAsWhole, Halves}
 use Rattle.steps.proofs.Begins.{proper-open, proper-later, earlier, frames-from, frames-after}
@@ -75,7 +75,7 @@ record Timed (j : Job) (es : List Entry) : Type 0 where
 
 timed : (j : Job) → Timed j (map entryOf (framesIn j))
 timed j =
-    let right = accounts-right (j .opening) (j .offered) in
+    let right = accounts-taken (j .opening) (j .offered) in
     record {
       ticks = right .ticks ∙ ap (between forward) stamped;
       backward = right .backward ∙ ap (between back) stamped;

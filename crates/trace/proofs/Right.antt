@@ -9,7 +9,7 @@ use Rattle.session.specs.declared.Session.{Session}
 use Rattle.session.specs.Refusals.{ledgerOf}
 use Rattle.session.specs.Session.{fresh}
 use Rattle.books.specs.Rule.{entries, numbersOf}
-use Rattle.books.proofs.Theorems.{numbers-right}
+use Rattle.books.proofs.Histories.{numbers-taken}
 use Rattle.books.proofs.HandedOut.{asked-listed, asked-next}
 use Rattle.books.proofs.History.{next-opening}
 use Rattle.records.specs.Record.{recordBad}
@@ -110,5 +110,5 @@ pub trace-right : (b : List ℕ) (rs : List (List ℕ)) → traced newTrace b rs
 trace-right b rs e =
     let t : Taken (fresh sizes) b rs = good-taken rs (fresh sizes) b reads-eof e in
     ap (λ (s : Session). ledgerOf s .numbers) (t .session)
-    ∙ numbers-right sizes (offers (fresh sizes) b (map recordAsk rs))
+    ∙ numbers-taken sizes (offers (fresh sizes) b (map recordAsk rs))
     ∙ ap (λ (cs : List Call). numbersOf (entries sizes cs)) (t .calls)
