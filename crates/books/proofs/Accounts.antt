@@ -22,15 +22,16 @@ use Rattle.frames.specs.declared.Fate.{Fate}
 use Rattle.frames.specs.declared.Turn.{Turn}
 use Rattle.frames.specs.declared.HandOut.{HandOut}
 use Rattle.frames.specs.Track.{underCount, underBytes, handing}
+use Rattle.ledger.specs.declared.Ledger.{Ledger}
 use Rattle.ledger.specs.Entry.{Entry}
 use Rattle.ledger.specs.Ledger.{noLedger}
 use Rattle.session.specs.declared.Session.{Session}
 use Rattle.session.specs.Refusals.{postedOf, ledgerOf}
 use Rattle.session.specs.Session.{fresh}
-use Rattle.books.specs.Rule.{Event, idle, unreadable, missing, readable, mark, events, Item, entryOf, framesBy, loose, entries, lostLine, idleLine, oneIn, partIn, total, stamps, untimed, forward, back, between}
+use Rattle.books.specs.Rule.{Event, idle, unreadable, missing, readable, mark, events, Item, entryOf, framesBy, loose, entries, lostLine, idleLine, oneIn, partIn, total, stamps, lastStamp, untimed, forward, back, between}
 use Rattle.books.specs.Demands.{Right, endedItems, fateItems}
 use Rattle.books.proofs.Made.{base, turnItems}
-use Rattle.books.proofs.Posts.{posts-sized, since, stampIn, gain, place-law, step-law, count-gain, bytes-gain, single-gain, total-append}
+use Rattle.books.proofs.Posts.{posts-sized, since, stampIn, gain, place-law, step-law, count-gain, bytes-gain, single-gain, total-append, last-law}
 use Rattle.books.proofs.Taken.{Proper}
 use Rattle.books.proofs.History.{itemsBy, callItems, dataNext, items, dataRun, afoot, items-right, posted, run-posts, posted-total, posted-stamps, map-append, stamps-append}
 use Rattle.ledger.specs.Accounts.{accountCount, numberCount, underAt, accountFor, placeOf, countAt, bytesAt, lostAt, idleAt, ticksAt, backwardAt, untimedAt}
@@ -252,6 +253,13 @@ module _ (o : Opening) (cs : List Call) (p : Proper (fresh o) cs) where
       ∙ ap (_+ between f (stamps (posted (fresh o) [] cs))) (getD-replicate numberCount q 0 0 h)
       ∙ zero-add _
       ∙ ap (between f) (posted-stamps cs (fresh o) [] ∙ sym entries-stamps)
+
+  -- the last stamp is kept beside the numbers
+  pub last-kept : end o cs p .rest .last ≡ lastStamp (stamps (entries o cs))
+  last-kept =
+      ap (λ (l : Ledger). l .last) (run-posts cs (fresh o) [])
+      ∙ last-law noLedger (posted (fresh o) [] cs)
+      ∙ ap lastStamp (posted-stamps cs (fresh o) [] ∙ sym entries-stamps)
 
   -- every number is the rule's
   pub all-right : Right o cs (ledgerOf (end o cs p))

@@ -214,6 +214,7 @@ by-eof-alone o cs e p =
       none = u;
       closing = by-eof o e false (events o cs) (events-plain o cs u);
       ending = λ l ts. ending (byEof o) (closed o ts) l e;
+      gaps = λ t. ap (λ (c : Bool). not (c && t .header .eof) && t .after) e;
     }
 
 -- ---- offered again: the same transfer, with the same buffer, is taken

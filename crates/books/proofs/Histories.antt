@@ -7,14 +7,15 @@ use Rattle.sizes.specs.declared.Opening.{Opening}
 use Rattle.sizes.specs.Sizes.{sizesBroken}
 use Rattle.ledger.specs.declared.Account.{Account}
 use Rattle.ledger.specs.Accounts.{accounts}
+use Rattle.ledger.specs.Ledger.{shownOf}
 use Rattle.session.specs.declared.Session.{Session}
 use Rattle.session.specs.Refusals.{recordBroken, ledgerOf}
 use Rattle.session.specs.Session.{fresh}
 use Rattle.session.specs.Calls.{Offer, after, taken, run}
-use Rattle.books.specs.Rule.{entries, numbersOf, received}
+use Rattle.books.specs.Rule.{entries, numbersOf, stamps, lastStamp, received}
 use Rattle.books.specs.Demands.{Right, over, allBytes}
 use Rattle.books.proofs.Taken.{after-run, taken-proper}
-use Rattle.books.proofs.Accounts.{all-right}
+use Rattle.books.proofs.Accounts.{all-right, last-kept}
 use Rattle.books.proofs.Received.{entries-bytes, over-all}
 use Rattle.books.proofs.Print.{run-numbers}
 use Rattle.books.proofs.Sound.{taken-small, record-sound}
@@ -25,6 +26,10 @@ module _ (o : Opening) (xs : List Offer) where
 
   pub numbers-taken : ledgerOf (after (fresh o) xs) .numbers ≡ numbersOf (entries o (taken (fresh o) xs))
   numbers-taken = ap (λ (s : Session). ledgerOf s .numbers) (after-run (fresh o) xs) ∙ run-numbers o (taken (fresh o) xs) (taken-proper (fresh o) xs)
+
+  pub last-taken : ledgerOf (after (fresh o) xs) .last ≡ lastStamp (stamps (entries o (taken (fresh o) xs)))
+  unfolding shownOf
+  last-taken = ap (λ (s : Session). s .rest .last) (after-run (fresh o) xs) ∙ last-kept o (taken (fresh o) xs) (taken-proper (fresh o) xs)
 
   pub bytes-taken : allBytes (ledgerOf (after (fresh o) xs)) ≡ received (taken (fresh o) xs)
   bytes-taken =

@@ -6,23 +6,37 @@ use mathlib.Core.List.{List, [], _∷_, _++_, append-assoc, append-nil}
 use native.Mathlib.Omega.{arith}
 use native.Mathlib.Nat.{zero-add}
 use Rattle.sizes.specs.declared.Opening.{Opening}
-use Rattle.sizes.specs.Sizes.{sizesBroken}
+use Rattle.sizes.specs.Sizes.{frameSizeBroken, sizesBroken}
 use Rattle.payload.specs.declared.Reading.{Reading}
 use Rattle.payload.specs.declared.Reading.the-variants.{Idle, Unreadable, Readable}
 use Rattle.payload.specs.Transfer.{readingOf}
 use Rattle.rule_50.specs.Rule50.{rule50}
 use Rattle.session.specs.declared.Session.{Session}
 use Rattle.session.specs.Refusals.{recordBroken}
-use Rattle.session.specs.Session.{fresh, readOf, tookBy, tookOf, handedOf, handsOut}
+use Rattle.session.specs.Session.{fresh, noSession, readOf, tookBy, tookOf, handedOf, handsOut}
 use Rattle.session.specs.Call.{Call}
 use Rattle.session.specs.Calls.{Offer, refusal, next, after, callOf, unless, taken, nextCall, run}
 use Rattle.books.specs.Rule.{isOpen}
 use Rattle.books.specs.Offers.{takenIn, refusedBy, listedAs, listFrom, listOf}
-use Rattle.books.proofs.Taken.{Proper, taken-proper, after-run, next-taken, listed}
+use Rattle.books.proofs.Taken.{Proper, taken-proper, after-run, next-taken, next-refused, listed}
 use Rattle.books.proofs.Answers.{taken-more}
 use Rattle.books.proofs.Sound.{took-taken, after-opening}
 use Rattle.books.proofs.ByList.{hands-as}
 use Rattle.books.proofs.Histories.{sound-taken}
+
+-- ---- what a refused opening gives
+none-refused : (x : Offer) → refusal noSession x ≡ 50
+unfolding rule50 sizesBroken frameSizeBroken
+none-refused (Offer.take b t) = refl
+none-refused Offer.lost = refl
+none-refused Offer.close = refl
+
+none-after : (xs : List Offer) → after noSession xs ≡ noSession
+none-after [] = refl
+none-after (x ∷ xs) = ap (λ (s : Session). after s xs) (next-refused noSession x 49 (none-refused x)) ∙ none-after xs
+
+pub none-taken : (xs : List Offer) (x : Offer) → refusal (after noSession xs) x ≡ 50
+none-taken xs x = ap (λ (s : Session). refusal s x) (none-after xs) ∙ none-refused x
 
 -- ---- closed, and how many are taken
 or-false : (b : Bool) → b ≡ (b || false)

@@ -29,7 +29,7 @@ use Rattle.session.specs.declared.Closing.{Closing}
 use Rattle.refusals.specs.Refusals.{takenMost, openingFlags}
 use Rattle.session.specs.Refusals.{recordBroken, ledgerOf}
 use Rattle.session.specs.Session.{fresh, openBy, openOf, takeOf, bufferBy, bufferOf, lostOf, closeOf}
-use Rattle.books.specs.Rule.{events, isOpen, entries, numbersOf, stamps, forward, between, received}
+use Rattle.books.specs.Rule.{events, isOpen, entries, numbersOf, stamps, lastStamp, forward, between, received}
 use Rattle.books.specs.Demands.{Right, allBytes, endedItems, fateItems, Gains, Says, Whole, Film, WithoutStills}
 use Rattle.books.specs.HandedOut.{HandsOut, HandedWhole, MarkedBefore, EofFraming}
 use Rattle.books.specs.HeaderKinds.{NoLayers, ReportsNone, ClosesNoStill, AnswersNoStill}
@@ -37,8 +37,8 @@ use Rattle.books.specs.Answer.{answerOf, outcomeOf, endingOf, writtenOf}
 use Rattle.books.specs.Offers.{takenIn, refusedBy, listedAs, listOf, refusedOr, takeSays, lostSays, closeSays, takeLeaves}
 use Rattle.books.proofs.Taken.{next-refused, after-run, Proper, taken-proper, close-last}
 use Rattle.books.proofs.Sound.{after-opening}
-use Rattle.books.proofs.Histories.{accounts-taken, numbers-taken, bytes-taken, sound-taken}
-use Rattle.books.proofs.Offers.{list-is, closed-listed, taken-listed, broken-is, refused-listed}
+use Rattle.books.proofs.Histories.{accounts-taken, numbers-taken, last-taken, bytes-taken, sound-taken}
+use Rattle.books.proofs.Offers.{none-taken, list-is, closed-listed, taken-listed, broken-is, refused-listed}
 use Rattle.books.proofs.Every.{take-says, take-leaves, session-after, handed-where}
 use Rattle.books.proofs.Every as every
 use Rattle.books.proofs.Answers.{transfer-says, handed-says, lost-says, close-says}
@@ -67,6 +67,18 @@ opened o room e = go (firstFrom 45 (openingFlags o room)) refl e
     go : (k : ℕ) → firstFrom 45 (openingFlags o room) ≡ k → openBy k o .start ≡ Start.Open → (openBy k o .session ≡ fresh o) × (sizesBroken o ≡ false)
     go zero q s = let d : Down (openingFlags o room) = first-zero 45 (openingFlags o room) (omega arith) q in (refl, rw (d .0, d .1 .0))
     go (suc k) q s = absurd (no (suc k) s)
+
+-- One that is refused gives a session that refuses everything by 50, whatever is offered.
+pub refused-opening : (o : Opening) (room k : ℕ) → openOf o room .start ≡ Start.Refused k → (xs : List Offer) (x : Offer) → refusal (after (openOf o room .session) xs) x ≡ 50
+unfolding openOf
+refused-opening o room k e xs x = go (firstFrom 45 (openingFlags o room)) e
+  where
+    no : Start.Open ≡ Start.Refused k → ⊥
+    no q = let z : _≡_ {A = ℕ} 0 1 = cc in omega arith
+
+    go : (n : ℕ) → openBy n o .start ≡ Start.Refused k → refusal (after (openBy n o .session) xs) x ≡ 50
+    go zero q = absurd (no q)
+    go (suc n) q = none-taken xs x
 
 -- 1. "A refused call changes no lent byte and no session", and "refusals 50 to 53 and 55 are not part of the history".
 pub refused-session : (s : Session) (x : Offer) (k : ℕ) → refusal s x ≡ suc k → next s x ≡ s
@@ -113,6 +125,10 @@ nothing-missing o xs = bytes-taken o xs ∙ ap received (list-right o xs)
 
 pub ticks-right : (o : Opening) (xs : List Offer) → getD (ledgerOf (after (fresh o) xs) .numbers) ticksAt 0 ≡ between forward (stamps (entries o (listOf o xs)))
 ticks-right o xs = accounts-right o xs .ticks
+
+-- the ledger's last stamp, from which the next step is taken, is that of the last delivered frame that has one
+pub last-right : (o : Opening) (xs : List Offer) → ledgerOf (after (fresh o) xs) .last ≡ lastStamp (stamps (entries o (listOf o xs)))
+last-right o xs = last-taken o xs ∙ ap (λ (cs : List Call). lastStamp (stamps (entries o cs))) (list-right o xs)
 
 -- 4. Each answer is one definition of the list: a frame handed out; or what became of a frame ended, and the transfer's own fate, with number, length, stamp and layer.
 pub answer-right : (o : Opening) (xs : List Offer) (buffer t : List ℕ) → refusal (after (fresh o) xs) (Offer.take buffer t) ≡ 0

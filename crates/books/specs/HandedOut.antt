@@ -1,7 +1,7 @@
 -- Document 02, Two: what is demanded of hand-outs, the statements that proofs/Theorems.antt proves.
 use Prim.Native.Nat.{ℕ}
 use mathlib.Core.Path.{_≡_}
-use mathlib.Core.Bool.{Bool, true, false, _||_}
+use mathlib.Core.Bool.{Bool, true, false, not, _&&_, _||_}
 use mathlib.Core.List.{List, [], _∷_}
 use lib.ListN.{length, take}
 use Rattle.sizes.specs.declared.Opening.{Opening}
@@ -12,7 +12,7 @@ use Rattle.payload.specs.Transfer.{readingOf}
 use Rattle.frames.specs.declared.Fault.the-variants.{Sound}
 use Rattle.frames.specs.declared.HandOut.{HandOut}
 use Rattle.session.specs.Call.{Call}
-use Rattle.books.specs.Rule.{events, Seen, readables, runs, closes, frameOf, closed, complete, dataOf, fault}
+use Rattle.books.specs.Rule.{events, Seen, readables, runs, closes, frameOf, closed, complete, dataOf, gapAfter, fault}
 use Rattle.books.specs.Answer.{lastRun, turns, outOf}
 
 -- HANDED OUT EXACTLY WHEN, from the list alone: D1 clear, the transfer readable, the last run of the other FID and unmarked, its frame without fault so far and with
@@ -49,7 +49,8 @@ Passed o (r ∷ (q ∷ rs)) = HasMark o r × Passed o (q ∷ rs)
 abbrev pub MarkedBefore : Opening → List Call → Type 0
 MarkedBefore o cs = Passed o (runs (readables false (events o cs)))
 
--- EOF FRAMING, with D1 set: there are no marks, a transfer closes its frame by EOF alone, and a frame is complete if it has one, wherever its run stands
+-- EOF FRAMING, with D1 set: there are no marks, a transfer closes its frame by EOF alone, a frame is complete if it has one, wherever its run stands, and what is unreadable or lost after a
+-- transfer of it is a gap where that one has no EOF
 abbrev pub Unmarked : List Call → Type 0
 Unmarked [] = Unit {0}
 Unmarked (Call.transfer t ∷ cs) = Unmarked cs
@@ -65,3 +66,4 @@ pub record EofFraming (o : Opening) (cs : List Call) : Type 0 where
   pub none : Unmarked cs
   pub closing : ByEof o (readables false (events o cs))
   pub ending : (last : Bool) (ts : List Seen) → complete o last ts ≡ closed o ts
+  pub gaps : (t : Seen) → gapAfter o t ≡ (not (t .header .eof) && t .after)

@@ -317,6 +317,12 @@ abbrev pub stamps : List Entry → List ℕ
 stamps [] = []
 stamps (e ∷ es) = stampsOf e ++ stamps es
 
+-- the last of them, if there is one: from it the next step is taken
+abbrev pub lastStamp : List ℕ → Stamp
+lastStamp [] = Absent
+lastStamp (a ∷ []) = At a
+lastStamp (a ∷ b ∷ bs) = lastStamp (b ∷ bs)
+
 abbrev pub noStamp : Stamp → ℕ
 noStamp Absent = 1
 noStamp (At x) = 0
