@@ -28,7 +28,7 @@ use Rattle.ledger.specs.Ledger.{noLedger}
 use Rattle.session.specs.declared.Session.{Session}
 use Rattle.session.specs.Refusals.{postedOf, ledgerOf}
 use Rattle.session.specs.Session.{fresh}
-use Rattle.books.specs.Rule.{Event, idle, unreadable, missing, readable, mark, events, Item, entryOf, framesBy, loose, entries, lostLine, idleLine, oneIn, partIn, total, stamps, lastStamp, untimed, forward, back, between}
+use Rattle.books.specs.Rule.{Event, idle, unreadable, missing, readable, mark, events, Item, entryOf, framesBy, loose, entries, lostLine, idleLine, oneIn, partIn, total, stamps, lastStamped, untimed, forward, back, between}
 use Rattle.books.specs.Demands.{Right, endedItems, fateItems}
 use Rattle.books.proofs.Made.{base, turnItems}
 use Rattle.books.proofs.Posts.{posts-sized, since, stampIn, gain, place-law, step-law, count-gain, bytes-gain, single-gain, total-append, last-law}
@@ -255,11 +255,11 @@ module _ (o : Opening) (cs : List Call) (p : Proper (fresh o) cs) where
       ∙ ap (between f) (posted-stamps cs (fresh o) [] ∙ sym entries-stamps)
 
   -- the last stamp is kept beside the numbers
-  pub last-kept : end o cs p .rest .last ≡ lastStamp (stamps (entries o cs))
+  pub last-kept : end o cs p .rest .last ≡ lastStamped (stamps (entries o cs))
   last-kept =
       ap (λ (l : Ledger). l .last) (run-posts cs (fresh o) [])
       ∙ last-law noLedger (posted (fresh o) [] cs)
-      ∙ ap lastStamp (posted-stamps cs (fresh o) [] ∙ sym entries-stamps)
+      ∙ ap lastStamped (posted-stamps cs (fresh o) [] ∙ sym entries-stamps)
 
   -- every number is the rule's
   pub all-right : Right o cs (ledgerOf (end o cs p))

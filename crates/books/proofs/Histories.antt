@@ -11,8 +11,8 @@ use Rattle.ledger.specs.Ledger.{shownOf}
 use Rattle.session.specs.declared.Session.{Session}
 use Rattle.session.specs.Refusals.{recordBroken, ledgerOf}
 use Rattle.session.specs.Session.{fresh}
-use Rattle.session.specs.Calls.{Offer, after, taken, run}
-use Rattle.books.specs.Rule.{entries, numbersOf, stamps, lastStamp, received}
+use Rattle.session.specs.Calls.{Offer, after, taken}
+use Rattle.books.specs.Rule.{entries, numbersOf, stamps, lastStamped, received}
 use Rattle.books.specs.Demands.{Right, over, allBytes}
 use Rattle.books.proofs.Taken.{after-run, taken-proper}
 use Rattle.books.proofs.Accounts.{all-right, last-kept}
@@ -27,7 +27,7 @@ module _ (o : Opening) (xs : List Offer) where
   pub numbers-taken : ledgerOf (after (fresh o) xs) .numbers ≡ numbersOf (entries o (taken (fresh o) xs))
   numbers-taken = ap (λ (s : Session). ledgerOf s .numbers) (after-run (fresh o) xs) ∙ run-numbers o (taken (fresh o) xs) (taken-proper (fresh o) xs)
 
-  pub last-taken : ledgerOf (after (fresh o) xs) .last ≡ lastStamp (stamps (entries o (taken (fresh o) xs)))
+  pub last-taken : ledgerOf (after (fresh o) xs) .last ≡ lastStamped (stamps (entries o (taken (fresh o) xs)))
   unfolding shownOf
   last-taken = ap (λ (s : Session). s .rest .last) (after-run (fresh o) xs) ∙ last-kept o (taken (fresh o) xs) (taken-proper (fresh o) xs)
 

@@ -21,6 +21,8 @@ pub mod HandedOut
 pub mod Held
 pub mod Whole
 pub mod Print
+pub mod Alike
+pub mod Begins
 pub mod Histories
 pub mod Offers
 pub mod Every

@@ -19,7 +19,7 @@ use Rattle.ledger.specs.declared.Ledger.{Ledger}
 use Rattle.ledger.specs.Step.{aheadOf}
 use Rattle.ledger.specs.Ledger.{enteredOf, steppedOf, timedBy, timedOf, postOf}
 use Rattle.ledger.proofs.Places.{at, Sized, place-lt, plus-sized, plus-at, plus-last, entryGain, entered-sized, entered-at, entered-last, count-gains, bytes-gains, others-keep}
-use Rattle.books.specs.Rule.{lostLine, idleLine, oneIn, partIn, total, stampList, stampsOf, stamps, lastStamp, noStamp, step, forward, back, between}
+use Rattle.books.specs.Rule.{lostLine, idleLine, oneIn, partIn, total, stampList, stampsOf, stamps, lastStamped, noStamp, step, forward, back, between}
 use Rattle.ledger.specs.Accounts.{accountCount, placeOf, accountFor, countAt, bytesAt, lostAt, idleAt, ticksAt, backwardAt, untimedAt}
 
 -- ---- the time
@@ -215,12 +215,12 @@ step-law p f g l (e ∷ es) z =
     ∙ ap (at p l +_) (entry-law f (l .last) e (stamps es))
 
 -- and the last stamp, which the next step is taken from
-last-from : (a s : Stamp) (l : List ℕ) → lastStamp (from (latest a s) l) ≡ lastStamp (from a (stampList s ++ l))
+last-from : (a s : Stamp) (l : List ℕ) → lastStamped (from (latest a s) l) ≡ lastStamped (from a (stampList s ++ l))
 last-from a Absent l = refl
 last-from Absent (At b) l = refl
 last-from (At a) (At b) l = refl
 
-entry-last : (a : Stamp) (e : Entry) (l : List ℕ) → lastStamp (from (lastAfter a e) l) ≡ lastStamp (from a (stampsOf e ++ l))
+entry-last : (a : Stamp) (e : Entry) (l : List ℕ) → lastStamped (from (lastAfter a e) l) ≡ lastStamped (from a (stampsOf e ++ l))
 entry-last a (Entry.Delivered d) l = last-from a (d .stamp) l
 entry-last a (Entry.Still d) l = refl
 entry-last a (Entry.Dropped w n) l = refl
@@ -231,13 +231,13 @@ entry-last a (Entry.Headers n) l = refl
 entry-last a Entry.Lost l = refl
 entry-last a Entry.Idle l = refl
 
-last-nil : (a : Stamp) → a ≡ lastStamp (from a [])
+last-nil : (a : Stamp) → a ≡ lastStamped (from a [])
 last-nil Absent = refl
 last-nil (At x) = refl
 
-pub last-law : (l : Ledger) (es : List Entry) → posts l es .last ≡ lastStamp (from (l .last) (stamps es))
+pub last-law : (l : Ledger) (es : List Entry) → posts l es .last ≡ lastStamped (from (l .last) (stamps es))
 last-law l [] = last-nil (l .last)
-last-law l (e ∷ es) = last-law (postOf l e) es ∙ ap (λ (a : Stamp). lastStamp (from a (stamps es))) (post-last l e) ∙ entry-last (l .last) e (stamps es)
+last-law l (e ∷ es) = last-law (postOf l e) es ∙ ap (λ (a : Stamp). lastStamped (from a (stamps es))) (post-last l e) ∙ entry-last (l .last) e (stamps es)
 
 -- ---- the places of the document's accounts
 -- below them the time gains nothing

@@ -1,7 +1,7 @@
 -- THE THEOREMS, over the session's own open, take, lost and close: for every list of calls with any transfers and any lent buffers, from a fresh session, for all
 -- admissible sizes.
 use Prim.Native.Nat.{ℕ, zero, suc, _≤_}
-use mathlib.Core.Path.{_≡_, refl, sym, _∙_, ap, subst}
+use mathlib.Core.Path.{_≡_, refl, _∙_, ap, subst}
 use mathlib.Core.Bool.{Bool, true, false, not}
 use mathlib.Core.List.{List, [], _∷_, _++_, map}
 use mathlib.Core.Logic.{_↔_}
@@ -29,7 +29,7 @@ use Rattle.session.specs.declared.Closing.{Closing}
 use Rattle.refusals.specs.Refusals.{takenMost, openingFlags}
 use Rattle.session.specs.Refusals.{recordBroken, ledgerOf}
 use Rattle.session.specs.Session.{fresh, openBy, openOf, takeOf, bufferBy, bufferOf, lostOf, closeOf}
-use Rattle.books.specs.Rule.{events, isOpen, entries, numbersOf, stamps, lastStamp, forward, between, received}
+use Rattle.books.specs.Rule.{events, isOpen, entries, numbersOf, stamps, lastStamped, forward, between, received}
 use Rattle.books.specs.Demands.{Right, allBytes, endedItems, fateItems, Gains, Says, Whole, Film, WithoutStills}
 use Rattle.books.specs.HandedOut.{HandsOut, HandedWhole, MarkedBefore, EofFraming}
 use Rattle.books.specs.HeaderKinds.{NoLayers, ReportsNone, ClosesNoStill, AnswersNoStill}
@@ -127,8 +127,8 @@ pub ticks-right : (o : Opening) (xs : List Offer) → getD (ledgerOf (after (fre
 ticks-right o xs = accounts-right o xs .ticks
 
 -- the ledger's last stamp, from which the next step is taken, is that of the last delivered frame that has one
-pub last-right : (o : Opening) (xs : List Offer) → ledgerOf (after (fresh o) xs) .last ≡ lastStamp (stamps (entries o (listOf o xs)))
-last-right o xs = last-taken o xs ∙ ap (λ (cs : List Call). lastStamp (stamps (entries o cs))) (list-right o xs)
+pub last-right : (o : Opening) (xs : List Offer) → ledgerOf (after (fresh o) xs) .last ≡ lastStamped (stamps (entries o (listOf o xs)))
+last-right o xs = last-taken o xs ∙ ap (λ (cs : List Call). lastStamped (stamps (entries o cs))) (list-right o xs)
 
 -- 4. Each answer is one definition of the list: a frame handed out; or what became of a frame ended, and the transfer's own fate, with number, length, stamp and layer.
 pub answer-right : (o : Opening) (xs : List Offer) (buffer t : List ℕ) → refusal (after (fresh o) xs) (Offer.take buffer t) ≡ 0

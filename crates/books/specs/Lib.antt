@@ -5,3 +5,4 @@ pub mod Answer
 pub mod HandedOut
 pub mod HeaderKinds
 pub mod Offers
+pub mod LastReadable

@@ -1,7 +1,7 @@
 -- ANY OFFERS, from the opening and the offers alone: which are refused, and by which number (document 01, "Numbers", 50 to 53 and 55); how the others stand in the list; and what every
 -- offer answers and writes. Nothing of the session. `cs` is the list so far.
 use Prim.Native.Nat.{ℕ, zero, suc, _+_}
-use mathlib.Core.Bool.{Bool, cond, not}
+use mathlib.Core.Bool.{cond, not}
 use mathlib.Core.List.{List, [], _∷_, _++_}
 use lib.ListN.{length}
 use lib.Dec.{ltb, eqb}

@@ -318,10 +318,10 @@ stamps [] = []
 stamps (e ∷ es) = stampsOf e ++ stamps es
 
 -- the last of them, if there is one: from it the next step is taken
-abbrev pub lastStamp : List ℕ → Stamp
-lastStamp [] = Absent
-lastStamp (a ∷ []) = At a
-lastStamp (a ∷ b ∷ bs) = lastStamp (b ∷ bs)
+abbrev pub lastStamped : List ℕ → Stamp
+lastStamped [] = Absent
+lastStamped (a ∷ []) = At a
+lastStamped (a ∷ b ∷ bs) = lastStamped (b ∷ bs)
 
 abbrev pub noStamp : Stamp → ℕ
 noStamp Absent = 1

@@ -22,7 +22,7 @@ use Rattle.books.proofs.Accounts.{loose-stamped}
 use Rattle.books.proofs.Histories.{accounts-taken}
 use Rattle.steps.specs.Cut.{Middle}
 use Rattle.steps.specs.Halves.{StampHalves, EntryHalves, Job, job, framesIn, Split, billed, BillAsWhole, Halves}
-use Rattle.steps.proofs.Begins.{proper-open, proper-later, earlier, frames-from, frames-after}
+use Rattle.books.proofs.Begins.{proper-open, proper-later, earlier, frames-from, frames-after}
 
 -- ---- stamps: what is added up between neighbours, of two parts that share one
 between-shared : (f : ℕ → ℕ → ℕ) (before : List ℕ) (m : ℕ) (after : List ℕ) →

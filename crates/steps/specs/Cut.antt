@@ -1,7 +1,7 @@
 -- A job cut in two by its calls: those before the middle frame, its own, and those after it. The first half has those before and its own, the second its own
 -- and those after.
 use mathlib.Core.Path.{_≡_}
-use mathlib.Core.Bool.{Bool, true, false}
+use mathlib.Core.Bool.{false}
 use mathlib.Core.List.{List, [], _∷_}
 use Prim.Native.Nat.{ℕ}
 use Rattle.sizes.specs.declared.Opening.{Opening}
@@ -12,33 +12,8 @@ use Rattle.payload.specs.Transfer.{readingOf}
 use Rattle.frames.specs.declared.Delivery.{Delivery}
 use Rattle.ledger.specs.Entry.{Entry}
 use Rattle.session.specs.Call.{Call}
-use Rattle.books.specs.Rule.{Event, idle, unreadable, missing, readable, mark, events, Item, framesBy}
-
--- the FID of the last readable transfer, if there is one
-pub data LastFid : Type 0 where
-  none : LastFid
-  of : Bool → LastFid
-
-abbrev pub lastFid : LastFid → List Event → LastFid
-lastFid f [] = f
-lastFid f (idle ∷ es) = lastFid f es
-lastFid f (unreadable n ∷ es) = lastFid f es
-lastFid f (missing ∷ es) = lastFid f es
-lastFid f (readable h d ∷ es) = lastFid (of (h .fid)) es
-lastFid f (mark ∷ es) = lastFid f es
-
--- whether an unreadable or lost transfer has come since
-abbrev pub spoiltSince : Bool → List Event → Bool
-spoiltSince b [] = b
-spoiltSince b (idle ∷ es) = spoiltSince b es
-spoiltSince b (unreadable n ∷ es) = spoiltSince true es
-spoiltSince b (missing ∷ es) = spoiltSince true es
-spoiltSince b (readable h d ∷ es) = spoiltSince false es
-spoiltSince b (mark ∷ es) = spoiltSince b es
-
-abbrev pub Other : Bool → LastFid → Type 0
-Other f none = Unit
-Other f (of g) = g ≡ f → ⊥
+use Rattle.books.specs.Rule.{events, Item, framesBy}
+use Rattle.books.specs.LastReadable.{none, lastFid, spoiltSince, Other}
 
 -- THE MIDDLE FRAME: t and the calls `own` after it. t is readable, has another FID than the last readable transfer before it, and nothing unreadable or lost has
 -- come since that one; and the frame's calls, by themselves, are one frame, delivered and stamped (with D1 clear, its mark is among them).

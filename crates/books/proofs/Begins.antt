@@ -23,15 +23,15 @@ use Rattle.session.specs.declared.Session.{Session}
 use Rattle.session.specs.Session.{fresh, readOf, tookBy, tookOf, handsFor, handsOut, handedOf}
 use Rattle.session.specs.Call.{Call}
 use Rattle.session.specs.Calls.{nextCall, run}
 use Rattle.books.specs.Rule.{Event, eventBy, events, isOpen, Item, framesBy}
 use Rattle.books.specs.Demands.{endedItems}
 use Rattle.books.proofs.Made.{base}
 use Rattle.books.proofs.Taken.{Proper}
 use Rattle.books.proofs.History.{callItems, dataNext, items, dataRun, afoot, next-opening, turn-gap, out-gap}
 use Rattle.books.proofs.Accounts.{frames-made}
 use Rattle.books.proofs.Sound.{run-opening}
-use Rattle.steps.specs.Cut.{LastFid, none, of, lastFid, spoiltSince, Other}
-use Rattle.steps.proofs.Alike.{Alike, proper-alike, items-alike, data-alike, run-alike, run-append, data-append, items-append}
+use Rattle.books.specs.LastReadable.{LastFid, none, of, lastFid, spoiltSince, Other}
+use Rattle.books.proofs.Alike.{Alike, proper-alike, items-alike, data-alike, run-alike, run-append, data-append, items-append}
 
 -- ---- what a session knows of the transfers before: the FID of the last readable one, and whether it is spoilt since
 abbrev phaseFid : Phase → LastFid
