@@ -228,6 +228,15 @@ loose-stamped (missing ∷ es) = loose-stamped es
 loose-stamped (readable h d ∷ es) = loose-stamped es
 loose-stamped (mark ∷ es) = loose-stamped es
 
+-- what has no frame is not untimed either
+pub loose-timed : (es : List Event) → total untimed (loose es) ≡ 0
+loose-timed [] = refl
+loose-timed (idle ∷ es) = zero-add _ ∙ loose-timed es
+loose-timed (unreadable n ∷ es) = zero-add _ ∙ loose-timed es
+loose-timed (missing ∷ es) = zero-add _ ∙ loose-timed es
+loose-timed (readable h d ∷ es) = zero-add _ ∙ loose-timed es
+loose-timed (mark ∷ es) = loose-timed es
+
 afoot-stamped : (ph : Phase) (D : List ℕ) → stamps (map entryOf (afoot ph D)) ≡ []
 afoot-stamped Fresh D = refl
 afoot-stamped (Past f) D = refl

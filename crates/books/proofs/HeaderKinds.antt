@@ -1,8 +1,9 @@
--- The old kind of header reports no layer, and the VP8 kind has no stills and no mixed.
+-- The old kind of header reports no layer; the VP8 kind has no stills and no mixed, and none of its frames is untimed.
 use Prim.Native.Nat.{ℕ, zero, suc}
 use mathlib.Core.Path.{_≡_, refl, sym, _∙_, ap, subst}
 use mathlib.Core.Bool.{Bool, true, false, cond, _&&_}
-use mathlib.Core.List.{List, [], _∷_}
+use mathlib.Core.List.{List, [], _∷_, map}
+use native.Mathlib.Omega.{arith}
 use lib.ListN.{length}
 use lib.Dec.{eqb}
 use Rattle.sizes.specs.declared.Opening.{Opening}
@@ -11,20 +12,23 @@ use Rattle.payload.specs.declared.Header.{Header}
 use Rattle.payload.specs.declared.Stamp.{Stamp}
 use Rattle.payload.specs.declared.Layer.{Layer}
 use Rattle.payload.proofs.OldKind.{no-layer}
-use Rattle.payload.proofs.Vp8.{no-still}
+use Rattle.payload.proofs.Vp8.{no-still, its-stamp}
 use Rattle.frames.specs.declared.Reason.the-variants.{Empty}
 use Rattle.frames.specs.declared.Fault.{Fault}
 use Rattle.frames.specs.declared.Fault.the-variants.{Sound, Bad}
 use Rattle.frames.specs.declared.Ended.{Ended}
 use Rattle.frames.specs.declared.HandOut.{HandOut}
+use Rattle.ledger.specs.declared.Ledger.{Ledger}
 use Rattle.ledger.specs.Entry.{Entry}
 use Rattle.session.specs.Call.{Call}
 use Rattle.session.specs.Calls.{Offer, refusal, after, taken}
 use Rattle.session.specs.Session.{fresh, takeOf, closeBy, closeOf}
-use Rattle.books.specs.Rule.{events, Seen, frameOf, complete, dataOf, firstStamp, _thenLayer_, lastLayer, stillOf, fault, handedOut, verdict}
+use Rattle.books.specs.Rule.{events, Seen, frameOf, complete, dataOf, _orStamp_, firstStamp, _thenLayer_, lastLayer, stillOf, fault, handedOut, verdict, loose, entryOf, framesBy, total, noStamp, untimed}
 use Rattle.books.specs.Answer.{lastRun, frameEntry, reasonIn, fateIn}
-use Rattle.books.specs.Demands.{EachHeader, FilmHeader, Film, NoStill}
-use Rattle.books.specs.HeaderKinds.{NoLayer, NoLayers, FateNoLayer, ReportsNone, FateNoStill, EndedNotMixed, ClosesNoStill, AnswersNoStill}
+use Rattle.books.specs.Demands.{Right, EachHeader, EachEntry, FilmHeader, Film, NoStill}
+use Rattle.books.specs.HeaderKinds.{NoLayer, NoLayers, Timed, AllTimed, FateNoLayer, ReportsNone, FateNoStill, EndedNotMixed, ClosesNoStill, AnswersNoStill}
+use Rattle.books.proofs.Posts.{total-append}
+use Rattle.books.proofs.Accounts.{loose-timed}
 use Rattle.books.proofs.ByList.{close-answers}
 use Rattle.books.proofs.Each.{EachSeen, last-frame, read-each, frames-each, close-each, takes-each}
 use Rattle.books.proofs.Stills.{still-clear, judged-film}
@@ -77,6 +81,50 @@ module _ (o : Opening) (old : o .kind ≡ Old) where
   reports-none =
       takes-each o (λ (e : Ended). Unit {0}) NoLayer tt (λ e q. tt) frame-none (λ (f : HandOut). f .delivery .layer ≡ Layer.Absent) FateNoLayer
       (λ cs. layer-none (frameOf o (lastRun o cs)) (last-frame Layerless o cs (layerless cs))) fate-none tt tt (λ k. tt)
+
+-- ---- the VP8 kind: always a stamp
+abbrev Stamped : Header → Type 0
+Stamped h = noStamp (h .stamp) ≡ 0
+
+first-stamped : (s r : Stamp) → noStamp s ≡ 0 → noStamp (s orStamp r) ≡ 0
+first-stamped Stamp.Absent r e = absurd (omega arith)
+first-stamped (Stamp.At x) r e = refl
+
+verdict-timed : (w c : Bool) (q : Fault) (s : Stamp) (y : Layer) (b : Bool) (n : ℕ) → noStamp s ≡ 0 → Timed (verdict w c q s y b n)
+verdict-timed w true (Bad k) s y b n e = refl
+verdict-timed w true Sound s y b n e = go (eqb n 0) b
+  where
+    go : (c b : Bool) → Timed (cond c (Entry.Dropped Empty n) (handedOut b (record { len = n; stamp = s; layer = y })))
+    go true b = refl
+    go false true = refl
+    go false false = e
+verdict-timed true false q s y b n e = refl
+verdict-timed false false (Bad k) s y b n e = refl
+verdict-timed false false Sound s y b n e = refl
+
+-- a frame of no transfer has no data, and is not delivered
+empty-timed : (o : Opening) (way c : Bool) → Timed (verdict way c (fault o []) Stamp.Absent Layer.Absent false 0)
+empty-timed o true true = refl
+empty-timed o false true = refl
+empty-timed o true false = refl
+empty-timed o false false = refl
+
+judged-timed : (o : Opening) (way c : Bool) (f : List Seen) → EachSeen Stamped f → Timed (verdict way c (fault o f) (firstStamp f) (lastLayer f) (stillOf f) (length (dataOf f)))
+judged-timed o way c [] k = empty-timed o way c
+judged-timed o way c (t ∷ ts) k =
+    let f : List Seen = t ∷ ts in
+    verdict-timed way c (fault o f) (firstStamp f) (lastLayer f) (stillOf f) (length (dataOf f)) (first-stamped (t .header .stamp) (firstStamp ts) (k .0))
+
+none-untimed : (es : List Entry) → EachEntry Timed es → total untimed es ≡ 0
+none-untimed [] f = refl
+none-untimed (e ∷ es) f = omega (arith, f .0, none-untimed es (f .1))
+
+pub all-timed : (o : Opening) → o .kind ≡ Vp8 → (cs : List Call) (l : Ledger) → Right o cs l → AllTimed o cs l
+all-timed o vp8 cs l r =
+    let f : EachEntry Timed (map entryOf (framesBy o cs)) =
+    frames-each Stamped o Timed (judged-timed o) (λ n. refl) cs (read-each Stamped o (λ t h e. ap noStamp (its-stamp o t h vp8 e)) cs) in
+    let n = total-append untimed (map entryOf (framesBy o cs)) (loose (events o cs)) in
+    record { frames = f; number = r .plain ∙ omega (arith, none-untimed (map entryOf (framesBy o cs)) f, loose-timed (events o cs)) }
 
 -- ---- the VP8 kind: no still bit
 fate-film : (e : Entry) → NoStill e → FateNoStill (fateIn e)

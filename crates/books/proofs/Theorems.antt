@@ -15,7 +15,9 @@ use Rattle.sizes.specs.declared.Opening.{Opening}
 use Rattle.sizes.specs.declared.HeaderKind.the-variants.{Old, Vp8}
 use Rattle.sizes.specs.Framing.{byEof}
 use Rattle.payload.specs.OldKind.{OldKind}
+use Rattle.payload.specs.Vp8Kind.{Vp8Kind}
 use Rattle.payload.proofs.OldKind as old
+use Rattle.payload.proofs.Vp8Kind as vp8
 use Rattle.frames.specs.declared.Answer.{Answer}
 use Rattle.frames.specs.declared.Delivery.{Delivery}
 use Rattle.frames.specs.declared.Ended.{Ended}
@@ -32,7 +34,7 @@ use Rattle.session.specs.Session.{fresh, openBy, openOf, takeOf, bufferBy, buff
 use Rattle.books.specs.Rule.{events, isOpen, entries, numbersOf, stamps, lastStamped, forward, between, received}
 use Rattle.books.specs.Demands.{Right, allBytes, endedItems, fateItems, Gains, Says, Whole, Film, WithoutStills}
 use Rattle.books.specs.HandedOut.{HandsOut, HandedWhole, MarkedBefore, EofFraming}
-use Rattle.books.specs.HeaderKinds.{NoLayers, ReportsNone, ClosesNoStill, AnswersNoStill}
+use Rattle.books.specs.HeaderKinds.{NoLayers, AllTimed, ReportsNone, ClosesNoStill, AnswersNoStill}
 use Rattle.books.specs.Answer.{answerOf, outcomeOf, endingOf, writtenOf}
 use Rattle.books.specs.Offers.{takenIn, refusedBy, listedAs, listOf, refusedOr, takeSays, lostSays, closeSays, takeLeaves}
 use Rattle.books.proofs.Taken.{next-refused, after-run, Proper, taken-proper, close-last}
@@ -48,7 +50,7 @@ use Rattle.books.proofs.HandedOut as out
 use Rattle.books.proofs.Whole.{delivered-whole}
 use Rattle.books.proofs.Whole as buffers
 use Rattle.books.proofs.Stills.{without-stills}
-use Rattle.books.proofs.HeaderKinds.{no-layers, reports-none, all-film, answers-no-still, closes-no-still}
+use Rattle.books.proofs.HeaderKinds.{no-layers, reports-none, all-timed, all-film, answers-no-still, closes-no-still}
 use Rattle.books.proofs.Samples.{opening, transfers, printed, by-rule, by-session}
 use Rattle.ledger.specs.Accounts.{ticksAt}
 use Rattle.sizes.specs.Sizes.{sizesBroken}
@@ -250,6 +252,10 @@ old-kind o xs e = (old.old-kind o e, no-layers o e (taken (fresh o) xs))
 
 pub old-kind-answers : (o : Opening) (xs : List Offer) (buffer t : List ℕ) → o .kind ≡ Old → ReportsNone (takeOf (after (fresh o) xs) (length buffer) t .outcome)
 old-kind-answers o xs buffer t e = reports-none o e xs buffer t
+
+-- With the VP8 kind each parameter of the reading is document 02's, and since every readable transfer has a stamp, no frame is untimed: not in the list, and not by the ledger's number.
+pub vp8-kind : (o : Opening) (xs : List Offer) → o .kind ≡ Vp8 → Vp8Kind o × AllTimed o (listOf o xs) (ledgerOf (after (fresh o) xs))
+vp8-kind o xs e = (vp8.vp8-kind o e, all-timed o e (listOf o xs) (ledgerOf (after (fresh o) xs)) (accounts-right o xs))
 
 -- "D5 marks an intra frame there, so this kind has no stills and no mixed": not in the list, not in the accounts, and not by any take or close.
 pub vp8-stills : (o : Opening) (xs : List Offer) → o .kind ≡ Vp8 → WithoutStills o (taken (fresh o) xs) (ledgerOf (after (fresh o) xs))

@@ -2,6 +2,7 @@
 use mathlib.Core.Path.{_≡_}
 use mathlib.Core.Bool.{false}
 use mathlib.Core.List.{List, map}
+use lib.ListN.{getD}
 use Rattle.sizes.specs.declared.Opening.{Opening}
 use Rattle.payload.specs.declared.Layer.{Layer}
 use Rattle.frames.specs.declared.Reason.the-variants.{Mixed}
@@ -9,11 +10,13 @@ use Rattle.frames.specs.declared.Ended.{Ended}
 use Rattle.frames.specs.declared.Ended.the-variants.{Nothing, Frame}
 use Rattle.frames.specs.declared.Fate.{Fate}
 use Rattle.frames.specs.declared.HandOut.{HandOut}
+use Rattle.ledger.specs.declared.Ledger.{Ledger}
+use Rattle.ledger.specs.Accounts.{untimedAt}
 use Rattle.ledger.specs.Entry.{Entry}
 use Rattle.session.specs.declared.Closing.{Closing}
 use Rattle.session.specs.declared.Outcome.{Outcome}
 use Rattle.session.specs.Call.{Call}
-use Rattle.books.specs.Rule.{entryOf, framesBy}
+use Rattle.books.specs.Rule.{entryOf, framesBy, untimed}
 use Rattle.books.specs.Demands.{EachEntry}
 
 -- NO LAYER IS REPORTED: no delivered frame and no still of the list has one
@@ -30,6 +33,14 @@ NoLayer Entry.Idle = Unit {0}
 
 abbrev pub NoLayers : Opening → List Call → Type 0
 NoLayers o cs = EachEntry NoLayer (map entryOf (framesBy o cs))
+
+-- NONE IS UNTIMED: no delivered frame of the list is without a stamp, and the ledger's number is 0
+abbrev pub Timed : Entry → Type 0
+Timed e = untimed e ≡ 0
+
+pub record AllTimed (o : Opening) (cs : List Call) (l : Ledger) : Type 0 where
+  pub frames : EachEntry Timed (map entryOf (framesBy o cs))
+  pub number : getD (l .numbers) untimedAt 0 ≡ 0
 
 -- what holds of a take's outcome: of the frame that it hands out; or of the frame that it ends, and of the transfer's own fate
 abbrev pub OutcomeHas : (HandOut → Type 0) → (Ended → Type 0) → (Fate → Type 0) → Outcome → Type 0

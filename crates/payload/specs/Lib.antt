@@ -1,3 +1,4 @@
 pub mod Layouts
 pub mod Transfer
 pub mod OldKind
+pub mod Vp8Kind

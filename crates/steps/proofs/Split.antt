@@ -1,10 +1,10 @@
 -- A job split at a middle frame.
 use Prim.Native.Nat.{ℕ, _+_}
-use mathlib.Core.Path.{_≡_, refl, ap, _∙_, subst}
+use mathlib.Core.Path.{_≡_, ap, _∙_, subst}
 use mathlib.Core.Bool.{true}
 use mathlib.Core.List.{List, [], _∷_, _++_, map, append-nil}
 use native.Mathlib.Omega.{arith}
-use native.Mathlib.Nat.{zero-add, add-zero}
+use native.Mathlib.Nat.{add-zero}
 use Rattle.sizes.specs.declared.Opening.{Opening}
 use Rattle.payload.specs.declared.Stamp.{Stamp}
 use Rattle.payload.specs.declared.Stamp.the-variants.{At}
@@ -14,11 +14,11 @@ use Rattle.ledger.specs.Entry.{Entry}
 use Rattle.session.specs.Session.{fresh}
 use Rattle.session.specs.Call.{Call}
 use Rattle.session.specs.Calls.{Offer, taken}
-use Rattle.books.specs.Rule.{Event, idle, unreadable, missing, readable, mark, Item, events, isOpen, loose, entryOf, entries, framesBy, total, stamps, stampList, untimed, noStamp, forward, back, between}
+use Rattle.books.specs.Rule.{Event, Item, events, isOpen, loose, entryOf, entries, framesBy, total, stamps, stampList, untimed, noStamp, forward, back, between}
 use Rattle.books.proofs.Taken.{Proper, taken-proper}
 use Rattle.books.proofs.Posts.{total-append}
 use Rattle.books.proofs.History.{map-append, stamps-append}
-use Rattle.books.proofs.Accounts.{loose-stamped}
+use Rattle.books.proofs.Accounts.{loose-stamped, loose-timed}
 use Rattle.books.proofs.Histories.{accounts-taken}
 use Rattle.steps.specs.Cut.{Middle}
 use Rattle.steps.specs.Halves.{StampHalves, EntryHalves, Job, job, framesIn, Split, billed, BillAsWhole, Halves}
@@ -58,15 +58,7 @@ module _ (before after : List Entry) (d : Delivery) (s : ℕ) (e : d .stamp ≡ 
   of-entries : EntryHalves before middle after
   of-entries = record { ticks = shared forward; backward = shared back; plain = plain }
 
--- ---- jobs: what has no frame has no stamp and is not untimed
-loose-timed : (es : List Event) → total untimed (loose es) ≡ 0
-loose-timed [] = refl
-loose-timed (idle ∷ es) = zero-add _ ∙ loose-timed es
-loose-timed (unreadable n ∷ es) = zero-add _ ∙ loose-timed es
-loose-timed (missing ∷ es) = zero-add _ ∙ loose-timed es
-loose-timed (readable h d ∷ es) = zero-add _ ∙ loose-timed es
-loose-timed (mark ∷ es) = loose-timed es
-
+-- ---- jobs
 -- a job's time, from the entries of its frames alone
 record Timed (j : Job) (es : List Entry) : Type 0 where
   ticks : billed j ticksAt ≡ between forward (stamps es)
