@@ -95,9 +95,9 @@ module _ (o : Opening) (xs : List Offer) where
       go false e = sound-taken o xs e
 
   refusal-is : (x : Offer) → refusal here x ≡ refusedBy o cs x
-  refusal-is (Offer.take b t) = rw (broken-is, closed-is, taken-is, after-opening o xs)
-  refusal-is Offer.lost = rw (broken-is, closed-is, taken-is)
-  refusal-is Offer.close = rw (broken-is, closed-is)
+  refusal-is (Offer.take b t) = rw (broken-is, closed-is, taken-is, after-opening o xs) refl
+  refusal-is Offer.lost = rw (broken-is, closed-is, taken-is) refl
+  refusal-is Offer.close = rw (broken-is, closed-is) refl
 
   -- how an offer stands in the list
   called : (x : Offer) → refusal here x ≡ 0 → callOf here x ≡ listedAs o cs x
