@@ -3,6 +3,7 @@
 //! A case is a byte that names its kind, and what follows. Numbers are little-endian; a part is a length of four bytes and that many bytes.
 //!   C control    part block
 //!   M map        part block, byte ID
+//!   N whole map  as M; after it the map's length, whether the places behind it are zero, and the revision
 //!   S streaming  part control block, part streaming block: the table of a refused control block is used all the same
 //!   H hostile    byte count, byte revision, 32 entities (byte ID, byte kind, two bytes type, two bytes offset), part streaming block
 //!   P check      part control block, part streaming block, part probe block
@@ -12,20 +13,24 @@
 //!   K pick       part configuration, byte interface number, four bytes payload size
 //!   T calls      four bytes frame size, four bytes payload size, byte framing, byte header kind, part buffer, four bytes number of calls, and
 //!                each call: byte 0 and part transfer, byte 1 (lost), byte 2 (close)
+//!   E whole      as T; after it the session's record
+//!   B room       as E, with four bytes length of a room of zeros in place of the buffer, and the room's hash after the last four calls alone
 //!   F forged     session record, part buffer, part transfer
+//!   G from       session record, part buffer, four bytes number of calls, and the calls as in T; told as in E
 //!   U settings   byte 0 build: part control block, bytes interface, unit, setting and request (places of their names), part room
 //!                byte 1 read: part control block, byte interface, part bytes
 //!                byte 2 nearest: byte setting, two bytes each minimum, maximum, step and wanted
 //!   A header kind is 0 for the old one and 1 for VP8.
 //! The record: eight bytes frame size, eight bytes payload size, byte framing, byte header kind, byte closed, four bytes taken, the phase, byte gap,
 //! 31 numbers of eight bytes, the last stamp. A stamp: byte present and four bytes. A layer: byte present and two bytes. The phase: byte 0 fresh;
-//! 1 under way and byte FID, byte fault (0 none, 1 gap to 6 empty), eight bytes data so far, eight bytes fill, the stamp, byte still, the layer;
+//! 1 under way and byte FID, byte fault (0 none, 1 gap to 6 empty, 9 mixed), eight bytes data so far, eight bytes fill, the stamp, byte still, the layer;
 //! 2 past a frame and byte FID.
 
 use crate::configuration;
 use crate::control::{self, Revision};
 use crate::frames::{Call, Opening};
-use crate::session::{self, Phase, Record};
+use crate::records::{self, Phase, Record};
+use crate::session::{self, Told};
 use crate::setup::{self, REQUESTS, SETTINGS};
 use crate::streaming::{self, Place, Table};
 use crate::Refusal;
@@ -35,6 +40,7 @@ use std::fmt::Write;
 pub enum Case {
     Control(Vec<u8>),
     Map(Vec<u8>, u8),
+    WholeMap(Vec<u8>, u8),
     Streaming(Vec<u8>, Vec<u8>),
     Hostile(u8, Revision, Vec<Place>, Vec<u8>),
     Check(Vec<u8>, Vec<u8>, Vec<u8>),
@@ -42,7 +48,10 @@ pub enum Case {
     Configuration(Vec<u8>),
     Pick(Vec<u8>, u8, u32),
     Calls { opening: Opening, buffer: Vec<u8>, calls: Vec<Call> },
+    Whole { opening: Opening, buffer: Vec<u8>, calls: Vec<Call> },
+    Room { opening: Opening, room: usize, calls: Vec<Call> },
     Forged(Record, Vec<u8>, Vec<u8>),
+    From(Record, Vec<u8>, Vec<Call>),
     Build { control: Vec<u8>, interface: u8, unit: u8, setting: usize, request: usize, room: Vec<u8> },
     ReadBack(Vec<u8>, u8, Vec<u8>),
     Nearest(usize, [u16; 4]),
@@ -82,11 +91,33 @@ fn record(out: &mut Vec<u8>, r: &Record) {
     stamp(out, r.last);
 }
 
+fn opening(out: &mut Vec<u8>, o: &Opening) {
+    out.extend((o.frame as u32).to_le_bytes());
+    out.extend((o.payload as u32).to_le_bytes());
+    out.extend([o.framing, o.kind as u8]);
+}
+
+fn list(out: &mut Vec<u8>, calls: &[Call]) {
+    out.extend((calls.len() as u32).to_le_bytes());
+    for call in calls {
+        match call {
+            Call::Transfer(t) => {
+                out.push(0);
+                part(out, t);
+            }
+            Call::Lost => out.push(1),
+            Call::Close => out.push(2),
+            Call::Mark => unreachable!("no caller asks for a mark"),
+        }
+    }
+}
+
 impl Case {
     pub fn kind(&self) -> char {
         match self {
             Case::Control(_) => 'C',
             Case::Map(..) => 'M',
+            Case::WholeMap(..) => 'N',
             Case::Streaming(..) => 'S',
             Case::Hostile(..) => 'H',
             Case::Check(..) => 'P',
@@ -94,7 +125,10 @@ impl Case {
             Case::Configuration(_) => 'D',
             Case::Pick(..) => 'K',
             Case::Calls { .. } => 'T',
+            Case::Whole { .. } => 'E',
+            Case::Room { .. } => 'B',
             Case::Forged(..) => 'F',
+            Case::From(..) => 'G',
             Case::Build { .. } | Case::ReadBack(..) | Case::Nearest(..) => 'U',
         }
     }
@@ -102,7 +136,7 @@ impl Case {
     /// How many calls the case makes on a session.
     pub fn calls(&self) -> usize {
         match self {
-            Case::Calls { calls, .. } => calls.len(),
+            Case::Calls { calls, .. } | Case::Whole { calls, .. } | Case::Room { calls, .. } | Case::From(_, _, calls) => calls.len(),
             Case::Forged(..) => 3,
             _ => 0,
         }
@@ -112,7 +146,7 @@ impl Case {
         let mut out = vec![self.kind() as u8];
         match self {
             Case::Control(block) => part(&mut out, block),
-            Case::Map(block, id) => {
+            Case::Map(block, id) | Case::WholeMap(block, id) => {
                 part(&mut out, block);
                 out.push(*id);
             }
@@ -145,23 +179,20 @@ impl Case {
                 out.push(*interface);
                 out.extend(payload.to_le_bytes());
             }
-            Case::Calls { opening, buffer, calls } => {
-                out.extend((opening.frame as u32).to_le_bytes());
-                out.extend((opening.payload as u32).to_le_bytes());
-                out.extend([opening.framing, opening.kind as u8]);
+            Case::Calls { opening, buffer, calls } | Case::Whole { opening, buffer, calls } => {
+                self::opening(&mut out, opening);
                 part(&mut out, buffer);
-                out.extend((calls.len() as u32).to_le_bytes());
-                for call in calls {
-                    match call {
-                        Call::Transfer(t) => {
-                            out.push(0);
-                            part(&mut out, t);
-                        }
-                        Call::Lost => out.push(1),
-                        Call::Close => out.push(2),
-                        Call::Mark => unreachable!("no caller asks for a mark"),
-                    }
-                }
+                list(&mut out, calls);
+            }
+            Case::Room { opening, room, calls } => {
+                self::opening(&mut out, opening);
+                out.extend((*room as u32).to_le_bytes());
+                list(&mut out, calls);
+            }
+            Case::From(r, buffer, calls) => {
+                record(&mut out, r);
+                part(&mut out, buffer);
+                list(&mut out, calls);
             }
             Case::Forged(r, buffer, transfer) => {
                 record(&mut out, r);
@@ -192,10 +223,12 @@ impl Case {
     pub fn answer(&self) -> String {
         match self {
             Case::Control(block) => control_answer(block),
-            Case::Map(block, id) => match control::map(block, *id) {
-                Ok(bytes) => controls(&bytes),
-                Err(r) => format!("map refused {} at {}\n", r.number, r.offset),
-            },
+            Case::Map(block, id) => map_answer(block, *id),
+            Case::WholeMap(block, id) => {
+                let bytes = control::map(block, *id).unwrap_or_default();
+                let revision = table(block).revision.name();
+                format!("{}length {}\nrest zero\nrevision {revision}\n", map_answer(block, *id), bytes.len())
+            }
             Case::Streaming(control, block) => streaming_answer(&table(control), block),
             Case::Hostile(count, revision, places, block) => {
                 streaming_answer(&Table { revision: *revision, count: *count as usize, places: places.clone() }, block)
@@ -207,8 +240,11 @@ impl Case {
                 Ok(x) => format!("pick {} {}\n", x.number, x.bytes),
                 Err(r) => format!("pick refused {} at {}\n", r.number, r.offset),
             },
-            Case::Calls { opening, buffer, calls } => session::calls(opening, buffer, calls),
-            Case::Forged(r, buffer, transfer) => session::forged(r, buffer, transfer),
+            Case::Calls { opening, buffer, calls } => session::calls(opening, buffer, calls, Told::Plain),
+            Case::Whole { opening, buffer, calls } => session::calls(opening, buffer, calls, Told::Whole),
+            Case::Room { opening, room, calls } => session::calls(opening, &vec![0; *room], calls, Told::Room),
+            Case::Forged(r, buffer, transfer) => records::forged(r, buffer, transfer),
+            Case::From(r, buffer, calls) => records::follow(r, buffer, calls, Told::Whole),
             Case::Build { control, interface, unit, setting, request, room } => {
                 let mut room = room.clone();
                 let built = setup::build(control, *interface, *unit, SETTINGS[*setting], REQUESTS[*request], &mut room);
@@ -220,6 +256,13 @@ impl Case {
             },
             Case::Nearest(setting, words) => nearest_answer(SETTINGS[*setting], words),
         }
+    }
+}
+
+fn map_answer(block: &[u8], id: u8) -> String {
+    match control::map(block, id) {
+        Ok(bytes) => controls(&bytes),
+        Err(r) => format!("map refused {} at {}\n", r.number, r.offset),
     }
 }
 

@@ -1,6 +1,7 @@
 //! Runs a program on fresh cases, and compares what it prints with the second reader's answers.
 
 use crate::cases::Case;
+use crate::corpus;
 use crate::random::{self, Random};
 use std::io::{Read, Write};
 use std::process::{Command, Stdio};
@@ -42,7 +43,8 @@ fn difference(first: usize, cases: &[Case], wanted: &[String], printed: &[u8]) -
     for (i, (case, want)) in cases.iter().zip(wanted).enumerate() {
         let got = of_case(printed, i + 1);
         if got != *want {
-            let hex = crate::session::hex(&case.bytes());
+            let bytes = case.bytes();
+            let hex = crate::session::hex(&bytes[..bytes.len().min(20_000)]);
             let place = want.lines().zip(got.lines()).position(|(a, b)| a != b).unwrap_or(0);
             return format!(
                 "case {} (kind {}) differs, first in line {}\nthe case: {hex}\nthe second reader:\n{want}the program:\n{got}",
@@ -58,9 +60,13 @@ fn difference(first: usize, cases: &[Case], wanted: &[String], printed: &[u8]) -
 pub fn run(count: usize, seed: u64, command: &[&str]) -> Result<(), String> {
     let mut r = Random(seed);
     let mut calls = 0;
+    // First those that are too large to be stored.
+    let mut next = corpus::calls::rooms();
+    let count = count + next.len();
     let mut done = 0;
     while done < count {
-        let cases: Vec<Case> = (0..BATCH.min(count - done)).map(|_| random::case(&mut r, CALLS)).collect();
+        let fresh = |r: &mut Random| (0..BATCH.min(count - done)).map(|_| random::case(r, CALLS)).collect();
+        let cases: Vec<Case> = if next.is_empty() { fresh(&mut r) } else { std::mem::take(&mut next) };
         let wanted = expected(&cases);
         let printed = output(command, cases.iter().flat_map(Case::bytes).collect())?;
         if printed != wanted.concat().into_bytes() {

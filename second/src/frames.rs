@@ -1,5 +1,7 @@
 //! The frame rule from the whole list: at every call the list of calls taken is judged anew from its beginning.
 
+use crate::records::or_dash;
+
 #[derive(Clone, Debug, PartialEq)]
 pub enum Call {
     Transfer(Vec<u8>),
@@ -129,8 +131,13 @@ pub struct Judged {
     pub places: Vec<usize>,
     pub becomes: Becomes,
     pub bytes: usize,
-    /// How many of its transfers, from the first, come before any fault (their data is written).
+    /// How many of its transfers, from the first, come before any fault (their data is written), and how much data that is.
     pub written: usize,
+    pub fill: usize,
+    pub fid: bool,
+    pub still: bool,
+    pub fault: Option<Reason>,
+    pub delivery: Delivery,
 }
 
 #[derive(Clone, Debug, Default)]
@@ -141,6 +148,8 @@ pub struct Verdict {
     pub headers: Vec<usize>,
     pub idle: u64,
     pub lost: u64,
+    /// An unreadable or lost transfer came since the last readable one.
+    pub gap: bool,
 }
 
 pub fn judge(calls: &[Call], opening: &Opening) -> Verdict {
@@ -201,6 +210,7 @@ pub fn judge(calls: &[Call], opening: &Opening) -> Verdict {
             }
         }
     }
+    v.gap = spoilt;
     let mut runs: Vec<Vec<Piece>> = Vec::new();
     for p in pieces {
         match runs.last_mut() {
@@ -258,7 +268,18 @@ fn one(frame: &[Piece], frame_size: usize, complete: bool, over: bool) -> Judged
         (false, Some((_, r))) => Becomes::Dropped(r),
         (false, None) => Becomes::Dropped(Reason::Cut),
     };
-    Judged { places: frame.iter().map(|p| p.place).collect(), becomes, bytes: size, written: fault.map_or(frame.len(), |(i, _)| i) }
+    let written = fault.map_or(frame.len(), |(i, _)| i);
+    Judged {
+        places: frame.iter().map(|p| p.place).collect(),
+        becomes,
+        bytes: size,
+        written,
+        fill: frame[..written.min(frame.len())].iter().map(|p| p.data).sum(),
+        fid: frame[0].fid,
+        still: frame[0].still,
+        fault: fault.map(|(_, r)| r),
+        delivery,
+    }
 }
 
 /// The ledger's numbers in the order of print.
@@ -297,7 +318,7 @@ pub fn ledger(v: &Verdict) -> Vec<u64> {
 }
 
 /// Later minus earlier modulo 2^32, read as signed from -2^31 to 2^31 - 1.
-fn step(earlier: u32, later: u32) -> i64 {
+pub fn step(earlier: u32, later: u32) -> i64 {
     let n = (i64::from(later) - i64::from(earlier)).rem_euclid(1 << 32);
     if n < 1 << 31 {
         n
@@ -385,10 +406,6 @@ pub fn hand_out(calls: &[Call], old: &Verdict, transfer: &[u8], opening: &Openin
     let marked = judge(&[calls, &[Call::Mark]].concat(), opening);
     let frame = marked.frames.last()?;
     handed_out(frame.becomes, frame.bytes)
-}
-
-fn or_dash<T: ToString>(number: Option<T>) -> String {
-    number.map_or("-".into(), |n| n.to_string())
 }
 
 fn data(call: &Call) -> &[u8] {

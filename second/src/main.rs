@@ -16,6 +16,7 @@ mod frames;
 mod printed;
 mod programs;
 mod random;
+mod records;
 mod session;
 mod setup;
 mod streaming;

@@ -5,7 +5,7 @@ use crate::cases::{table, Case};
 use crate::configurations;
 use crate::control::Revision;
 use crate::frames::{Call, HeaderKind, Opening};
-use crate::session::{Phase, Record};
+use crate::records::{Phase, Record, FAULTS};
 use crate::setup::{self, REQUESTS, SETTINGS};
 use crate::streaming::Place;
 
@@ -472,7 +472,43 @@ fn calls(r: &mut Random, most: usize) -> Case {
         0 => frame.saturating_sub(1).min(300),
         _ => frame.min(300) + r.below(8),
     };
-    Case::Calls { opening, buffer: r.bytes(room), calls: list(r, &opening, most) }
+    let buffer = r.bytes(room);
+    let calls = list(r, &opening, most);
+    if r.once_in(4) {
+        return Case::Calls { opening, buffer, calls };
+    }
+    Case::Whole { opening, buffer, calls }
+}
+
+/// A list of calls with a large room: frames of a few long transfers, around a frame size of over 70,000 bytes; now and then the largest.
+fn room(r: &mut Random) -> Case {
+    let kind = r.pick(&HeaderKind::ALL);
+    let frame = match r.below(4) {
+        0 => 16_777_216 + r.below(2),
+        1 => 70_001 + r.below(100_000),
+        _ => 65_520 * (2 + r.below(3)) + r.below(3),
+    };
+    let room = (frame + r.below(90)).saturating_sub(r.below(3)).min(16_777_300);
+    let opening = Opening { frame, payload: 65_536, framing: framing(r), kind };
+    let mut fid = 0u8;
+    let mut calls = Vec::new();
+    for _ in 0..r.below(12) {
+        let eof = if r.once_in(4) { blocks::EOF } else { 0 };
+        let size = r.pick(&[65_520, 65_520, 65_519, 65_522, 1_000, 1, 0]);
+        let data = r.bytes(size);
+        let t = Call::Transfer(readable(r, kind, fid | eof, 7, &data));
+        if !opening.sends_eof() {
+            calls.push(t.clone());
+        }
+        calls.push(t);
+        if r.once_in(4) {
+            fid ^= 1;
+        }
+        if r.once_in(12) {
+            calls.push(r.pick(&[Call::Lost, Call::Transfer(vec![2]), Call::Transfer(vec![0; 65_537]), Call::Close]));
+        }
+    }
+    Case::Room { opening, room, calls }
 }
 
 /// Up to `most` calls and some more: frames of a few transfers, with every fault now and then.
@@ -584,7 +620,7 @@ pub fn record(r: &mut Random) -> Record {
     let n = u64::from(taken);
     let frame = 1 + r.below(40) as u64;
     let fill = r.below(frame as usize + 1) as u64;
-    let fault = if r.once_in(2) { 0 } else { r.below(7) as u8 };
+    let fault = if r.once_in(2) { 0 } else { r.pick(&FAULTS) };
     let stamp = r.pick(&[None, Some(7), Some(8)]);
     let phase = match r.below(4) {
         0 => Phase::Fresh,
@@ -677,6 +713,18 @@ fn forged(r: &mut Random) -> Case {
     Case::Forged(it, buffer, transfer)
 }
 
+/// A list of calls from a record on, which mostly holds.
+fn from(r: &mut Random, most: usize) -> Case {
+    let mut it = record(r);
+    while (it.broken() || it.closed) && !r.once_in(10) {
+        it = record(r);
+    }
+    let room = (it.frame as usize).min(100) + r.below(4);
+    let buffer = r.bytes(room);
+    let calls = list(r, &it.opening(), most.min(40));
+    Case::From(it, buffer, calls)
+}
+
 /// A control block with units, and an interface, a unit, a setting and a request, most of them such that a packet is built.
 pub fn asked(r: &mut Random) -> (Vec<u8>, u8, u8, usize, usize) {
     let block = match r.below(8) {
@@ -756,7 +804,10 @@ pub fn case(r: &mut Random, most: usize) -> Case {
         3 => {
             let block = if r.once_in(5) { maybe_damaged_control(r) } else { control(r) };
             let id = if r.once_in(4) { r.byte() } else { 1 + r.below(8) as u8 };
-            Case::Map(block, id)
+            if r.once_in(4) {
+                return Case::Map(block, id);
+            }
+            Case::WholeMap(block, id)
         }
         4..=5 => {
             let control = linked_control(r);
@@ -771,7 +822,9 @@ pub fn case(r: &mut Random, most: usize) -> Case {
             Case::Check(control, block, probe)
         }
         9 => write(r),
-        10 | 11 => forged(r),
+        10 => forged(r),
+        11 if r.once_in(25) => room(r),
+        11 => from(r, most),
         12 | 13 => configurations::case(r),
         14..=16 => settings(r),
         _ => calls(r, most),

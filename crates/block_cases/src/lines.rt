@@ -37,6 +37,12 @@ pub fn controls(all: [u8; CONTROLS_MOST], count: usize) {
     print::front(&buf, n);
 }
 
+pub fn revision(v: Revision) {
+    let mut buf = [0u8; LINE_MOST];
+    let n = block_lines::revision(&mut buf, 0, v);
+    print::front(&buf, n);
+}
+
 // 0 is 1.0, 1 is 1.1, and anything else 1.5.
 pub fn revision_of(x: u8) -> Revision {
     match x {

@@ -257,5 +257,24 @@ fn maps() -> Vec<Case> {
     all.push(Case::Map(with(&block, 5, 0), 1));
     all.push(Case::Map(with(&block, 3, 0), 99));
     all.push(Case::Map(vec![], 1));
+    // Each once more, with all that the map holds and the revision; and maps of every length.
+    let mut whole: Vec<Case> = all
+        .iter()
+        .filter_map(|c| match c {
+            Case::Map(block, id) => Some(Case::WholeMap(block.clone(), *id)),
+            _ => None,
+        })
+        .collect();
+    for revision in Revision::ALL {
+        for size in 0..=32 {
+            let controls: Vec<u8> = (200..200 + size).collect();
+            // Behind the controls stand bytes that are no part of them.
+            let after = descriptor(0x30, &[0xEE; 40]);
+            let units = [camera_of(1, &controls), after.clone(), processing_of(revision, 2, 1, &controls), after];
+            let block = control_of(revision, CLOCK, &[], &units);
+            whole.extend((1..=3).map(|id| Case::WholeMap(block.clone(), id)));
+        }
+    }
+    all.extend(whole);
     all
 }

@@ -24,7 +24,7 @@ fn framed(frame: u32, payload: u32, framing: u8, room: usize, calls: Vec<Call>) 
 }
 
 pub fn of_kind(kind: HeaderKind, frame: usize, payload: usize, framing: u8, room: usize, calls: Vec<Call>) -> Case {
-    Case::Calls { opening: Opening { frame, payload, framing, kind }, buffer: vec![0xAA; room], calls }
+    Case::Whole { opening: Opening { frame, payload, framing, kind }, buffer: vec![0xAA; room], calls }
 }
 
 fn send(flags: u8, data: &[u8]) -> Call {
@@ -410,7 +410,50 @@ fn openings() -> Vec<Case> {
     ] {
         let calls =
             vec![send(0, &[]), send(0, &[1, 2]), Call::Lost, Call::Transfer(vec![]), Call::Close, Call::Close, Call::Transfer(vec![0; 70])];
+        let opening = Opening { frame: frame as usize, payload: payload as usize, framing: 3, kind: HeaderKind::Old };
+        all.push(Case::Calls { opening, buffer: vec![0xAA; room], calls: calls.clone() });
         all.push(session(frame, payload, room, calls));
+    }
+    all
+}
+
+/// Frames in a room that is too large to be stored: as long as the frame size, and a byte longer; the largest frame size with both kinds of header, handed
+/// out and ended by EOF; 45, 47 and 51 around it.
+pub fn rooms() -> Vec<Case> {
+    let room = |kind: HeaderKind, frame: usize, framing: u8, room: usize, calls: Vec<Call>| {
+        let opening = Opening { frame, payload: 65_536, framing, kind };
+        Case::Room { opening, room, calls }
+    };
+    let most = 16_777_216;
+    let of = |kind: HeaderKind, flags: u8, data: &[u8]| match kind {
+        HeaderKind::Old => send(flags, data),
+        HeaderKind::Vp8 => Call::Transfer(vp8([PTS | flags, 0, END], 7, 0, 0, data)),
+    };
+    // A frame of so many bytes in transfers of 65,520.
+    let frame = |kind: HeaderKind, fid: u8, bytes: usize| -> Vec<Call> {
+        let mut calls: Vec<Call> = (0..bytes / 65_520).map(|i| of(kind, fid, &[i as u8; 65_520])).collect();
+        calls.push(of(kind, fid | EOF, &vec![0x55; bytes % 65_520]));
+        calls
+    };
+    let mut all = vec![
+        room(HeaderKind::Old, most, 3, most, [frame(HeaderKind::Old, 0, most), vec![Call::Lost]].concat()),
+        room(HeaderKind::Old, most, 3, most, frame(HeaderKind::Old, FID, most + 1)),
+        room(HeaderKind::Vp8, most, 1, most + 84, [frame(HeaderKind::Vp8, 0, most), vec![of(HeaderKind::Vp8, FID, &[1]); 2]].concat()),
+    ];
+    for kind in HeaderKind::ALL {
+        for framing in [1, 3] {
+            for bytes in [99_999, 100_000, 100_001] {
+                let turn = of(kind, FID, &[9; 65_000]);
+                let tail = vec![turn.clone(), turn, of(kind, FID | EOF, &[8; 35_000]), Call::Close];
+                all.push(room(kind, 100_000, framing, 100_002, [frame(kind, 0, bytes), tail].concat()));
+            }
+        }
+    }
+    let few = vec![send(0, &[1, 2, 3]), Call::Lost, send(EOF, &[4]), send(FID, &[5; 65_000]), send(FID | EOF, &[6]), Call::Close];
+    for (size, length) in [(most, most - 1), (most, most), (most, most + 84), (most + 1, most + 84), (1, 1), (64, 64), (65, 65), (0, 0)] {
+        for n in [0, 3, 4, 5, 6] {
+            all.push(room(HeaderKind::Old, size, 3, length, few[..n].to_vec()));
+        }
     }
     all
 }

@@ -2,8 +2,8 @@
 
 use crate::blocks::*;
 use crate::cases::Case;
-use crate::frames::HeaderKind;
-use crate::session::{Phase, Record};
+use crate::frames::{Call, HeaderKind};
+use crate::records::{Phase, Record, FAULTS};
 
 pub fn plain_record() -> Record {
     Record {
@@ -49,7 +49,7 @@ pub fn all() -> Vec<Case> {
         add(&Record { payload, ..plain_record() }, 8, &good);
     }
     // A frame under way: fill and bytes, with every fault and without.
-    for fault in 0..=6 {
+    for fault in [0].into_iter().chain(FAULTS) {
         for (bytes, fill) in [
             (0, 0),
             (5, 5),
@@ -138,5 +138,57 @@ pub fn all() -> Vec<Case> {
     }
     add(&plain_record(), 8, &long[..65_536]);
     add(&plain_record(), 7, &[]);
+    all.extend(from());
+    all
+}
+
+/// Lists of calls from records on: every phase and fault with each call, and what no list from an opening leads to, as a gap flag beside a frame without fault.
+fn from() -> Vec<Case> {
+    let mut phases = vec![Phase::Fresh, Phase::Past(false), Phase::Past(true)];
+    for fault in [0].into_iter().chain(FAULTS) {
+        for (bytes, fill) in [(0, 0), (3, 3), (5, 3)] {
+            if (fault == 0) == (bytes == fill) {
+                let (stamp, layer) = (Some(7).filter(|_| bytes != 3), Some(0x1234).filter(|_| fault != 0));
+                for still in [false, true] {
+                    phases.push(Phase::Under { fid: false, fault, bytes, fill, stamp, still, layer });
+                }
+            }
+        }
+    }
+    let lists: Vec<Vec<Call>> = vec![
+        vec![Call::Transfer(transfer(END | FID, 0, 0, &[1, 2]))],
+        vec![Call::Transfer(transfer(END | PTS | EOF, 7, 0, &[4])), Call::Transfer(transfer(END | PTS | FID | EOF, 40, 0, &[5]))],
+        vec![Call::Transfer(transfer(END | STILL, 0, 0, &[6])), Call::Transfer(vec![])],
+        vec![Call::Transfer(transfer(END, 0, 0, &[6])), Call::Transfer(transfer(END | FID | PTS, 9, 0, &[7])), Call::Close],
+        vec![Call::Lost],
+        vec![Call::Transfer(vec![2]), Call::Close, Call::Lost],
+        vec![Call::Close],
+    ];
+    let mut all = Vec::new();
+    let mut add = |r: Record, room: usize, calls: &[Call]| all.push(Case::From(r, vec![0xAA; room], calls.to_vec()));
+    for phase in &phases {
+        for gap in [false, true] {
+            for framing in [1, 3] {
+                let last = if gap { Some(10) } else { None };
+                for calls in &lists {
+                    add(Record { phase: phase.clone(), gap, framing, last, ..plain_record() }, 9, calls);
+                }
+            }
+        }
+    }
+    // Refused by each number, which changes nothing; and taken until no more can be.
+    let phase = Phase::Under { fid: true, fault: 0, bytes: 3, fill: 3, stamp: Some(5), still: false, layer: Some(6) };
+    let held = Record { phase, gap: true, last: Some(9), numbers: std::array::from_fn(|i| i as u64 % 10), ..plain_record() };
+    for calls in &lists {
+        add(Record { frame: 0, ..held.clone() }, 9, calls);
+        add(Record { taken: 8, ..held.clone() }, 9, calls);
+        add(Record { closed: true, ..held.clone() }, 9, calls);
+        add(Record { closed: true, gap: false, ..held.clone() }, 9, calls);
+        add(Record { taken: u32::MAX, ..held.clone() }, 9, calls);
+        add(Record { taken: u32::MAX - 1, ..held.clone() }, 9, calls);
+        add(held.clone(), 7, calls);
+        add(held.clone(), 8, calls);
+    }
+    add(held.clone(), 8, &[Call::Transfer(vec![2; 65_537]), Call::Lost]);
     all
 }

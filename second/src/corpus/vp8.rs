@@ -5,7 +5,7 @@ use super::records::plain_record;
 use crate::blocks::*;
 use crate::cases::Case;
 use crate::frames::{Call, HeaderKind};
-use crate::session::{Phase, Record};
+use crate::records::{Phase, Record};
 
 pub fn all() -> Vec<Case> {
     let mut all = transfers();
@@ -172,6 +172,7 @@ fn layers() -> Vec<Case> {
     add(vec![layered(0, 5, &[1]), Call::Lost, layered(EOF, 6, &[2])]);
     add(vec![layered(0, 5, &[1])]);
     add(vec![layered(0, 5, &[1]), Call::Close]);
+    all.extend([session(3, vec![]), session(3, vec![layered(0, 5, &[1]), Call::Lost])]);
     all
 }
 
@@ -205,7 +206,9 @@ fn records() -> Vec<Case> {
         };
         let mut add = |framing: u8, layer: Option<u16>, still: bool, fault: u8, flags: u8| {
             let phase = Phase::Under { fid: false, fault, bytes: 2, fill: 2, stamp: Some(7), still, layer };
-            all.push(Case::Forged(Record { framing, kind, phase, ..plain_record() }, vec![0xAA; 9], of(flags)));
+            let r = Record { framing, kind, phase, ..plain_record() };
+            all.push(Case::Forged(r.clone(), vec![0xAA; 9], of(flags)));
+            all.push(Case::From(r, vec![0xAA; 9], vec![Call::Transfer(of(flags)); 2]));
         };
         for still in [false, true] {
             for layer in [None, Some(0), Some(0x1234), Some(0xFFFF)] {

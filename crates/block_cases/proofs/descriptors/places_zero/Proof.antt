@@ -1,25 +1,19 @@
 use Prim.Native.Nat.{_≤_, _-_}
 use borrow.Author.Needs.{needs}
-use Rattle.block_cases.proofs.blocks.formats_rest.Statement.{statement}
-use Rattle.block_cases.proofs.blocks.formats_rest.Tie as tie
+use Rattle.block_cases.proofs.descriptors.places_zero.Statement.{statement}
+use Rattle.block_cases.proofs.descriptors.places_zero.Tie as tie
 
 abbrev Inv-loop : tie.InvT-loop
-Inv-loop n formats i₀ i = i ≤ 8
+Inv-loop n bytes i₀ i = i ≤ 32
 
 abbrev μ-loop : tie.MeasureT-loop
-μ-loop n formats i₀ i = 8 - i
+μ-loop n bytes i₀ i = 32 - i
 
 loop-holds : tie.Need-loop-holds Inv-loop μ-loop
 loop-holds c = search needs
 
-mul-f : tie.Need-mul-f Inv-loop μ-loop
-mul-f c = search needs
-
-array-copy-out-f : tie.Need-array-copy-out-f Inv-loop μ-loop
-array-copy-out-f c = search needs
-
-no-format-requires : tie.Need-no-format-requires Inv-loop μ-loop
-no-format-requires c κs = search needs
+array-read-if2 : tie.Need-array-read-if2 Inv-loop μ-loop
+array-read-if2 c = search needs
 
 returns : tie.Need-returns Inv-loop μ-loop
 returns c = search needs
@@ -36,16 +30,14 @@ loop-again c = search needs
 returns-2 : tie.Need-returns-2 Inv-loop μ-loop
 returns-2 c = search needs
 
-pub formats-rest-spec : {M : Type 1} → statement M
-formats-rest-spec =
+pub places-zero-spec : {M : Type 1} → statement M
+places-zero-spec =
     tie.close
     (tie.spec
     Inv-loop
     μ-loop
     loop-holds
-    mul-f
-    array-copy-out-f
-    no-format-requires
+    array-read-if2
     returns
     add-i
     loop-less

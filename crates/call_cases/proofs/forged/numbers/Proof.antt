@@ -1,8 +1,8 @@
 use Rattle.ledger.specs.Accounts.{numberCount}
 use Prim.Native.Nat.{_≤_, _-_}
 use borrow.Author.Needs.{needs}
-use Rattle.answers.proofs.forged.numbers.Statement.{statement}
-use Rattle.answers.proofs.forged.numbers.Tie as tie
+use Rattle.call_cases.proofs.forged.numbers.Statement.{statement}
+use Rattle.call_cases.proofs.forged.numbers.Tie as tie
 
 abbrev Inv-loop : tie.InvT-loop
 Inv-loop numbers₀ i₀ numbers i = i ≤ numberCount

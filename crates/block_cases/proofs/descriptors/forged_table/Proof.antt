@@ -1,7 +1,7 @@
 use Prim.Native.Nat.{_≤_, _-_}
 use borrow.Author.Needs.{needs}
-use Rattle.block_cases.proofs.blocks.forged_table.Statement.{statement}
-use Rattle.block_cases.proofs.blocks.forged_table.Tie as tie
+use Rattle.block_cases.proofs.descriptors.forged_table.Statement.{statement}
+use Rattle.block_cases.proofs.descriptors.forged_table.Tie as tie
 
 abbrev Inv-loop : tie.InvT-loop
 Inv-loop count revision table₀ i₀ table i = i ≤ 32

@@ -1,13 +1,13 @@
 use Prim.Native.Nat.{_≤_, _-_}
 use borrow.Author.Needs.{needs}
-use Rattle.block_cases.proofs.blocks.frames_rest.Statement.{statement}
-use Rattle.block_cases.proofs.blocks.frames_rest.Tie as tie
+use Rattle.block_cases.proofs.descriptors.formats_rest.Statement.{statement}
+use Rattle.block_cases.proofs.descriptors.formats_rest.Tie as tie
 
 abbrev Inv-loop : tie.InvT-loop
-Inv-loop n frames i₀ i = i ≤ 64
+Inv-loop n formats i₀ i = i ≤ 8
 
 abbrev μ-loop : tie.MeasureT-loop
-μ-loop n frames i₀ i = 64 - i
+μ-loop n formats i₀ i = 8 - i
 
 loop-holds : tie.Need-loop-holds Inv-loop μ-loop
 loop-holds c = search needs
@@ -18,8 +18,8 @@ mul-f c = search needs
 array-copy-out-f : tie.Need-array-copy-out-f Inv-loop μ-loop
 array-copy-out-f c = search needs
 
-no-frame-requires : tie.Need-no-frame-requires Inv-loop μ-loop
-no-frame-requires c κs = search needs
+no-format-requires : tie.Need-no-format-requires Inv-loop μ-loop
+no-format-requires c κs = search needs
 
 returns : tie.Need-returns Inv-loop μ-loop
 returns c = search needs
@@ -36,8 +36,8 @@ loop-again c = search needs
 returns-2 : tie.Need-returns-2 Inv-loop μ-loop
 returns-2 c = search needs
 
-pub frames-rest-spec : {M : Type 1} → statement M
-frames-rest-spec =
+pub formats-rest-spec : {M : Type 1} → statement M
+formats-rest-spec =
     tie.close
     (tie.spec
     Inv-loop
@@ -45,7 +45,7 @@ frames-rest-spec =
     loop-holds
     mul-f
     array-copy-out-f
-    no-frame-requires
+    no-format-requires
     returns
     add-i
     loop-less

@@ -1,25 +1,25 @@
 use Prim.Native.Nat.{_≤_, _-_}
 use borrow.Author.Needs.{needs}
-use Rattle.block_cases.proofs.blocks.rest_zero.Statement.{statement}
-use Rattle.block_cases.proofs.blocks.rest_zero.Tie as tie
+use Rattle.block_cases.proofs.descriptors.frames_rest.Statement.{statement}
+use Rattle.block_cases.proofs.descriptors.frames_rest.Tie as tie
 
 abbrev Inv-loop : tie.InvT-loop
-Inv-loop t n i₀ i = i ≤ 32
+Inv-loop n frames i₀ i = i ≤ 64
 
 abbrev μ-loop : tie.MeasureT-loop
-μ-loop t n i₀ i = 32 - i
+μ-loop n frames i₀ i = 64 - i
 
 loop-holds : tie.Need-loop-holds Inv-loop μ-loop
 loop-holds c = search needs
 
-mul-e : tie.Need-mul-e Inv-loop μ-loop
-mul-e c = search needs
+mul-f : tie.Need-mul-f Inv-loop μ-loop
+mul-f c = search needs
 
-element-copy-out-e : tie.Need-element-copy-out-e Inv-loop μ-loop
-element-copy-out-e c = search needs
+array-copy-out-f : tie.Need-array-copy-out-f Inv-loop μ-loop
+array-copy-out-f c = search needs
 
-no-entity-requires : tie.Need-no-entity-requires Inv-loop μ-loop
-no-entity-requires c κs = search needs
+no-frame-requires : tie.Need-no-frame-requires Inv-loop μ-loop
+no-frame-requires c κs = search needs
 
 returns : tie.Need-returns Inv-loop μ-loop
 returns c = search needs
@@ -36,16 +36,16 @@ loop-again c = search needs
 returns-2 : tie.Need-returns-2 Inv-loop μ-loop
 returns-2 c = search needs
 
-pub rest-zero-spec : {M : Type 1} → statement M
-rest-zero-spec =
+pub frames-rest-spec : {M : Type 1} → statement M
+frames-rest-spec =
     tie.close
     (tie.spec
     Inv-loop
     μ-loop
     loop-holds
-    mul-e
-    element-copy-out-e
-    no-entity-requires
+    mul-f
+    array-copy-out-f
+    no-frame-requires
     returns
     add-i
     loop-less

@@ -2,6 +2,7 @@
 use crate::lines;
 use cases::input;
 use cases::print;
+use control_map::CONTROLS_MOST;
 use control_map::Map;
 use entities::Entity;
 use entities::Table;
@@ -57,7 +58,17 @@ fn no_entity(e: Entity) -> bool {
     e.offset == 0
 }
 
+// Case M: the controls of a unit, or why there are none.
 pub fn map() -> bool {
+    mapped(false)
+}
+
+// Case N: the same, and after it the map's length, the places behind it, and the block's revision.
+pub fn whole_map() -> bool {
+    mapped(true)
+}
+
+fn mapped(whole: bool) -> bool {
     let mut block = [0u8; 4352];
     let part = input::part(&mut block);
     let n = part.count;
@@ -73,6 +84,33 @@ pub fn map() -> bool {
             print::text(b"map ");
             lines::refused(number, offset);
         }
+    }
+    if whole {
+        behind(map);
+        let c = control::read(&block[..n]);
+        let table = c.table;
+        let revision = table.revision;
+        lines::revision(revision);
+    }
+    true
+}
+
+fn behind(map: Map) {
+    let bytes = map.bytes;
+    print::line(b"length", map.length as u64);
+    print::rest(places_zero(bytes, map.length as usize));
+}
+
+// Whether every place from n on is zero.
+fn places_zero(bytes: [u8; CONTROLS_MOST], n: usize) -> bool {
+    let mut i: usize = 0;
+    while i < CONTROLS_MOST {
+        if n <= i {
+            if bytes[i] != 0 {
+                return false;
+            }
+        }
+        i += 1;
     }
     true
 }

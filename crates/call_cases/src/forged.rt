@@ -1,10 +1,11 @@
-// A session record as it stands in the input, and what take, lost and close say to it.
+// A session record as it stands in the input: what take, lost and close say to it, or what a list of calls leads to from it.
 //
 // The record: eight bytes frame size, eight bytes payload size, byte framing, byte header kind, byte closed, four bytes taken, the phase, byte gap,
 // the ledger's numbers of eight bytes each, the last stamp. A stamp: byte present and four bytes. A layer: byte present and two bytes. The phase: byte 0
-// fresh, 2 past and byte FID, or any other and byte FID, byte fault (1 gap, 2 error, 3 clock, 4 long, 5 cut, 6 empty, any other none), eight bytes data so
+// fresh, 2 past and byte FID, or any other and byte FID, byte fault (1 gap, 2 error, 3 clock, 4 long, 5 cut, 6 empty, 9 mixed, any other none), eight bytes data so
 // far, eight bytes fill, the stamp, byte still, the layer.
 use crate::calls;
+use crate::shown;
 use cases::input;
 use cases::print;
 use frames::Fault;
@@ -23,7 +24,20 @@ use session::Rest;
 use session::Session;
 use sizes::Opening;
 
-pub fn run() -> bool {
+// Case G: a list of calls from the record on, told as in case E.
+pub fn whole() -> bool {
+    let s = record();
+    let mut buffer = [0u8; 70000];
+    let part = input::part(&mut buffer);
+    let n = part.count;
+    if !part.fine {
+        return false;
+    }
+    calls::follow(s, &mut buffer[..n], true)
+}
+
+// Case F: which of take, lost and close are refused on the record.
+pub fn plain() -> bool {
     let s = record();
     let mut buffer = [0u8; 70000];
     let part = input::part(&mut buffer);
@@ -107,6 +121,7 @@ fn fault(kind: u8) -> Fault {
         4 => Fault::Bad(Reason::Long),
         5 => Fault::Bad(Reason::Cut),
         6 => Fault::Bad(Reason::Empty),
+        9 => Fault::Bad(Reason::Mixed),
         _ => Fault::Sound,
     }
 }
@@ -141,7 +156,7 @@ fn take(s: Session, buffer: &mut [u8], transfer: &[u8]) {
         Outcome::Taken(_) => print::text(b"take taken"),
         Outcome::Handed(x) => {
             print::text(b"take ");
-            calls::handed(x);
+            shown::handed(x);
         }
     }
     print::hash(buffer);

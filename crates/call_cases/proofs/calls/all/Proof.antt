@@ -1,14 +1,14 @@
 use mathlib.Core.Path.{_≡_}
 use lib.ListN.{length}
 use borrow.Author.Needs.{needs}
-use Rattle.answers.proofs.calls.all.Statement.{statement}
-use Rattle.answers.proofs.calls.all.Tie as tie
+use Rattle.call_cases.proofs.calls.all.Statement.{statement}
+use Rattle.call_cases.proofs.calls.all.Tie as tie
 
 abbrev Inv-loop : tie.InvT-loop
-Inv-loop buffer₀ transfer₀ calls session₀ left₀ buffer transfer session left = (length buffer ≡ length buffer₀) × (length transfer ≡ length transfer₀)
+Inv-loop buffer₀ transfer₀ calls hashed session₀ left₀ buffer transfer session left = (length buffer ≡ length buffer₀) × (length transfer ≡ length transfer₀)
 
 abbrev μ-loop : tie.MeasureT-loop
-μ-loop buffer₀ transfer₀ calls session₀ left₀ buffer transfer session left = left
+μ-loop buffer₀ transfer₀ calls hashed session₀ left₀ buffer transfer session left = left
 
 loop-holds : tie.Need-loop-holds Inv-loop μ-loop
 loop-holds c = search needs
@@ -25,8 +25,8 @@ same-length-2 c = search needs
 returns : tie.Need-returns Inv-loop μ-loop
 returns c = search needs
 
-hash-requires : tie.Need-hash-requires Inv-loop μ-loop
-hash-requires c κs = search needs
+after-call-requires : tie.Need-after-call-requires Inv-loop μ-loop
+after-call-requires c κs = search needs
 
 sub-left : tie.Need-sub-left Inv-loop μ-loop
 sub-left c = search needs
@@ -57,7 +57,7 @@ all-spec =
     same-length
     same-length-2
     returns
-    hash-requires
+    after-call-requires
     sub-left
     loop-less
     loop-again
