@@ -3,6 +3,7 @@
 use crate::blocks::{CONTROL_TOTAL, STREAMING_TOTAL};
 use crate::cases::table;
 use crate::configurations;
+use crate::corpus::filler;
 use crate::frames::Call;
 use crate::printed::{self, Printed, Words, RECORD};
 use crate::random::{self, Random};
@@ -11,6 +12,12 @@ use std::collections::BTreeMap;
 use std::io::Write;
 use std::path::Path;
 use std::process::{Command, Stdio};
+
+/// The most bytes of a control block, of a streaming block and of a configuration; and where a configuration has its total length.
+const CONTROL_MOST: usize = 4096;
+const STREAMING_MOST: usize = 16_384;
+const CONFIGURATION_MOST: usize = 32_768;
+const CONFIGURATION_TOTAL: usize = 2;
 
 /// A run of the launcher: its words, the files that they name, and what comes by standard input, in pieces.
 struct Run {
@@ -70,11 +77,14 @@ fn trace(r: &mut Random) -> Vec<u8> {
     bytes
 }
 
-/// Now and then a block that is too long by its length alone.
+/// Now and then a block as long as it may be, by descriptors that are stepped over, and mostly a byte longer.
 fn long(r: &mut Random, mut block: Vec<u8>, most: usize, total_at: usize) -> Vec<u8> {
-    if r.once_in(40) {
-        block.resize(most + r.below(3), 0);
+    if block.len() + 3 <= most && r.once_in(10) {
+        block.extend(filler(most - block.len()).concat());
         crate::blocks::total(&mut block, total_at);
+        if !r.once_in(3) {
+            block.push(r.byte());
+        }
     }
     block
 }
@@ -109,6 +119,7 @@ fn setting(r: &mut Random, said: &Words) -> Run {
     match r.below(3) {
         0 => {
             let (block, interface, unit, setting, request) = random::asked(r);
+            let block = long(r, block, CONTROL_MOST, CONTROL_TOTAL);
             let interface = or(r, interface.to_string(), &["", "256", "-1", "0x1"]);
             let unit = or(r, unit.to_string(), &["", "256", "999", "1a"]);
             let setting = or(r, SETTINGS[setting].to_string(), &names);
@@ -117,8 +128,9 @@ fn setting(r: &mut Random, said: &Words) -> Run {
             run(&["build", "control", &interface, &unit, &setting, &request], vec![("control", block)], wanted)
         }
         1 => {
-            let it = random::asked(r);
+            let mut it = random::asked(r);
             let bytes = random::packet(r, &it);
+            it.0 = long(r, it.0, CONTROL_MOST, CONTROL_TOTAL);
             let interface = or(r, it.1.to_string(), &["", "256", "9", "+0"]);
             let wanted = said.read_back(&it.0, &interface, &bytes);
             run(&["read", "control", &interface, "packet"], vec![("control", it.0), ("packet", bytes)], wanted)
@@ -145,11 +157,13 @@ fn run(r: &mut Random, said: &Words) -> Run {
     match r.below(17) {
         10 | 11 => {
             let s = configurations::maybe_damaged(r);
+            let s = long(r, s, CONFIGURATION_MOST, CONFIGURATION_TOTAL);
             let wanted = said.configuration(&s);
             describe(&["configuration", "camera"], vec![("camera", s)], wanted)
         }
         12 => {
             let s = configurations::maybe_damaged(r);
+            let s = long(r, s, CONFIGURATION_MOST, CONFIGURATION_TOTAL);
             let number = if r.once_in(6) { word(r) } else { configurations::number(r, &s).to_string() };
             let payload = if r.once_in(6) { large(r) } else { configurations::payload(r, &s).to_string() };
             let wanted = said.setting(&s, &number, &payload);
@@ -167,27 +181,34 @@ fn run(r: &mut Random, said: &Words) -> Run {
         }
         4 | 5 => {
             let block = random::maybe_damaged_control(r);
-            let block = long(r, block, 4096, CONTROL_TOTAL);
+            let block = long(r, block, CONTROL_MOST, CONTROL_TOTAL);
             let wanted = said.control(&block);
             describe(&["control", "control"], vec![("control", block)], wanted)
         }
         6 => {
             let block = if r.once_in(2) { random::linked_control(r) } else { random::control(r) };
+            let block = long(r, block, CONTROL_MOST, CONTROL_TOTAL);
             let id = word(r);
             let wanted = said.map(&block, &id);
             describe(&["map", "control", &id], vec![("control", block)], wanted)
         }
         7 | 8 => {
             let control = random::linked_control(r);
+            let control = long(r, control, CONTROL_MOST, CONTROL_TOTAL);
             let (block, _) = random::maybe_damaged_streaming(r);
-            let block = long(r, block, 16_384, STREAMING_TOTAL);
+            let block = long(r, block, STREAMING_MOST, STREAMING_TOTAL);
             let wanted = said.streaming(&control, &block);
             describe(&["streaming", "control", "streaming"], vec![("control", control), ("streaming", block)], wanted)
         }
         _ => {
             let control = random::linked_control(r);
+            let control = long(r, control, CONTROL_MOST, CONTROL_TOTAL);
             let (block, offered) = if r.once_in(6) { random::maybe_damaged_streaming(r) } else { random::streaming(r) };
-            let probe = random::probe(r, table(&control).revision, &offered);
+            let block = long(r, block, STREAMING_MOST, STREAMING_TOTAL);
+            let mut probe = random::probe(r, table(&control).revision, &offered);
+            if r.once_in(10) {
+                probe.push(r.byte());
+            }
             let wanted = said.probe(&control, &block, &probe);
             describe(
                 &["probe", "control", "streaming", "probe"],

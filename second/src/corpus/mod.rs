@@ -126,7 +126,7 @@ fn with(block: &[u8], at: usize, value: u8) -> Vec<u8> {
 }
 
 /// Unknown descriptors of so many bytes in all.
-fn filler(bytes: usize) -> Vec<Vec<u8>> {
+pub fn filler(bytes: usize) -> Vec<Vec<u8>> {
     let mut all = Vec::new();
     let mut left = bytes;
     while left > 0 {
