@@ -4,3 +4,4 @@ pub mod Texts
 pub mod Different
 pub mod Unique
 pub mod Samples
+pub mod Printed
