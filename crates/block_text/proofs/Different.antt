@@ -6,6 +6,7 @@ use native.Mathlib.Omega.{arith}
 use lib.ListN.{length, take, getD}
 use Rattle.rules.specs.declared.Verdict.{Verdict}
 use Rattle.rules.specs.declared.Verdict.the-variants.{Accepted, Refused}
+use Rattle.rules.proofs.Verdicts.{apart}
 use Rattle.entities.specs.declared.Entity.{Entity}
 use Rattle.entities.specs.declared.Table.{Table}
 use Rattle.entities.specs.Table.{used}
@@ -43,15 +44,12 @@ refused-split j l n m e =
     let w : ((n ∷ []) ≡ (m ∷ [])) × (wordsOf j ≡ wordsOf l) = line-split (bytes " at") (n ∷ []) (m ∷ []) (wordsOf j) (wordsOf l) refl (k .1) in
     (k .0, ap first (w .0))
 
-not-accepted : (k o : ℕ) → Refused k o ≡ Accepted → ⊥
-not-accepted k o p = let z : _≡_ {A = ℕ} 0 1 = cc in omega arith
-
 -- an accepted text begins otherwise than a refusal, which begins with r
 pub told-different : (x : ℕ) (v w : Verdict) (a b : List ℕ) → (x ≡ 114 → ⊥) → first a ≡ x → first b ≡ x → toldBy v a ≡ toldBy w b → (v ≡ w) × (v ≡ Accepted → a ≡ b)
 told-different x Accepted Accepted a b n h k e = (refl, λ p. e)
 told-different x Accepted (Refused l m) a b n h k e = absurd (n (sym h ∙ ap first e))
 told-different x (Refused j i) Accepted a b n h k e = absurd (n (sym (ap first e ∙ k)))
-told-different x (Refused j i) (Refused l m) a b n h k e = let s = refused-split j l i m e in (rw (s .0, s .1), λ p. absurd (not-accepted j i p))
+told-different x (Refused j i) (Refused l m) a b n h k e = let s = refused-split j l i m e in (rw (s .0, s .1), λ p. absurd (apart j i p))
 
 -- ---- A CONTROL BLOCK
 -- a revision's line tells it

@@ -2,7 +2,7 @@
 ghost use mathlib.Core.Path.{_≡_};
 ghost use Prim.Native.Nat.{_+_, _≤_, _<_};
 ghost use lib.ListN.{length};
-ghost use Rattle.interfaces.specs.Blocks.{listedIn};
+ghost use Rattle.interfaces.specs.Blocks.{interfacesMost, listedIn};
 ghost use Rattle.streaming.specs.Answer.{streamingOf};
 ghost use Rattle.configuration.specs.Answer.{entriesNamed, streamsBy, blockVerdict, LateIs, refusedBy, ConfigurationIs};
 use configuration_rules::Sought;
@@ -27,7 +27,7 @@ const ENTRIES: usize = 12;
 
 // 73: every interface that the control header names is listed.
 fn entries_named(block: &[u8], streams: [Stream; INTERFACES_MOST], count: usize) -> bool
-    requires { ⌜ count ≤ 8 ⌝ }
+    requires { ⌜ count ≤ interfacesMost ⌝ }
     ensures { λ r. ⌜ r ≡ entriesNamed (now (block .entry)) streams count ⌝ }
 {
     let n = le::wide(le::byte_at(block, COUNT));

@@ -12,6 +12,7 @@ use Rattle.rules.specs.Verdicts.{_andThen_}
 use Rattle.rules.specs.declared.Verdict.{Verdict}
 use Rattle.rules.specs.declared.Verdict.the-variants.{Accepted, Refused}
 use Rattle.rules.proofs.Firsts.{lt-or-ge}
+use Rattle.rules.proofs.Verdicts.{apart}
 use Rattle.rules.proofs.Walks.{walk-done}
 use Rattle.entities.specs.declared.Entity.{Entity}
 use Rattle.entities.specs.declared.Table.{Table}
@@ -38,9 +39,6 @@ use Rattle.configuration.specs.declared.Configuration.{Configuration}
 use Rattle.configuration.proofs.Unique.{read-unique}
 use Rattle.configuration_words.specs.Broken.{ListedAt, AllNamed, ControlRight, tableIn, StreamRight, Sound, FirstBroken, by-layout, by-control, by-73, by-streaming}
 use Rattle.configuration_words.proofs.Streams.{Judged, all-right, first-wrong, judged, one-judged, lists-streams, listed-at, place-of, all-named, named-all, one-unnamed, unnamed-one}
-
-apart : (k o : ℕ) → Refused k o ≡ Accepted → ⊥
-apart k o e = let z : _≡_ {A = ℕ} 0 1 = cc in omega arith
 
 -- a block's verdict at its place
 module _ (a : ℕ) where
@@ -69,13 +67,10 @@ module _ (s : List ℕ) where
 
   -- ---- a control block that breaks no rule is accepted with its entities
   module _ (b : List ℕ) (w : control-broken.Sound b) (l : List Entity) (e : control-broken.Entities b l) where
-    none-of : (P : ℕ → Type 0) → control-broken.Kept l P → sources.None l P
-    none-of P h = record { within = omega arith; before = h; here = λ x. absurd (omega arith) }
-
     control-accepts : control.ControlIs b (control.acceptedWith b l)
     control-accepts =
         let k = w .sources l e in
-        control.sound l (w .block) (walk-done (control.course b) (control-walking.steady b) l .1 (e, w .descriptors)) (sources.fine (none-of _ (k .0)) (none-of _ (k .1)) (none-of _ (k .2)))
+        control.sound l (w .block) (walk-done (control.course b) (control-walking.steady b) l .1 (e, w .descriptors)) (sources.fine (k .0) (k .1) (k .2))
 
   -- ---- the streaming blocks
   stream-right : (t : Table) (o : ℕ) → blockVerdict s t o ≡ Accepted → StreamRight s t o

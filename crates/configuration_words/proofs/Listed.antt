@@ -10,8 +10,9 @@ use borrow.Author.Tests.{eq-eqb, ne-eqb}
 use native.Mathlib.Omega.{arith}
 use Rattle.rules.specs.Pick.{pick}
 use Rattle.rules.specs.Walk.{Clean}
-use Rattle.rules.specs.declared.Verdict.the-variants.{Accepted, Refused}
+use Rattle.rules.specs.declared.Verdict.the-variants.{Accepted}
 use Rattle.rules.proofs.Firsts.{lt-or-ge}
+use Rattle.rules.proofs.Verdicts.{apart}
 use Rattle.streaming_rules.proofs.Fine.{head-sizes}
 use Rattle.streaming.specs.Answer.{endpointOf}
 use Rattle.configuration_rules.specs.Descriptors.{interfaceType, endpointType, typeAt, afterAt, packetAt, packetBytes}
@@ -33,9 +34,6 @@ use Rattle.configuration_words.specs.Broken.{ListedAt, Sound}
 use Rattle.configuration_words.specs.Listed.{BlockLies, StreamStands, Lists-all, Between, BytesAre, by-endpoint, no-endpoint, Settings-all}
 use Rattle.configuration_words.proofs.Streams.{getD-map, lists-streams, few-streams, count-is, stream-is, stream-past, listed-at}
 use Rattle.configuration_words.proofs.ExactlyWhen.{place-is, accepted}
-
-apart : (k o : ℕ) → Refused k o ≡ Accepted → ⊥
-apart k o e = let z : _≡_ {A = ℕ} 0 1 = cc in omega arith
 
 module _ (s : List ℕ) (clean : Clean (course s)) where
   -- ---- the block of a descriptor

@@ -10,9 +10,9 @@ use borrow.Author.Tests.{eq-eqb, ne-eqb, eqb-true, eqb-false}
 use native.Mathlib.Omega.{arith}
 use native.Mathlib.Nat.{eq-or-lt-of-le}
 use Rattle.rules.specs.Pick.{pick}
-use Rattle.rules.specs.declared.Verdict.{Verdict}
-use Rattle.rules.specs.declared.Verdict.the-variants.{Accepted, Refused}
+use Rattle.rules.specs.declared.Verdict.the-variants.{Accepted}
 use Rattle.rules.proofs.Firsts.{lt-or-ge}
+use Rattle.rules.proofs.Verdicts.{apart, clash, same-refusal}
 use Rattle.rules.proofs.Rows.{given-each}
 use Rattle.rules.proofs.Places.{first-place}
 use Rattle.blocks.specs.Blocks.{wholeRows}
@@ -38,9 +38,6 @@ use Rattle.configuration_words.specs.Picked.{FirstOf, settingsAt, HoldsI
 use Rattle.configuration_words.proofs.Streams.{lists-streams, count-is, stream-is, listed-at, place-of, unnamed, number-is}
 use Rattle.configuration_words.proofs.ExactlyWhen.{accepted, refused}
 use Rattle.configuration_words.proofs.Listed.{stream-endpoint}
-
-apart : (k o : ℕ) → Refused k o ≡ Accepted → ⊥
-apart k o e = let z : _≡_ {A = ℕ} 0 1 = cc in omega arith
 
 -- ---- reading a configuration never gives 74
 module _ (s : List ℕ) where
@@ -152,12 +149,6 @@ module _ (s : List ℕ) where
 
   -- ---- EXACTLY WHEN
   module _ (i p : ℕ) where
-    same-refusal : (k o j q : ℕ) → Refused k o ≡ Refused j q → (k ≡ j) × (o ≡ q)
-    same-refusal k o j q e = (cc, cc)
-
-    clash : (v : Verdict) (k o : ℕ) → v ≡ Refused k o → v ≡ Accepted → ⊥
-    clash v k o e q = let z : _≡_ {A = ℕ} 0 1 = cc in omega arith
-
     split : (c : Choice) (z : Setting) → c ≡ Nothing → c ≡ At z → ⊥
     split c z e q = let y : _≡_ {A = ℕ} 0 1 = cc in omega arith
 

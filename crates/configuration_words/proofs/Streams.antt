@@ -13,6 +13,7 @@ use Rattle.rules.specs.Verdicts.{_andThen_}
 use Rattle.rules.specs.declared.Verdict.{Verdict}
 use Rattle.rules.specs.declared.Verdict.the-variants.{Accepted, Refused}
 use Rattle.rules.proofs.Firsts.{lt-or-ge}
+use Rattle.rules.proofs.Verdicts.{clash}
 use Rattle.rules.proofs.Padded.{pad-at}
 use Rattle.rules.proofs.Places.{first-place}
 use Rattle.entities.specs.declared.Table.{Table}
@@ -58,19 +59,16 @@ module _ (s : List ℕ) (t : Table) where
   judged [] = all-right (λ i h. absurd (omega arith))
   judged (o ∷ l) = stops o l (blockVerdict s t o) refl (streamsBy s t l) (judged l)
 
-  clash : (v : Verdict) (k x : ℕ) → v ≡ Accepted → v ≡ Refused k x → ⊥
-  clash v k x e q = let z : _≡_ {A = ℕ} 0 1 = cc in omega arith
-
   same-wrong : (v : Verdict) (k x j y : ℕ) → v ≡ Refused k x → v ≡ Refused j y → Refused k x ≡ Refused j y
   same-wrong v k x j y e q = sym e ∙ q
 
   pub one-judged : (l : List ℕ) (v w : Verdict) → Judged l v → Judged l w → v ≡ w
   one-judged l v w (all-right h) (all-right g) = refl
-  one-judged l v w (all-right h) (first-wrong i b g k x q) = absurd (clash _ k x (h i b) q)
-  one-judged l v w (first-wrong i b g k x q) (all-right h) = absurd (clash _ k x (h i b) q)
+  one-judged l v w (all-right h) (first-wrong i b g k x q) = absurd (clash _ k x q (h i b))
+  one-judged l v w (first-wrong i b g k x q) (all-right h) = absurd (clash _ k x q (h i b))
   one-judged l v w (first-wrong i b g k x q) (first-wrong j c h m y r) =
-      ⊎-elim (λ z. absurd (clash _ k x (h i z) q))
-      (λ z. ⊎-elim (λ u. absurd (clash _ m y (g j u) r)) (λ u. let n : i ≡ j = omega arith in same-wrong (blockVerdict s t (getD l j 0)) k x m y (rw n at q) r) (lt-or-ge j i)) (lt-or-ge i j)
+      ⊎-elim (λ z. absurd (clash _ k x q (h i z)))
+      (λ z. ⊎-elim (λ u. absurd (clash _ m y r (g j u))) (λ u. let n : i ≡ j = omega arith in same-wrong (blockVerdict s t (getD l j 0)) k x m y (rw n at q) r) (lt-or-ge j i)) (lt-or-ge i j)
 
 -- ---- an accepted layout
 module _ (s : List ℕ) (c : ℕ) (l : Laid s c) where

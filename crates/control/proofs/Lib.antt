@@ -3,4 +3,5 @@ pub mod Walking
 pub mod Unique
 pub mod ExactlyWhen
 pub mod Listed
+pub mod ByNumber
 pub mod Samples

@@ -5,8 +5,8 @@ use mathlib.Core.List.{List, [], _∷_, _++_, append-nil}
 use mathlib.Core.Bool.{Bool, true, false}
 use mathlib.Core.Logic.{⊎-elim}
 use lib.ListN.{length, take, length-append, List·getD-append}
-use lib.Dec.{eqb}
-use borrow.Author.Tests.{eqb-false}
+use lib.Dec.{leb, eqb}
+use borrow.Author.Tests.{eqb-false, leb-true}
 use native.Mathlib.Omega.{arith}
 use Rattle.le.specs.Le.{byte}
 use Rattle.rules.specs.Pick.{pick}
@@ -15,14 +15,14 @@ use Rattle.rules.specs.declared.Verdict.the-variants.{Accepted}
 use Rattle.rules.proofs.Firsts.{lt-or-ge}
 use Rattle.rules.proofs.Growing.{at-old, at-new, each-more}
 use Rattle.rules.proofs.Passing.{passes}
-use Rattle.rules.proofs.Rows.{or-first, or-second}
+use Rattle.rules.proofs.Rows.{or-first, or-second, and-first, and-second}
 use Rattle.entities.specs.Table.{entitiesMost, noEntity, entityAt, findFrom}
 use Rattle.entities.specs.declared.Entity.{Entity}
 use Rattle.entities.specs.declared.Found.{Found}
 use Rattle.entities.specs.declared.Found.the-variants.{At, Nothing}
 use Rattle.entities.proofs.Finding.{found-within}
-use Rattle.control_rules.specs.Descriptors.{revisionOf, knownAs, kindOf, kindAt, lenAt, isEntity, sourcePlace}
-use Rattle.control_rules.specs.Rules.{entityOf, entitiesAt}
+use Rattle.control_rules.specs.Descriptors.{Kind, selector, extension, revisionOf, knownAs, kindOf, kindAt, lenAt, isEntity, sourcePlace}
+use Rattle.control_rules.specs.Rules.{pinCount, pinsRight, entityOf, entitiesAt}
 use Rattle.control_rules.proofs.Within.{sources-within}
 use Rattle.control_rules.proofs.Subtypes.{entity-known}
 use Rattle.sources.specs.Sources.{sourcesOf, sourceAt}
@@ -32,6 +32,19 @@ use Rattle.control.specs.Listed.{Starts, Stands, Distinct, Named, Listed
 use Rattle.control.specs.declared.Control.{Control}
 use Rattle.control.proofs.Walking.{Fine, fine}
 use Rattle.control.proofs.ExactlyWhen.{accepted, tables}
+
+-- 12: p is 1 to 16
+few-pins : (p : ℕ) → pinCount p ≡ true → (1 ≤ p) × (p ≤ 16)
+unfolding pinCount
+few-pins p h = (leb-true 1 p (and-first _ _ h), leb-true p 16 (and-second (leb 1 p) _ h))
+
+selector-few : (k : Kind) (s : List ℕ) (o : ℕ) → pinsRight k s o ≡ true → k ≡ selector → (1 ≤ byte s o 4) × (byte s o 4 ≤ 16)
+unfolding pinsRight
+selector-few k s o h e = few-pins (byte s o 4) (rw e at h)
+
+extension-few : (k : Kind) (s : List ℕ) (o : ℕ) → pinsRight k s o ≡ true → k ≡ extension → (1 ≤ byte s o 21) × (byte s o 21 ≤ 16)
+unfolding pinsRight
+extension-few k s o h e = few-pins (byte s o 21) (rw e at h)
 
 -- an ID that was not used before is that of no entity of the list
 unused : (l : List Entity) (x : ℕ) → usedBefore l x ≡ false → (i : ℕ) → i < length l → entityAt l i .id ≡ x → ⊥
@@ -85,7 +98,7 @@ module _ (s : List ℕ) where
     }
       where
         new-entity : Stands s l (entityOf s o)
-        new-entity = record { starts = here; entity = q; same = refl; shaped = f .shaped; order = h .before; nonzero = eqb-false (byte s o 3) 0 (f .nonzero q) }
+        new-entity = record { starts = here; entity = q; same = refl; shaped = f .shaped; order = h .before; nonzero = eqb-false (byte s o 3) 0 (f .nonzero q); selector-pins = selector-few (kindAt s o) s o (f .pins); extension-pins = extension-few (kindAt s o) s o (f .pins) }
 
     held-other : Held l p
     held-other = record { entities = h .entities; before = λ i b. behind _ (h .before i b); distinct = h .distinct; few = h .few }

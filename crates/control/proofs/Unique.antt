@@ -5,8 +5,8 @@ use mathlib.Core.List.{List}
 use native.Mathlib.Omega.{arith}
 use Rattle.rules.specs.Walk.{Outcome, Outcome.done, Outcome.stop}
 use Rattle.rules.specs.declared.Verdict.{Verdict}
-use Rattle.rules.specs.declared.Verdict.the-variants.{Accepted, Refused}
 use Rattle.rules.proofs.Rows.{given-unique, given-none}
+use Rattle.rules.proofs.Verdicts.{apart, same-by}
 use Rattle.entities.specs.declared.Entity.{Entity}
 use Rattle.sources.specs.Sources.{Judged}
 use Rattle.sources.proofs.Unique.{judge-unique}
@@ -16,14 +16,8 @@ use Rattle.control.specs.declared.Control.{Control}
 pub done-apart : (l : List Entity) (k o : ℕ) → done l ≡ stop k o → ⊥
 done-apart l k o e = let z : _≡_ {A = ℕ} 0 1 = cc in omega arith
 
-pub verdict-apart : (k o : ℕ) → Refused k o ≡ Accepted → ⊥
-verdict-apart k o e = let z : _≡_ {A = ℕ} 0 1 = cc in omega arith
-
 pub same-seen : (a b : List Entity) → done a ≡ done b → a ≡ b
 same-seen a b e = cc
-
-same-refusal : (k o j p : ℕ) → Refused k o ≡ Refused j p → refusedBy k o ≡ refusedBy j p
-same-refusal k o j p e = let x : k ≡ j = cc in let y : o ≡ p = cc in rw (x, y)
 
 stop-refusal : (k o j p : ℕ) → _≡_ {A = Outcome (List Entity)} (stop k o) (stop j p) → refusedBy k o ≡ refusedBy j p
 stop-refusal k o j p e = let x : k ≡ j = cc in let y : o ≡ p = cc in rw (x, y)
@@ -43,9 +37,9 @@ module _ (s : List ℕ) where
   read-unique (descriptor k o z y) (sound l x w v) = absurd (done-apart l k o (sym w ∙ y))
   read-unique (source l k o z y v) (block j f) = absurd (given-none f z)
   read-unique (source l k o z y v) (descriptor j p x w) = absurd (done-apart l j p (sym y ∙ w))
-  read-unique (source l k o z y v) (source m j p x w u) = same-refusal k o j p (judged-same l m _ _ (same-seen l m (sym y ∙ w)) v u)
-  read-unique (source l k o z y v) (sound m x w u) = absurd (verdict-apart k o (judged-same l m _ _ (same-seen l m (sym y ∙ w)) v u))
+  read-unique (source l k o z y v) (source m j p x w u) = same-by refusedBy k o j p (judged-same l m _ _ (same-seen l m (sym y ∙ w)) v u)
+  read-unique (source l k o z y v) (sound m x w u) = absurd (apart k o (judged-same l m _ _ (same-seen l m (sym y ∙ w)) v u))
   read-unique (sound l z y v) (block j f) = absurd (given-none f z)
   read-unique (sound l z y v) (descriptor j p x w) = absurd (done-apart l j p (sym y ∙ w))
-  read-unique (sound l z y v) (source m j p x w u) = absurd (verdict-apart j p (sym (judged-same l m _ _ (same-seen l m (sym y ∙ w)) v u)))
+  read-unique (sound l z y v) (source m j p x w u) = absurd (apart j p (sym (judged-same l m _ _ (same-seen l m (sym y ∙ w)) v u)))
   read-unique (sound l z y v) (sound m x w u) = ap (acceptedWith s) (same-seen l m (sym y ∙ w))

@@ -11,9 +11,9 @@ use native.Mathlib.Omega.{arith}
 use Rattle.le.specs.Le.{byte, le32At}
 use Rattle.rules.specs.Pick.{pick}
 use Rattle.rules.specs.Pad.{pad}
-use Rattle.rules.specs.Numbered.{firstRow, NoneOf}
+use Rattle.rules.specs.Numbered.{firstRow, NoneOf, isBroken}
 use Rattle.rules.specs.Walk.{Outcome.done, walk, brokenAt}
-use Rattle.rules.proofs.Rows.{Numbered, row-none, row-gives}
+use Rattle.rules.proofs.Rows.{Numbered, none-broken, row-none, row-gives}
 use Rattle.rules.proofs.Padded.{pad-set}
 use Rattle.rules.proofs.Walks.{Steady, Walking, starts, stops, ends, goes}
 use Rattle.rules.specs.declared.Verdict.{Verdict}
@@ -27,7 +27,7 @@ use Rattle.entities.specs.declared.Revision.{Revision}
 use Rattle.marks.specs.Marks.{noMarks, marked, withMark}
 use Rattle.marks.proofs.Sets.{Good, good-none, good-with, none-marked, with-marked}
 use Rattle.control_rules.specs.Descriptors.{lenAt, revisionOf, knownAs, kindOf, kindAt, isEntity, Shaped}
-use Rattle.control_rules.specs.Rules.{limits, headRows, entityRows, kindRows, rowsIn, rows, entityOf, entitiesAt}
+use Rattle.control_rules.specs.Rules.{limits, headRows, pinsRight, entityRows, kindRows, rowsIn, rows, entityOf, entitiesAt}
 use Rattle.control_rules.proofs.Shortest.{sub-room, id-room}
 use Rattle.sources.specs.Sources.{Judged}
 use Rattle.control.specs.Answer.{usedBefore, course, refusedBy, ControlIs, ControlIs.block, ControlIs.descriptor, ControlIs.source, ControlIs.sound}
@@ -39,15 +39,21 @@ pub record Fine (s : List ℕ) (o : ℕ) (u : Bool) (n : ℕ) : Type 0 where
   pub few : isEntity (kindAt s o) ≡ true → n < entitiesMost
   pub fresh : isEntity (kindAt s o) ≡ true → u ≡ false
   pub nonzero : isEntity (kindAt s o) ≡ true → eqb (byte s o 3) 0 ≡ false
+  pub pins : pinsRight (kindAt s o) s o ≡ true
 
 pub fine : (s : List ℕ) (o : ℕ) (u : Bool) (n : ℕ) → NoneOf (rows s o u n) → Fine s o u n
-unfolding rowsIn kindRows entityRows
-fine s o u n d = let p = placed s o (d .0) in record {
-  shaped = record { long = p .long; inside = p .inside; right = not-false _ (d .1 .1 .0) };
-  few = λ e. leb-false entitiesMost n (rw e at (d .1 .1 .1 .1 .1 .1 .0));
-  fresh = λ e. rw e at (d .1 .1 .1 .1 .1 .0);
-  nonzero = λ e. rw e at (d .1 .1 .1 .1 .0);
+unfolding rowsIn kindRows entityRows isBroken pick
+fine s o u n d = let p = placed s o (kept 5) in record {
+  shaped = record { long = p .long; inside = p .inside; right = not-false _ (kept 7) };
+  few = λ e. leb-false entitiesMost n (rw e at (kept 11));
+  fresh = λ e. rw e at (kept 10);
+  nonzero = λ e. rw e at (kept 9);
+  pins = not-false _ (kept 12);
 }
+  where
+    -- rule k is kept
+    kept : (k : ℕ) → isBroken k (rows s o u n) ≡ false
+    kept k = none-broken (rows s o u n) k d
 
 -- no rule has number 0
 pub head-numbered : (s : List ℕ) → Numbered (headRows s)

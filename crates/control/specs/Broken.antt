@@ -8,7 +8,7 @@ use Rattle.rules.specs.Walk.{Reached, Clean, FirstBreak}
 use Rattle.entities.specs.Table.{entityAt}
 use Rattle.entities.specs.declared.Entity.{Entity}
 use Rattle.control_rules.specs.Rules.{headRows}
-use Rattle.sources.specs.Sources.{Breaks13, Breaks14, Breaks15}
+use Rattle.sources.specs.Sources.{Breaks13, Breaks14, Breaks15, None}
 use Rattle.control.specs.Answer.{course}
 
 -- the block breaks none of 1 to 4
@@ -19,15 +19,11 @@ BlockRight s = NoneOf (headRows s)
 abbrev pub Entities : List ℕ → List Entity → Type 0
 Entities s seen = Reached (course s) seen (length s)
 
--- no entity breaks the rule
-abbrev pub Kept : List Entity → (ℕ → Type 0) → Type 0
-Kept seen P = (i : ℕ) → i < length seen → P i → ⊥
-
 -- no rule is broken: by the block, by any of its descriptors, or by any entity's sources
 pub record Sound (s : List ℕ) : Type 0 where
   pub block : BlockRight s
   pub descriptors : Clean (course s)
-  pub sources : (seen : List Entity) → Entities s seen → Kept seen (Breaks13 s seen) × Kept seen (Breaks14 s seen) × Kept seen (Breaks15 s seen)
+  pub sources : (seen : List Entity) → Entities s seen → None seen (Breaks13 s seen) × None seen (Breaks14 s seen) × None seen (Breaks15 s seen)
 
 -- the first entity in block order that breaks the rule stands at o
 pub record FirstEntity (seen : List Entity) (P : ℕ → Type 0) (o : ℕ) : Type 0 where
@@ -42,5 +38,5 @@ pub data FirstBroken (s : List ℕ) : ℕ → ℕ → Type 0 where
   by-block : (k : ℕ) → Given (headRows s) k → FirstBroken s k 0
   by-descriptor : (k o : ℕ) → BlockRight s → FirstBreak (course s) k o → FirstBroken s k o
   by-13 : (seen : List Entity) (o : ℕ) → BlockRight s → Clean (course s) → Entities s seen → FirstEntity seen (Breaks13 s seen) o → FirstBroken s 13 o
-  by-14 : (seen : List Entity) (o : ℕ) → BlockRight s → Clean (course s) → Entities s seen → Kept seen (Breaks13 s seen) → FirstEntity seen (Breaks14 s seen) o → FirstBroken s 14 o
-  by-15 : (seen : List Entity) (o : ℕ) → BlockRight s → Clean (course s) → Entities s seen → Kept seen (Breaks13 s seen) → Kept seen (Breaks14 s seen) → FirstEntity seen (Breaks15 s seen) o → FirstBroken s 15 o
+  by-14 : (seen : List Entity) (o : ℕ) → BlockRight s → Clean (course s) → Entities s seen → None seen (Breaks13 s seen) → FirstEntity seen (Breaks14 s seen) o → FirstBroken s 14 o
+  by-15 : (seen : List Entity) (o : ℕ) → BlockRight s → Clean (course s) → Entities s seen → None seen (Breaks13 s seen) → None seen (Breaks14 s seen) → FirstEntity seen (Breaks15 s seen) o → FirstBroken s 15 o

@@ -5,21 +5,20 @@ use mathlib.Core.Path.{_≡_}
 use mathlib.Core.List.{List}
 use mathlib.Core.Bool.{true}
 use lib.ListN.{length, take}
-use Rattle.rules.specs.Walk.{Reached}
+use Rattle.le.specs.Le.{byte}
+use Rattle.rules.specs.Walk as walk
 use Rattle.rules.specs.Chain.{OnLoop}
-use Rattle.entities.specs.Table.{entitiesMost, entityAt, findFrom}
+use Rattle.entities.specs.Table.{entitiesMost, outputTerminal, entityAt, findFrom}
 use Rattle.entities.specs.declared.Entity.{Entity}
 use Rattle.entities.specs.declared.Found.the-variants.{At}
-use Rattle.control_rules.specs.Descriptors.{kindAt, isEntity, Shaped}
+use Rattle.control_rules.specs.Descriptors.{selector, extension, kindAt, isEntity, Shaped}
 use Rattle.control_rules.specs.Rules.{entityOf}
 use Rattle.sources.specs.Sources.{sourcesOf, sourceAt, Feeds}
 use Rattle.control.specs.Answer.{course}
 
 -- a descriptor of the block starts at o
-pub record Starts (s : List ℕ) (o : ℕ) : Type 0 where
-  pub seen : List Entity
-  pub there : Reached (course s) seen o
-  pub inside : o < length s
+abbrev pub Starts : List ℕ → ℕ → Type 0
+Starts s o = walk.Starts (course s) o
 
 -- the entity e, with those before it
 pub record Stands (s : List ℕ) (before : List Entity) (e : Entity) : Type 0 where
@@ -30,6 +29,9 @@ pub record Stands (s : List ℕ) (before : List Entity) (e : Entity) : Type 0 wh
   pub shaped : Shaped (kindAt s (e .offset)) s (e .offset)
   pub order : (j : ℕ) → j < length before → entityAt before j .offset < e .offset
   pub nonzero : e .id ≡ 0 → ⊥
+  -- p, the number of sources of a selector unit and of an extension unit, is 1 to 16
+  pub selector-pins : kindAt s (e .offset) ≡ selector → (1 ≤ byte s (e .offset) 4) × (byte s (e .offset) 4 ≤ 16)
+  pub extension-pins : kindAt s (e .offset) ≡ extension → (1 ≤ byte s (e .offset) 21) × (byte s (e .offset) 21 ≤ 16)
 
 -- each has an ID of its own
 abbrev pub Distinct : List Entity → Type 0
@@ -40,7 +42,7 @@ pub record Named (s : List ℕ) (l : List Entity) (e : Entity) (q : ℕ) : Type 
   pub place : ℕ
   pub inside : place < length l
   pub found : findFrom 0 l (sourceAt s e q) ≡ At place
-  pub plain : entityAt l place .kind ≡ 3 → ⊥
+  pub plain : entityAt l place .kind ≡ outputTerminal → ⊥
 
 pub record Listed (s : List ℕ) (l : List Entity) : Type 0 where
   pub entities : (i : ℕ) → i < length l → Stands s (take i l) (entityAt l i)

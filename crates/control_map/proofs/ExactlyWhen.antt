@@ -15,7 +15,7 @@ use Rattle.control_rules.proofs.Within.{controls-within}
 use Rattle.control_rules.proofs.Subtypes.{entity-known}
 use Rattle.control.specs.Answer.{refusedBy, ControlIs}
 use Rattle.control.specs.Broken.{FirstBroken, FirstBroken.by-block, FirstBroken.by-descriptor, FirstBroken.by-13, FirstBroken.by-14, FirstBroken.by-15}
-use Rattle.control.proofs.Unique.{verdict-apart}
+use Rattle.rules.proofs.Verdicts as verdicts
 use Rattle.control.proofs.ExactlyWhen.{refused, from-first, head-few, rows-few}
 use Rattle.control_map.specs.Answer.{HasControls, AcceptedWith, Mapped, controlsAt, refusedMap, MapIs, MapIs.own, MapIs.given, MapIs.sixteen}
 use Rattle.control_map.specs.declared.Map.{Map}
@@ -27,7 +27,7 @@ verdict-of r t e = ap (λ (m : Map). m .verdict) e
 
 -- what is given is no refusal
 given-apart : (s : List ℕ) (o n k p : ℕ) → controlsAt s o n ≡ refusedMap k p → ⊥
-given-apart s o n k p e = verdict-apart k p (sym (verdict-of _ _ e))
+given-apart s o n k p e = verdicts.apart k p (sym (verdict-of _ _ e))
 
 same-number : (j p k o : ℕ) → refusedMap j p ≡ refusedMap k o → (j ≡ k) × (p ≡ o)
 same-number j p k o e = let z : Refused j p ≡ Refused k o = verdict-of _ _ e in let x : j ≡ k = cc in let y : p ≡ o = cc in (x, y)
@@ -84,9 +84,9 @@ module _ (s : List ℕ) (id : ℕ) where
     pub bytes : r ≡ controlsAt s (entityAt seen entity .offset) place
 
   to-bytes : {r : Map} → MapIs s id r → r .verdict ≡ Accepted → MappedAt r
-  to-bytes (own j p q) e = absurd (verdict-apart j p e)
+  to-bytes (own j p q) e = absurd (verdicts.apart j p e)
   to-bytes (given l w i n m) e = record { seen = l; with = w; entity = i; place = n; mapped = m; bytes = refl }
-  to-bytes (sixteen l w n) e = absurd (verdict-apart 16 0 e)
+  to-bytes (sixteen l w n) e = absurd (verdicts.apart 16 0 e)
 
   pub bytes-given : (r : Map) → MapIs s id r → (r .verdict ≡ Accepted) ↔ MappedAt r
   bytes-given r m = (to-bytes m, λ u. verdict-of _ _ (u .bytes))

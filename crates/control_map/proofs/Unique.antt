@@ -2,12 +2,12 @@
 use Prim.Native.Nat.{ℕ}
 use mathlib.Core.Path.{_≡_, refl, ap}
 use mathlib.Core.List.{List}
-use Rattle.rules.specs.declared.Verdict.the-variants.{Refused}
 use Rattle.entities.specs.Table.{entityAt}
 use Rattle.entities.specs.declared.Entity.{Entity}
 use Rattle.control.specs.Answer.{refusedBy, acceptedWith, ControlIs}
 use Rattle.control.specs.declared.Control.{Control}
-use Rattle.control.proofs.Unique.{verdict-apart, read-unique}
+use Rattle.rules.proofs.Verdicts.{apart, same-by}
+use Rattle.control.proofs.Unique.{read-unique}
 use Rattle.control.proofs.ExactlyWhen.{one-list}
 use Rattle.control_map.specs.Answer.{AcceptedWith, Mapped, controlsAt, refusedMap, MapIs, MapIs.own, MapIs.given, MapIs.sixteen}
 use Rattle.control_map.specs.declared.Map.{Map}
@@ -16,12 +16,9 @@ use Rattle.control_map.proofs.Mapping.{clean, mapped-once, one-place}
 verdicts-same : (a b : Control) → a ≡ b → a .verdict ≡ b .verdict
 verdicts-same a b e = ap (λ (c : Control). c .verdict) e
 
-same-refusal : (k o j p : ℕ) → Refused k o ≡ Refused j p → refusedMap k o ≡ refusedMap j p
-same-refusal k o j p e = let x : k ≡ j = cc in let y : o ≡ p = cc in rw (x, y)
-
 module _ (s : List ℕ) (id : ℕ) where
   pub not-both : (k o : ℕ) (l : List Entity) → ControlIs s (refusedBy k o) → AcceptedWith s l → ⊥
-  not-both k o l c a = verdict-apart k o (verdicts-same (refusedBy k o) (acceptedWith s l) (read-unique s c (a .accepted)))
+  not-both k o l c a = apart k o (verdicts-same (refusedBy k o) (acceptedWith s l) (read-unique s c (a .accepted)))
 
   pub same-list : (l m : List Entity) → AcceptedWith s l → AcceptedWith s m → l ≡ m
   same-list l m a b = one-list s (clean s l a) l m (a .entities) (b .entities)
@@ -36,7 +33,7 @@ module _ (s : List ℕ) (id : ℕ) where
       rw (e, k, n)
 
   pub controls-unique : {r t : Map} → MapIs s id r → MapIs s id t → r ≡ t
-  controls-unique (own k o c) (own j p d) = same-refusal k o j p (verdicts-same (refusedBy k o) (refusedBy j p) (read-unique s c d))
+  controls-unique (own k o c) (own j p d) = same-by refusedMap k o j p (verdicts-same (refusedBy k o) (refusedBy j p) (read-unique s c d))
   controls-unique (own k o c) (given l a i p m) = absurd (not-both k o l c a)
   controls-unique (own k o c) (sixteen l a n) = absurd (not-both k o l c a)
   controls-unique (given l a i p m) (own k o c) = absurd (not-both k o l c a)

@@ -4,7 +4,7 @@ ghost use Prim.Native.Nat.{_<_};
 ghost use Rattle.rules.specs.declared.Verdict.the-variants.{Accepted};
 ghost use Rattle.control_rules.specs.Descriptors.{kindOf};
 ghost use Rattle.control.specs.Answer.{ControlIs};
-ghost use Rattle.control_map.specs.Answer.{MapIs, controlByte, controlBytes, controlsAt, refusedMap};
+ghost use Rattle.control_map.specs.Answer.{MapIs, controlsMost, controlByte, controlBytes, controlsAt, refusedMap};
 ghost use Rattle.control_map.specs.Inner.{cameraPlace, placeBy, placeOf, mapBy};
 use control_rules::CAMERA;
 use entities::Entity;
@@ -95,7 +95,7 @@ fn control_bytes(s: &[u8], at: usize, n: usize) -> [u8; CONTROLS_MOST]
 }
 
 fn control_byte(s: &[u8], at: usize, n: usize, i: usize) -> u8
-    requires { ⌜ (at < 131072) × (i < 32) ⌝ }
+    requires { ⌜ (at < 131072) × (i < controlsMost) ⌝ }
     ensures { λ r. ⌜ r ≡ controlByte (now (s .entry)) at n i ⌝ }
 {
     if n <= i {

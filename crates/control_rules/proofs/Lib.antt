@@ -5,3 +5,4 @@ pub mod Within
 pub mod Subtypes
 pub mod Ladder
 pub mod Unique
+pub mod Order

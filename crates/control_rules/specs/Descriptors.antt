@@ -3,12 +3,13 @@
 use Prim.Native.Nat.{ℕ, zero, suc, _+_, _≤_}
 use mathlib.Core.Path.{_≡_}
 use mathlib.Core.List.{List}
-use mathlib.Core.Bool.{Bool, true, false, not, _&&_}
+use mathlib.Core.Bool.{Bool, true, false, _&&_}
 use lib.ListN.{length, getD}
 use lib.Dec.{leb, eqb}
 use Rattle.le.specs.Le.{byte, le16At}
 use Rattle.rules.specs.Pick.{pick}
 use Rattle.entities.specs.Revisions.{saysOf}
+use Rattle.entities.specs.Table.{encodingUnit}
 use Rattle.entities.specs.declared.Revision.{Revision}
 use Rattle.entities.specs.declared.Revision.the-variants.{R10, R11, R15}
 pub use Rattle.blocks.specs.Blocks.{lenAt}
@@ -37,7 +38,7 @@ kindOf (suc (suc (suc (suc (suc (suc (suc (suc n)))))))) = unknown
 
 -- the subtype as a revision reads it: one without encoding units does not know 7, as none knows 0
 unfoldable pub knownAs : Revision → ℕ → ℕ
-knownAs v x = pick (eqb x 7) (pick (saysOf v .encoding) 7 0) x
+knownAs v x = pick (eqb x encodingUnit) (pick (saysOf v .encoding) encodingUnit 0) x
 
 -- the kind by the subtype, as a revision reads it; and as the block's own does
 abbrev pub kindIn : Revision → List ℕ → ℕ → Kind

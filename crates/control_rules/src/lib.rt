@@ -11,6 +11,7 @@ ghost use Rattle.marks.specs.Marks.{marked};
 ghost use Rattle.control_rules.specs.Descriptors.{lenAt, revisionBy, revisionOf, knownAs, kindOf, kindAt, isEntity, terminalOf, Shaped};
 ghost use Rattle.control_rules.specs.Rules.{limits, headRows, rowsIn, kindRows, entityRows, isRevision, revisionRight, pinCount, pinsRight, entityOf};
 use blocks::Limits;
+use entities::ENCODING_UNIT;
 use entities::ENTITIES_MOST;
 use entities::Entity;
 use entities::Revision;
@@ -65,11 +66,11 @@ fn revision_by(bcd: u16) -> Revision
 pub fn known_as(revision: Revision, sub: u8) -> u8
     ensures { λ r. ⌜ r ≡ knownAs revision sub ⌝ }
 {
-    if sub != 7 {
+    if sub != ENCODING_UNIT {
         return sub;
     }
     if entities::says_of(revision).encoding {
-        return 7;
+        return ENCODING_UNIT;
     }
     0
 }

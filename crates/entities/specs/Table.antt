@@ -16,6 +16,19 @@ use Rattle.entities.specs.declared.Found.the-variants.{At, Nothing}
 abbrev pub entitiesMost : ℕ
 entitiesMost = 32
 
+-- the kinds that the rules name, by their subtype number
+abbrev pub inputTerminal : ℕ
+inputTerminal = 2
+
+abbrev pub outputTerminal : ℕ
+outputTerminal = 3
+
+abbrev pub processingUnit : ℕ
+processingUnit = 5
+
+abbrev pub encodingUnit : ℕ
+encodingUnit = 7
+
 -- an unused place
 abbrev pub noEntity : Entity
 noEntity = record { id = 0; kind = 0; terminal = 0; offset = 0 }

@@ -9,6 +9,13 @@ ghost use Rattle.entities.specs.Revisions.{saysOf};
 // Ours: the most entities of a block, and the places of its table.
 pub const ENTITIES_MOST: usize = 32;
 
+// The kinds that the rules name, by their subtype number.
+pub const OUTPUT_TERMINAL: u8 = 3;
+
+pub const PROCESSING_UNIT: u8 = 5;
+
+pub const ENCODING_UNIT: u8 = 7;
+
 // A terminal or a unit: its ID, its subtype number, its terminal type or 0, and where its descriptor stands.
 pub struct Entity {
     pub id: u8,

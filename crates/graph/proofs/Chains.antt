@@ -4,7 +4,6 @@ use mathlib.Core.Path.{_≡_, refl, sym, ap, _∙_, subst}
 use mathlib.Core.Logic.{_⊎_, inl, inr, ⊎-elim, _↔_, _≢_}
 use mathlib.Core.List.{List}
 use native.Mathlib.Omega.{arith}
-use native.Mathlib.Nat.{eq-or-lt-of-le}
 use lib.ListN.{length, getD, set, length-set, List·getD-eq-default}
 use lib.Seq.{getD-set-same, getD-set-other}
 use lib.Bits.{bitOr}
@@ -12,15 +11,13 @@ use borrow.Author.Count.{below-more}
 use Rattle.rules.specs.Chain.{Chain, Chain.one, Chain.more}
 use Rattle.rules.proofs.Firsts.{lt-or-ge}
 use Rattle.bits.specs.Bits.{bitOf, Bit}
+use Rattle.rules.proofs.Firsts.{below-or-at}
 use Rattle.bits.proofs.Bits.{bit-zero, or-cases, or-l, or-r}
 use Rattle.graph.specs.Rows.{places, Edge, Through}
 
 pub data Via (E : ℕ → ℕ → Type 0) (k : ℕ) : ℕ → ℕ → Type 0 where
   straight : {i j : ℕ} → E i j → Via E k i j
   over : {i m j : ℕ} → E i m → m < k → Via E k m j → Via E k i j
-
-below-or-at : (m k : ℕ) → m < k + 1 → (m < k) ⊎ (m ≡ k)
-below-or-at m k l = ⊎-elim (λ e. inr e) (λ h. inl h) (eq-or-lt-of-le {n = m} {m = k} (omega arith))
 
 module _ (E : ℕ → ℕ → Type 0) where
   pub via-more : {k i j : ℕ} → Via E k i j → Via E (k + 1) i j

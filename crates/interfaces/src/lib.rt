@@ -6,7 +6,7 @@ ghost use lib.ListN.{length};
 ghost use lib.Dec.{leb};
 ghost use Rattle.rules.specs.Pick.{pick};
 ghost use Rattle.interfaces.specs.Line.{nextOf};
-ghost use Rattle.interfaces.specs.Blocks.{blockAt, streamAt, noStream, streamsOf, placeOf};
+ghost use Rattle.interfaces.specs.Blocks.{interfacesMost, blockAt, streamAt, noStream, streamsOf, placeOf};
 ghost use Rattle.interfaces.specs.Limits.{oneTooMany, noCounts, tooMany};
 use configuration_rules::Sought;
 
@@ -117,7 +117,7 @@ pub fn listed(s: &[u8]) -> Streams
 
 // Inner: the callers have at most 8 streams. The place of the first stream of this number; `count` where there is none.
 pub fn place_of(streams: [Stream; INTERFACES_MOST], count: usize, number: u8) -> usize
-    requires { ⌜ count ≤ 8 ⌝ }
+    requires { ⌜ count ≤ interfacesMost ⌝ }
     ensures { λ r. ⌜ r ≡ placeOf streams count number ⌝ }
 {
     let mut i: usize = 0;

@@ -17,6 +17,7 @@ use Rattle.rules.specs.declared.Verdict.{Verdict}
 use Rattle.rules.specs.declared.Verdict.the-variants.{Accepted, Refused}
 use Rattle.rules.proofs.Firsts.{lt-or-ge}
 use Rattle.rules.proofs.Rows.{given-none}
+use Rattle.rules.proofs.Verdicts.{apart, same-refusal}
 use Rattle.rules.proofs.Walks.{walk-done, walk-stop}
 use Rattle.configuration_rules.specs.Descriptors.{configurationType, typeAt}
 use Rattle.configuration_rules.specs.declared.Sought.the-variants.{Broken, Control}
@@ -27,12 +28,8 @@ use Rattle.interfaces.specs.Limits.{firstTooMany, tooMany}
 use Rattle.layout.specs.Answer.{bytesLeast, bytesMost, verdict70, verdict71, controlsVerdict, verdict72, verdict75, layoutOf}
 use Rattle.layout.specs.Words.{Starts, Lists, FirstTooMany, NoneTooMany}
 use Rattle.layout.specs.Broken.{Whole, Kept, OneControl, SecondControl, Laid, FirstMislaid, by-70-whole, by-70, by-71, by-72-none, by-72-second, by-75}
-use Rattle.layout.proofs.Parts.{apart}
 use Rattle.layout.proofs.Walked.{steady, walk-line, lists}
 use Rattle.layout.proofs.Few.{first-there, none-there, end-there, one-first}
-
-same-refusal : (j p k o : ℕ) → Refused j p ≡ Refused k o → (j ≡ k) × (p ≡ o)
-same-refusal j p k o e = (cc, cc)
 
 module _ (s : List ℕ) where
   -- ---- 70

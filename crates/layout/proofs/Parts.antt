@@ -9,13 +9,11 @@ use Rattle.rules.specs.Verdicts.{_andThen_}
 use Rattle.rules.specs.declared.Verdict.{Verdict}
 use Rattle.rules.specs.declared.Verdict.the-variants.{Accepted, Refused}
 use Rattle.rules.proofs.Firsts.{lt-or-ge}
+use Rattle.rules.proofs.Verdicts.{apart}
 use Rattle.configuration_rules.specs.declared.Sought.the-variants.{Control}
 use Rattle.interfaces.specs.Line.{found, nextOf}
 use Rattle.interfaces.proofs.Lines.{found-end, next-is}
 use Rattle.layout.specs.Answer.{verdict70, verdict71, controlsVerdict, verdict72, verdict75, layoutOf}
-
-pub apart : (k o : ℕ) → Refused k o ≡ Accepted → ⊥
-apart k o e = let z : _≡_ {A = ℕ} 0 1 = cc in omega arith
 
 pub both : (a b : Verdict) → a andThen b ≡ Accepted → (a ≡ Accepted) × (b ≡ Accepted)
 both Accepted b e = (refl, e)

@@ -5,6 +5,7 @@ use mathlib.Core.List.{List}
 use mathlib.Core.Logic.{_⊎_}
 use lib.ListN.{length, getD}
 use Rattle.rules.specs.Walk.{Reached}
+use Rattle.rules.specs.Walk as walk
 use Rattle.configuration_rules.specs.Descriptors.{streamingSubclass, numberAt}
 use Rattle.configuration_rules.specs.Words.{Video, StreamingFirst, ClassSpecific}
 use Rattle.interfaces.specs.Line.{course}
@@ -12,10 +13,8 @@ use Rattle.interfaces.specs.Blocks.{interfacesMost, settingsMost}
 use Rattle.interfaces.specs.Limits.{listedAmong, settingsAmong}
 
 -- a descriptor starts at o
-pub record Starts (s : List ℕ) (o : ℕ) : Type 0 where
-  pub seen : List ℕ
-  pub there : Reached (course s) seen o
-  pub inside : o < length s
+abbrev pub Starts : List ℕ → ℕ → Type 0
+Starts s o = walk.Starts (course s) o
 
 -- the list has exactly the descriptors of which P holds, in order of appearance
 pub record Lists (s : List ℕ) (P : ℕ → Type 0) (l : List ℕ) : Type 0 where

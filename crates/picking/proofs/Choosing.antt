@@ -9,6 +9,7 @@ use native.Mathlib.Omega.{arith}
 use Rattle.rules.specs.Pick.{pick}
 use Rattle.rules.specs.declared.Verdict.the-variants.{Accepted, Refused}
 use Rattle.rules.proofs.Places.{first-place}
+use Rattle.rules.proofs.Verdicts.{apart}
 use Rattle.interfaces.specs.Blocks.{noStream, streamsOf, placeOf}
 use Rattle.interfaces.specs.declared.Stream.{Stream}
 use Rattle.interfaces.proofs.Listing.{streams-few}
@@ -43,9 +44,6 @@ module _ (s : List ℕ) (l : List Stream) (n i p k : ℕ) (e : k ≡ placeOf l n
     one-large z y = rw (← chosen, y)
 
 -- ---- after the configuration's own refusals
-apart : (k o : ℕ) → Refused k o ≡ Accepted → ⊥
-apart k o e = let z : _≡_ {A = ℕ} 0 1 = cc in omega arith
-
 module _ (s : List ℕ) where
   -- the streams of an accepted configuration are those of its bytes
   same-streams : {c : Configuration} → ConfigurationIs s c → c .verdict ≡ Accepted → (c .streams ≡ streamsOf s .streams) × (c .count ≡ streamsOf s .count)

@@ -2,6 +2,7 @@
 ghost use mathlib.Core.Path.{_≡_};
 ghost use Prim.Native.Nat.{_≤_};
 ghost use Rattle.settings.specs.Settings.{fewestOf};
+ghost use Rattle.interfaces.specs.Blocks.{interfacesMost};
 ghost use Rattle.picking.specs.Answer.{settingsIn, refusedBy, answerOf, PickIs};
 use interfaces::INTERFACES_MOST;
 use interfaces::Stream;
@@ -36,7 +37,7 @@ fn pick_among(
     interface: u8,
     payload: u32,
 ) -> Picked
-    requires { ⌜ count ≤ 8 ⌝ }
+    requires { ⌜ count ≤ interfacesMost ⌝ }
     ensures { λ r. ⌜ r ≡ answerOf (fewestOf payload (settingsIn (now (s .entry)) streams count interface)) ⌝ }
 {
     let i = interfaces::place_of(streams, count, interface);

@@ -2,7 +2,7 @@
 -- back. A refused write changes no byte, and no byte past the revision's block ever changes.
 use Prim.Native.Nat.{ℕ, zero, suc, _+_, _*_, _/_, _%_, _^_, _≤_, _<_}
 use mathlib.Core.Path.{_≡_, refl, sym, ap, _∙_}
-use mathlib.Core.List.{List, [], _∷_, _++_}
+use mathlib.Core.List.{List, _++_}
 use mathlib.Core.Bool.{Bool, true, false}
 use lib.ListN.{length, getD, take, drop, length-drop}
 use lib.Seq.{drop-cons, take-at, drop-at}
@@ -13,6 +13,8 @@ use native.Mathlib.Nat.{mod-eq-of-lt, div-eq-of-lt, div-add-mod', add-mul-div-ri
 use native.Mathlib.Numerals.{add-one}
 use Rattle.rules.specs.Pick.{pick}
 use Rattle.rules.specs.declared.Verdict.the-variants.{Accepted, Refused}
+use Rattle.rules.proofs.Lists.{no-elements}
+use Rattle.rules.proofs.Verdicts.{apart}
 use Rattle.entities.specs.Revisions.{saysOf}
 use Rattle.entities.specs.declared.Revision.{Revision}
 use Rattle.entities.specs.declared.Revision.the-variants.{R10, R11, R15}
@@ -80,11 +82,7 @@ four-bytes a b c d h k l m =
 
 -- ---- a list and its bytes
 bytes-drop : (s : List ℕ) (o n : ℕ) → o + n ≡ length s → bytesAt s o n ≡ drop o s
-bytes-drop s o zero e = sym (nothing (drop o s) (simp length-drop (omega arith)))
-  where
-    nothing : (l : List ℕ) → length l ≡ 0 → l ≡ []
-    nothing [] e = refl
-    nothing (x ∷ l) e = absurd (omega arith)
+bytes-drop s o zero e = sym (no-elements (drop o s) (simp length-drop (omega arith)))
 bytes-drop s o (suc n) e = rw (drop-cons s o 0 (omega arith), ← add-one o, bytes-drop s (o + 1) n (omega arith))
 
 pub bytes-all : (s : List ℕ) (n : ℕ) → length s ≡ n → bytesAt s 0 n ≡ s
@@ -130,7 +128,7 @@ module _ (v : Revision) (p : Probe) (room : List ℕ) where
     where
       go : (b : Bool) → ltb (length room) (probeSize v) ≡ b → written v p room ≡ room
       go true q = short-is (ltb-true (length room) (probeSize v) q)
-      go false q = let w : Accepted ≡ Refused k o = rw q at e in let z : _≡_ {A = ℕ} 0 1 = cc in absurd (omega arith)
+      go false q = absurd (apart k o (sym (rw q at e)))
 
   -- bytes past the revision's block never change
   pub past-kept : drop (probeSize v) (written v p room) ≡ drop (probeSize v) room

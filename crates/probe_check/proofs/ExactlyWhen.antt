@@ -16,6 +16,7 @@ use Rattle.rules.specs.Numbered.{Row, row, firstRow}
 use Rattle.rules.specs.Asked.{AllKept, FirstFails}
 use Rattle.rules.specs.declared.Verdict.{Verdict}
 use Rattle.rules.specs.declared.Verdict.the-variants.{Accepted, Refused}
+use Rattle.rules.proofs.Verdicts.{apart}
 use Rattle.rules.proofs.Rows.{or-first, or-second}
 use Rattle.rules.proofs.Firsts.{first-map, first-unique}
 use Rattle.rules.proofs.Padded.{pad-at}
@@ -213,9 +214,6 @@ module _ (t : Table) (s b : List ℕ) where
       at true q = ends (eqb-true (length b) (probeSize (t .revision)) q) (streamingOf t s) refl (reads t s)
       at false q = let n = eqb-false (length b) (probeSize (t .revision)) q in rw (no-gives (of-length n)) (objected 41 0 (of-length n))
 
-  apart : (k o : ℕ) → Accepted ≡ Refused k o → ⊥
-  apart k o e = let z : _≡_ {A = ℕ} 0 1 = cc in omega arith
-
   -- ---- EXACTLY WHEN
   -- yes exactly when every one of 41, the block's own rules and 42 to 46 holds
   pub says-yes : (checkOf t s b ≡ Accepted) ↔ Yes t s b
@@ -223,12 +221,12 @@ module _ (t : Table) (s b : List ℕ) where
     where
       to : (v : Verdict) → Comes t s b v → v ≡ Accepted → Yes t s b
       to v (agreed y) e = y
-      to v (objected k o n) e = absurd (apart k o (sym e))
+      to v (objected k o n) e = absurd (apart k o e)
 
   -- otherwise the first that does not
   pub says-no : (k o : ℕ) → (checkOf t s b ≡ Refused k o) ↔ No t s b k o
   says-no k o = (to (checkOf t s b) comes, no-gives)
     where
       to : (v : Verdict) → Comes t s b v → v ≡ Refused k o → No t s b k o
-      to v (agreed y) e = absurd (apart k o e)
+      to v (agreed y) e = absurd (apart k o (sym e))
       to v (objected j p n) e = let q : j ≡ k = cc in let r : p ≡ o = cc in rw (← q, ← r) n

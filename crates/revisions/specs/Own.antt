@@ -7,7 +7,7 @@ use lib.ListN.{length}
 use Rattle.le.specs.Le.{byte, le16At}
 use Rattle.rules.specs.declared.Verdict.the-variants.{Accepted, Refused}
 use Rattle.entities.specs.Revisions.{saysOf}
-use Rattle.entities.specs.Table.{entityAt}
+use Rattle.entities.specs.Table.{inputTerminal, processingUnit, encodingUnit, entityAt}
 use Rattle.entities.specs.declared.Entity.{Entity}
 use Rattle.entities.specs.declared.Revision.{Revision}
 use Rattle.entities.specs.declared.Revision.the-variants.{R10, R11, R15}
@@ -36,9 +36,9 @@ pub record EntityBy (v : Revision) (s : List ℕ) (e : Entity) : Type 0 where
   pub kind : isEntity (kindIn v s (e .offset)) ≡ true
   pub shaped : shape v (kindIn v s (e .offset)) s (e .offset) ≡ true
   -- there are encoding units only where the revision has them
-  pub encoding : e .kind ≡ 7 → saysOf v .encoding ≡ true
-  pub camera-terminal : e .kind ≡ 2 → e .terminal ≡ camera → SizedBy v s (e .offset) (saysOf v .camera) 14
-  pub processing-unit : e .kind ≡ 5 → SizedBy v s (e .offset) (saysOf v .unit) 7
+  pub encoding : e .kind ≡ encodingUnit → saysOf v .encoding ≡ true
+  pub camera-terminal : e .kind ≡ inputTerminal → e .terminal ≡ camera → SizedBy v s (e .offset) (saysOf v .camera) 14
+  pub processing-unit : e .kind ≡ processingUnit → SizedBy v s (e .offset) (saysOf v .unit) 7
 
 -- a map that is given: the control size, and the bytes behind it, of a descriptor of that revision
 pub data MapBy (v : Revision) (s : List ℕ) : Map → Type 0 where

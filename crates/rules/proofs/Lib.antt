@@ -9,3 +9,5 @@ pub mod Padded
 pub mod Growing
 pub mod Walks
 pub mod Passing
+pub mod Verdicts
+pub mod Lists

@@ -2,15 +2,42 @@
 use Prim.Native.Nat.{ℕ, zero, suc, _<_}
 use mathlib.Core.Path.{_≡_, refl, sym, ap, _∙_, subst}
 use mathlib.Core.List.{List, [], _∷_, _++_}
-use mathlib.Core.Bool.{Bool, true, false, _||_, _&&_, true≢false}
+use mathlib.Core.Bool.{Bool, true, false, not, _||_, _&&_, true≢false}
 use mathlib.Core.Logic.{_⊎_, inl, inr, ⊎-elim, _↔_}
 use native.Mathlib.Omega.{arith}
 use native.Mathlib.Nat.{eq-or-lt-of-le}
 use lib.Dec.{eqb}
-use borrow.Author.Tests.{eq-eqb, eqb-true}
+use borrow.Author.Tests.{eq-eqb, eqb-true, eqb-false}
 use Rattle.rules.specs.Pick.{pick}
 use Rattle.rules.specs.Numbered.{Row, orElse, firstRow, Given, here, later, NoneOf, anyBelow, rowsBefore, rowsAfter, isBroken}
 
+-- ---- two tests joined
+pub or-first : (a b : Bool) → (a || b) ≡ false → a ≡ false
+or-first true b h = h
+or-first false b h = refl
+
+pub or-second : (a b : Bool) → (a || b) ≡ false → b ≡ false
+or-second true b h = absurd (true≢false h)
+or-second false b h = h
+
+pub or-either : (a b : Bool) → ((a || b) ≡ true) ↔ ((a ≡ true) ⊎ (b ≡ true))
+or-either true b = (λ h. inl refl, λ h. refl)
+or-either false b = (inr, ⊎-elim (λ h. absurd (true≢false (sym h))) (λ h. h))
+
+pub and-first : (a b : Bool) → (a && b) ≡ true → a ≡ true
+and-first true b h = refl
+and-first false b h = h
+
+pub and-second : (a b : Bool) → (a && b) ≡ true → b ≡ true
+and-second true b h = h
+and-second false b h = absurd (true≢false (sym h))
+
+-- of which the first is met, and not both
+pub and-not : (a b : Bool) → (a && b) ≡ false → a ≡ true → b ≡ false
+and-not true b h e = h
+and-not false b h e = absurd (true≢false (sym e))
+
+-- ---- the first broken row
 pub row-here : (r : Row) (rs : List Row) → r .broken ≡ true → firstRow (r ∷ rs) ≡ r .number
 row-here r rs e = rw e
 
@@ -112,6 +139,46 @@ given-from (r ∷ rs) k n e = go (eqb (r .number) k) refl n e (given-from rs k)
 pub given-by : (rows : List Row) (k : ℕ) → Elsewhere k (rowsAfter k rows) → Given rows k ↔ (NoneOf (rowsBefore k rows) × (isBroken k rows ≡ true))
 given-by rows k p = (given-to rows k p, λ x. given-from rows k (x .0) (x .1))
 
+-- where no row is broken, number k's is not
+pub none-broken : (rows : List Row) (k : ℕ) → NoneOf rows → isBroken k rows ≡ false
+unfolding isBroken pick
+none-broken [] k n = refl
+none-broken (r ∷ rs) k n = go (eqb (r .number) k) (none-broken rs k (n .1))
+  where
+    go : (b : Bool) → isBroken k rs ≡ false → pick b (r .broken) (isBroken k rs) ≡ false
+    go true h = n .0
+    go false h = h
+
+-- no number stands twice, by a test that computes
+unfoldable pub isElsewhere : ℕ → List Row → Bool
+isElsewhere k [] = true
+isElsewhere k (r ∷ rs) = not (eqb (r .number) k) && isElsewhere k rs
+
+unfoldable pub onceEach : List Row → Bool
+onceEach [] = true
+onceEach (r ∷ rs) = isElsewhere (r .number) rs && onceEach rs
+
+abbrev pub Once : List Row → Type 0
+Once rows = onceEach rows ≡ true
+
+elsewhere : (k : ℕ) (rows : List Row) → isElsewhere k rows ≡ true → Elsewhere k rows
+unfolding isElsewhere
+elsewhere k [] h = tt
+elsewhere k (r ∷ rs) h = (go (eqb (r .number) k) refl (and-first _ _ h), elsewhere k rs (and-second (not (eqb (r .number) k)) _ h))
+  where
+    go : (b : Bool) → eqb (r .number) k ≡ b → not b ≡ true → r .number ≡ k → ⊥
+    go true q n e = true≢false (sym n)
+    go false q n e = eqb-false (r .number) k q e
+
+pub once-after : (rows : List Row) → Once rows → (k : ℕ) → Elsewhere k (rowsAfter k rows)
+unfolding rowsAfter pick onceEach
+once-after [] p k = tt
+once-after (r ∷ rs) p k = go (eqb (r .number) k) refl (once-after rs (and-second (isElsewhere (r .number) rs) _ p) k)
+  where
+    go : (b : Bool) → eqb (r .number) k ≡ b → Elsewhere k (rowsAfter k rs) → Elsewhere k (pick b rs (rowsAfter k rs))
+    go true q h = subst (λ (n : ℕ). Elsewhere n rs) (eqb-true (r .number) k q) (elsewhere (r .number) rs (and-first _ _ p))
+    go false q h = h
+
 -- rows checked before others
 pub row-before : (rs qs : List Row) (k : ℕ) → firstRow rs ≡ suc k → firstRow (rs ++ qs) ≡ suc k
 row-before [] qs k e = absurd (omega arith)
@@ -135,32 +202,6 @@ row-yes b k r e = rw e
 
 pub row-no : (b : Bool) (k r x : ℕ) → b ≡ false → x ≡ r → x ≡ orElse b k r
 row-no b k r x e q = rw e q
-
--- ---- two tests joined
-pub or-first : (a b : Bool) → (a || b) ≡ false → a ≡ false
-or-first true b h = h
-or-first false b h = refl
-
-pub or-second : (a b : Bool) → (a || b) ≡ false → b ≡ false
-or-second true b h = absurd (true≢false h)
-or-second false b h = h
-
-pub or-either : (a b : Bool) → ((a || b) ≡ true) ↔ ((a ≡ true) ⊎ (b ≡ true))
-or-either true b = (λ h. inl refl, λ h. refl)
-or-either false b = (inr, ⊎-elim (λ h. absurd (true≢false (sym h))) (λ h. h))
-
-pub and-first : (a b : Bool) → (a && b) ≡ true → a ≡ true
-and-first true b h = refl
-and-first false b h = h
-
-pub and-second : (a b : Bool) → (a && b) ≡ true → b ≡ true
-and-second true b h = h
-and-second false b h = absurd (true≢false (sym h))
-
--- of which the first is met, and not both
-pub and-not : (a b : Bool) → (a && b) ≡ false → a ≡ true → b ≡ false
-and-not true b h e = h
-and-not false b h e = absurd (true≢false (sym e))
 
 -- ---- a test below n
 pub any-none : (n : ℕ) (f : ℕ → Bool) → ((k : ℕ) → k < n → f k ≡ false) → anyBelow n f ≡ false

@@ -2,13 +2,14 @@
 -- at the first descriptor that breaks one.
 use Prim.Native.Nat.{ℕ, zero, suc, _+_, _≤_, _<_}
 use mathlib.Core.Path.{_≡_, refl, sym, _∙_}
+use mathlib.Core.Bool.{true}
 use mathlib.Core.Logic.{_⊎_, inl, inr, ⊎-elim, _↔_}
 use native.Mathlib.Omega.{arith}
 use native.Mathlib.Decide.{decLt}
 use borrow.Author.Tests.{lt-ltb, le-ltb}
-use Rattle.rules.specs.Numbered.{NoneOf}
-use Rattle.rules.specs.Walk.{Course, Reached, first, next, Clean, FirstBreak, Outcome, done, stop, brokenAt, walkFrom, walk}
-use Rattle.rules.proofs.Rows.{Numbered, row-first, row-none, none-row, given-none, given-row, given-number}
+use Rattle.rules.specs.Numbered.{NoneOf, Given, rowsBefore, isBroken}
+use Rattle.rules.specs.Walk.{Course, Reached, first, next, Clean, FirstBreak, BrokenBy, Outcome, done, stop, brokenAt, walkFrom, walk}
+use Rattle.rules.proofs.Rows.{Numbered, Once, once-after, row-first, row-none, none-row, given-none, given-row, given-number, given-by}
 
 -- what a course must have: no rule has number 0, and a descriptor that breaks none has a length and lies within the block
 pub record Steady {A : Type 0} (c : Course A) : Type 0 where
@@ -164,3 +165,21 @@ module _ {A : Type 0} (c : Course A) where
     -- a walk stops at rule k and place o exactly when that is the first broken rule at the first place
     pub walk-stop : (k o : ℕ) → (walk c ≡ stop k o) ↔ FirstBreak c k o
     walk-stop k o = (to-first k o, from-first k o)
+
+  -- a descriptor's rule is the first that is broken exactly when it comes to be asked there and is broken: for every number, where none stands twice
+  module _ (once : (a : A) (o : ℕ) → Once (c .rows a o)) (k o : ℕ) where
+    given-there : (a : A) → Given (c .rows a o) k ↔ (NoneOf (rowsBefore k (c .rows a o)) × (isBroken k (c .rows a o) ≡ true))
+    given-there a = given-by (c .rows a o) k (once-after (c .rows a o) (once a o) k)
+
+    pub first-by : FirstBreak c k o ↔ BrokenBy c k o
+    first-by = (to, from)
+      where
+        to : FirstBreak c k o → BrokenBy c k o
+        to f =
+            let g = given-there (f .seen) .0 (f .given) in
+            (record { seen = f .seen; there = f .there; inside = f .inside; earlier = f .earliest; before = g .0 }, g .1)
+
+        from : BrokenBy c k o → FirstBreak c k o
+        from r =
+            let x = r .0 in
+            record { seen = x .seen; there = x .there; inside = x .inside; given = given-there (x .seen) .1 (x .before, r .1); earliest = x .earlier }

@@ -1,9 +1,10 @@
 -- A block is a line of descriptors, one after the other from offset 0. Each is held to its rules, after what the earlier ones gave.
 use Prim.Native.Nat.{ℕ, zero, suc, _+_, _≤_, _<_}
+use mathlib.Core.Path.{_≡_}
 use mathlib.Core.List.{List}
 use mathlib.Core.Bool.{Bool, true, false}
 use lib.Dec.{ltb}
-use Rattle.rules.specs.Numbered.{Row, firstRow, Given, NoneOf}
+use Rattle.rules.specs.Numbered.{Row, firstRow, Given, NoneOf, rowsBefore, isBroken}
 
 -- What a block asks of a walk. A is what the walk gathers, as the list of entities so far.
 pub record Course (A : Type 0) : Type 0 where
@@ -27,6 +28,12 @@ module _ {A : Type 0} where
     first : Reached c (c .start) 0
     next : {a : A} {o : ℕ} → Reached c a o → o < c .size → 0 < c .len o → o + c .len o ≤ c .size → Reached c (c .gather a o) (o + c .len o)
 
+  -- a descriptor starts at o
+  pub record Starts (c : Course A) (o : ℕ) : Type 0 where
+    pub seen : A
+    pub there : Reached c seen o
+    pub inside : o < c .size
+
   -- no descriptor breaks a rule
   abbrev pub Clean : Course A → Type 0
   Clean c = (a : A) (o : ℕ) → Reached c a o → o < c .size → NoneOf (c .rows a o)
@@ -38,6 +45,18 @@ module _ {A : Type 0} where
     pub inside : o < c .size
     pub given : Given (c .rows seen o) k
     pub earliest : (a : A) (p : ℕ) → Reached c a p → p < o → NoneOf (c .rows a p)
+
+  -- rule k comes to be asked of the descriptor at o: every earlier descriptor keeps its rules, and this one those that are checked before k
+  pub record Comes (c : Course A) (k o : ℕ) : Type 0 where
+    pub seen : A
+    pub there : Reached c seen o
+    pub inside : o < c .size
+    pub earlier : (a : A) (p : ℕ) → Reached c a p → p < o → NoneOf (c .rows a p)
+    pub before : NoneOf (rowsBefore k (c .rows seen o))
+
+  -- and is broken there
+  abbrev pub BrokenBy : Course A → ℕ → ℕ → Type 0
+  BrokenBy c k o = (x : Comes c k o) × (isBroken k (c .rows (x .seen) o) ≡ true)
 
   -- BY A WALK: the first rule that the descriptor at o breaks, 0 for none
   abbrev pub brokenAt : Course A → A → ℕ → ℕ

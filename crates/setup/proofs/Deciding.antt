@@ -15,7 +15,7 @@ use Rattle.entities.specs.declared.Table.{Table}
 use Rattle.control.specs.Answer.{refusedBy, ControlIs}
 use Rattle.control.specs.declared.Control.{Control}
 use Rattle.control.proofs.ExactlyWhen.{zero-table}
-use Rattle.control.proofs.Unique.{verdict-apart}
+use Rattle.rules.proofs.Verdicts.{apart}
 use Rattle.control_map.specs.Answer.{MapIs}
 use Rattle.control_map.specs.declared.Map.{Map}
 use Rattle.control_map.proofs.Mapping.{the-list}
@@ -69,9 +69,9 @@ module _ (s : List ℕ) (t : Table) (c : ControlIs s (record { verdict = Accepte
 
 -- ---- what a verdict that is known says
 is-ready : {s : List ℕ} {unit : ℕ} {g : Setting} {v : Verdict} → ReadyIs s unit g v → v ≡ Accepted → Ready s unit g
-is-ready (own k o c) e = absurd (verdict-apart k o e)
-is-ready (by-90 l a f) e = absurd (verdict-apart 90 0 e)
-is-ready (by-91 l a i u m w f) e = absurd (verdict-apart 91 0 e)
+is-ready (own k o c) e = absurd (apart k o e)
+is-ready (by-90 l a f) e = absurd (apart 90 0 e)
+is-ready (by-91 l a i u m w f) e = absurd (apart 91 0 e)
 is-ready (all-there r) e = r
 
 -- a block that has the unit and the setting is not refused
@@ -110,7 +110,7 @@ module _ (s : List ℕ) (t : Table) (c : ControlIs s (record { verdict = Accepte
   asked-by u g q e Accepted h = asks u g q (record { ready = is-ready h refl; packet = e })
   asked-by u g q e (Refused k o) h =
       none (λ x y z b. let d = packet-different interface x u y g z q (sym (b .packet) ∙ e) in
-      verdict-apart k o (ready-accepted h (rw (d .0, d .1) at (b .ready))))
+      apart k o (ready-accepted h (rw (d .0, d .1) at (b .ready))))
 
   pub read-asked : {x : Reading} (u : ℕ) (g : Setting) (q : Request) → x ≡ reading.Asks u g q → SpeltIs interface bytes x
       → (v : Verdict) → ReadyIs s u g v → (r : Reading) → r ≡ askedBy v u g q → ReadIs s interface bytes r

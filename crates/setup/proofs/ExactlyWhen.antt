@@ -11,7 +11,7 @@ use Rattle.entities.specs.declared.Entity.{Entity}
 use Rattle.control.specs.Answer.{refusedBy, ControlIs}
 use Rattle.control.specs.Broken.{FirstBroken}
 use Rattle.control.proofs.ExactlyWhen.{from-first}
-use Rattle.control.proofs.Unique.{verdict-apart}
+use Rattle.rules.proofs.Verdicts.{apart}
 use Rattle.control_map.specs.Answer.{AcceptedWith, MapIs}
 use Rattle.control_map.specs.declared.Map.{Map}
 use Rattle.control_map.proofs.ExactlyWhen.{own-number, own-first}
@@ -77,8 +77,8 @@ module _ (s : List ℕ) (unit : ℕ) (c : Setting) where
     to-94 (built r l) e = absurd (let z : _≡_ {A = ℕ} 0 1 = cc in omega arith)
 
     to-built : {v : Verdict} → BuildIs s unit c room v → v ≡ Accepted → Ready s unit c × (packetSize ≤ length room)
-    to-built (first k o h) e = absurd (verdict-apart k o e)
-    to-built (by-94 r l) e = absurd (verdict-apart 94 0 e)
+    to-built (first k o h) e = absurd (apart k o e)
+    to-built (by-94 r l) e = absurd (apart 94 0 e)
     to-built (built r l) e = (r, l)
 
     module _ (v : Verdict) (h : BuildIs s unit c room v) where

@@ -9,7 +9,7 @@ use native.Mathlib.Omega.{arith}
 use Rattle.rules.specs.declared.Verdict.{Verdict}
 use Rattle.rules.specs.declared.Verdict.the-variants.{Accepted, Refused}
 use Rattle.entities.specs.declared.Entity.{Entity}
-use Rattle.control.proofs.Unique.{verdict-apart}
+use Rattle.rules.proofs.Verdicts.{apart}
 use Rattle.control_map.specs.Answer.{AcceptedWith}
 use Rattle.control_map.proofs.ExactlyWhen.{own-number, own-first}
 use Rattle.camera_settings.specs.declared.Setting.{Setting}
@@ -27,7 +27,7 @@ pub record Promised (s : List ℕ) (interface unit : ℕ) (c : Setting) (q : Req
   pub bytes : left ≡ leaves v (packetOf interface unit c q) room
 
 built-ready : {s : List ℕ} {unit : ℕ} {c : Setting} {room : List ℕ} {v : Verdict} → BuildIs s unit c room v → v ≡ Accepted → Ready s unit c
-built-ready (first k o h) e = absurd (verdict-apart k o e)
+built-ready (first k o h) e = absurd (apart k o e)
 built-ready (by-94 r l) e = r
 built-ready (built r l) e = r
 

@@ -5,6 +5,7 @@ use mathlib.Core.List.{List}
 use native.Mathlib.Omega.{arith}
 use Rattle.rules.specs.declared.Verdict.{Verdict}
 use Rattle.rules.specs.declared.Verdict.the-variants.{Refused}
+use Rattle.rules.proofs.Verdicts.{apart}
 use Rattle.entities.specs.declared.Entity.{Entity}
 use Rattle.control.specs.Answer.{refusedBy, ControlIs}
 use Rattle.control.specs.declared.Control.{Control}
@@ -46,7 +47,7 @@ module _ (s : List ℕ) where
     ready-unique (all-there r) (all-there q) = refl
 
     refused-not-ready : (k o : ℕ) → ReadyIs s unit g (Refused k o) → Ready s unit g → ⊥
-    refused-not-ready k o h r = control.verdict-apart k o (ready-accepted h r)
+    refused-not-ready k o h r = apart k o (ready-accepted h r)
 
     pub verdict-unique : (room : List ℕ) {v w : Verdict} → BuildIs s unit g room v → BuildIs s unit g room w → v ≡ w
     verdict-unique room (first k o h) (first j p i) = ready-unique h i

@@ -8,7 +8,7 @@ use lib.Dec.{eqb}
 use borrow.Author.Tests.{eqb-true, eq-eqb}
 use native.Mathlib.Omega.{arith}
 use Rattle.rules.specs.declared.Verdict.the-variants.{Accepted}
-use Rattle.entities.specs.Table.{entityAt, foundIn}
+use Rattle.entities.specs.Table.{processingUnit, entityAt, foundIn}
 use Rattle.entities.specs.declared.Entity.{Entity}
 use Rattle.entities.specs.declared.Table.{Table}
 use Rattle.entities.specs.declared.Found.{Found}
@@ -16,7 +16,7 @@ use Rattle.entities.specs.declared.Found.the-variants.{At, Nothing}
 use Rattle.control.specs.Answer.{ControlIs}
 use Rattle.control_map.specs.Answer.{AcceptedWith}
 use Rattle.control_map.proofs.Mapping.{entities-listed, the-list, at-place, found-none, found-at}
-use Rattle.setup.specs.Setup.{processing, UnitAt}
+use Rattle.setup.specs.Setup.{UnitAt}
 use Rattle.setup.specs.Inner.{unitBy, isUnit}
 
 pub not-both : true ≡ false → ⊥
@@ -36,7 +36,7 @@ pub unit-nothing : (t : Table) (id : ℕ) (f : Found) → f ≡ foundIn t id →
 unfolding isUnit
 unit-nothing t id f e n = ap (unitBy t) (sym n ∙ e)
 
-pub unit-found : (t : Table) (id i : ℕ) (f : Found) → f ≡ foundIn t id → f ≡ At i → eqb (entityAt (t .entities) i .kind) processing ≡ isUnit t id
+pub unit-found : (t : Table) (id i : ℕ) (f : Found) → f ≡ foundIn t id → f ≡ At i → eqb (entityAt (t .entities) i .kind) processingUnit ≡ isUnit t id
 unfolding isUnit
 unit-found t id i f e n = ap (unitBy t) (sym n ∙ e)
 
@@ -54,7 +54,7 @@ module _ (s : List ℕ) (t : Table) (c : ControlIs s (record { verdict = Accepte
       go (At j) e z =
           let w = found-at s t c id (At j) e j refl in
           let k : i ≡ j = one-unit s (the-list s t c .0) (the-list s t c .1) id i j u (w .0) (w .1) in
-          not-both (sym (eq-eqb (entityAt (t .entities) j .kind) processing (rw (at-place s t c j, ← k) (u .kind))) ∙ z)
+          not-both (sym (eq-eqb (entityAt (t .entities) j .kind) processingUnit (rw (at-place s t c j, ← k) (u .kind))) ∙ z)
 
   pub some-unit : isUnit t id ≡ true → (i : ℕ) × UnitAt (the-list s t c .0) id i
   unfolding isUnit
@@ -64,5 +64,5 @@ module _ (s : List ℕ) (t : Table) (c : ControlIs s (record { verdict = Accepte
       go Nothing e z = absurd (not-both (sym z))
       go (At j) e z =
           let w = found-at s t c id (At j) e j refl in
-          let k : entityAt (t .entities) j .kind ≡ processing = eqb-true (entityAt (t .entities) j .kind) processing z in
+          let k : entityAt (t .entities) j .kind ≡ processingUnit = eqb-true (entityAt (t .entities) j .kind) processingUnit z in
           (j, record { inside = w .0; named = w .1; kind = rw (at-place s t c j) at k })

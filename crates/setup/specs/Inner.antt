@@ -5,7 +5,7 @@ use lib.ListN.{getD}
 use lib.Dec.{eqb}
 use Rattle.rules.specs.declared.Verdict.{Verdict}
 use Rattle.rules.specs.declared.Verdict.the-variants as verdict
-use Rattle.entities.specs.Table.{entityAt, foundIn}
+use Rattle.entities.specs.Table.{processingUnit, entityAt, foundIn}
 use Rattle.entities.specs.declared.Table.{Table}
 use Rattle.entities.specs.declared.Found.{Found}
 use Rattle.entities.specs.declared.Found.the-variants.{At, Nothing}
@@ -15,7 +15,6 @@ use Rattle.camera_settings.specs.declared.Setting.{Setting}
 use Rattle.camera_settings.specs.declared.Request.{Request}
 use Rattle.packets.specs.declared.Reading.{Reading}
 use Rattle.packets.specs.declared.Reading.the-variants.{Asks, Refused}
-use Rattle.setup.specs.Setup.{processing}
 
 abbrev pub askedBy : Verdict → ℕ → Setting → Request → Reading
 askedBy verdict.Accepted unit c q = Asks unit c q
@@ -23,7 +22,7 @@ askedBy (verdict.Refused k o) unit c q = Refused 95 0
 
 abbrev pub unitBy : Table → Found → Bool
 unitBy t Nothing = false
-unitBy t (At i) = eqb (entityAt (t .entities) i .kind) processing
+unitBy t (At i) = eqb (entityAt (t .entities) i .kind) processingUnit
 
 unfoldable pub isUnit : Table → ℕ → Bool
 isUnit t id = unitBy t (foundIn t id)

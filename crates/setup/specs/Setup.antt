@@ -5,7 +5,7 @@ use mathlib.Core.List.{List}
 use lib.ListN.{length, getD}
 use Rattle.rules.specs.declared.Verdict.{Verdict}
 use Rattle.rules.specs.declared.Verdict.the-variants.{Accepted, Refused}
-use Rattle.entities.specs.Table.{entityAt}
+use Rattle.entities.specs.Table.{processingUnit, entityAt}
 use Rattle.entities.specs.declared.Entity.{Entity}
 use Rattle.control.specs.Answer.{refusedBy, ControlIs}
 use Rattle.control_map.specs.Answer.{AcceptedWith, MapIs}
@@ -17,15 +17,11 @@ use Rattle.packets.specs.Packets.{packetSize, packetOf}
 use Rattle.packets.specs.declared.Reading.{Reading}
 use Rattle.packets.specs.declared.Reading.the-variants as reading
 
--- the subtype of a processing unit
-abbrev pub processing : ℕ
-processing = 5
-
 -- the entity at i is a processing unit, and has the ID
 pub record UnitAt (seen : List Entity) (id i : ℕ) : Type 0 where
   pub inside : i < length seen
   pub named : entityAt seen i .id ≡ id
-  pub kind : entityAt seen i .kind ≡ processing
+  pub kind : entityAt seen i .kind ≡ processingUnit
 
 -- the setting's bit lies within the map, and is 1
 pub record InMap (m : Map) (c : Setting) : Type 0 where

@@ -13,9 +13,6 @@ use entities::Table;
 use packets::Reading;
 use rules::Verdict;
 
-// The subtype of a processing unit.
-const PROCESSING: u8 = 5;
-
 // Builds the packet for a setting of a unit into the first 8 bytes of the room, and no other: the control block's own refusal, 90, 91, 94. A refusal changes no byte.
 pub fn build(
     block: &[u8],
@@ -117,7 +114,7 @@ fn is_unit(table: Table, id: u8) -> bool
         Found::Nothing => false,
         Found::At(i) => {
             let e = table.entities[i];
-            e.kind == PROCESSING
+            e.kind == entities::PROCESSING_UNIT
         }
     }
 }

@@ -12,7 +12,7 @@ use borrow.Author.Tests.{eqb-true, eqb-false}
 use borrow.Author.Count.{below-more}
 use native.Mathlib.Omega.{arith}
 use Rattle.rules.specs.Pick.{pick}
-use Rattle.rules.specs.First.{First}
+use Rattle.rules.specs.First.{NoneBelow, First}
 use Rattle.rules.specs.Chain.{Chain, Chain.one, Chain.more, OnLoop, FirstLoop}
 use Rattle.rules.specs.declared.Verdict.the-variants.{Accepted, Refused}
 use Rattle.rules.proofs.Firsts.{lt-or-ge}
@@ -91,8 +91,8 @@ module _ (E F : ℕ → ℕ → Type 0) (n m r : ℕ) (same : (i j : ℕ) → E 
   loop-here : r < n → First (OnLoop F) n r
   loop-here l = record { within = omega arith; before = λ i il c. h .before i il (to-e c); here = λ z. to-f (h .here (omega arith)) }
 
-  loop-none : n ≤ r → First (OnLoop F) n n
-  loop-none l = record { within = omega arith; before = λ i il c. h .before i (omega arith) (to-e c); here = λ z. absurd (omega arith) }
+  loop-none : n ≤ r → NoneBelow n (OnLoop F)
+  loop-none l i il c = h .before i (omega arith) (to-e c)
 
 -- ---- the loop's invariant
 pub record Judging (s : List ℕ) (t : Table) (rows : List ℕ) (output i : ℕ) : Type 0 where
@@ -144,7 +144,7 @@ module _ (s : List ℕ) (t : Table) (rows : List ℕ) (output i : ℕ) (few : t 
     full = omega (arith, w .within, many)
 
     none-lost : None (used t) (Breaks13 s (used t))
-    none-lost = record { within = omega arith; before = λ k l. w .lost k (omega (arith, many)); here = λ l. absurd (omega arith) }
+    none-lost k l = w .lost k (omega (arith, many))
 
     first-out : First (Breaks14 s (used t)) (length (used t)) output
     first-out = subst (λ (n : ℕ). First (Breaks14 s (used t)) n output) full (w .first)
@@ -154,7 +154,7 @@ module _ (s : List ℕ) (t : Table) (rows : List ℕ) (output i : ℕ) (few : t 
 
     module _ (no : t .count ≤ output) (r : ℕ) (loop : FirstLoop (Edge rows) places r) where
       none-out : None (used t) (Breaks14 s (used t))
-      none-out = let z : output ≡ length (used t) = omega (arith, many, first-out .within) in rw z at first-out
+      none-out k l = first-out .before k (omega (arith, many))
 
       same : (a b : ℕ) → Edge rows a b ↔ Feeds s (used t) a b
       same a b =

@@ -7,7 +7,7 @@ use mathlib.Core.Logic.{_⊎_, inl, inr, ⊎-elim, _↔_}
 use lib.ListN.{length, getD, length-take}
 use lib.Bits.{bitOr}
 use native.Mathlib.Omega.{arith}
-use native.Mathlib.Nat.{eq-or-lt-of-le}
+use Rattle.rules.proofs.Firsts.{below-or-at}
 use Rattle.rules.proofs.Rows.{or-either}
 use Rattle.bits.specs.Bits.{Bit}
 use Rattle.bits.proofs.Bits.{bit-zero, or-cases, or-l, or-r}
@@ -24,9 +24,6 @@ use Rattle.sources.specs.Links.{LinksOf}
 -- ---- one of the first n, and of one more
 some-none : (P : ℕ → Type 0) → Some 0 P → ⊥
 some-none P x = omega (arith, x .1)
-
-below-or-at : (m k : ℕ) → m < k + 1 → (m < k) ⊎ (m ≡ k)
-below-or-at m k l = ⊎-elim (λ e. inr e) (λ h. inl h) (eq-or-lt-of-le {n = m} {m = k} (omega arith))
 
 some-more : (P : ℕ → Type 0) (n : ℕ) {A B C : Type 0} → A ↔ Some n P → B ↔ P n → C ↔ (A ⊎ B) → C ↔ Some (n + 1) P
 some-more P n a b c = (

@@ -38,18 +38,15 @@ pub record Earlier (l : List Entity) (i : ℕ) (f : Found) : Type 0 where
 abbrev pub Orderly : List ℕ → List Entity → Type 0
 Orderly s l = (i : ℕ) → i < length l → (q : ℕ) → q < sourcesOf s (entityAt l i) → Earlier l i (findFrom 0 l (sourceAt s (entityAt l i) q))
 
-none-of : (l : List Entity) (P : ℕ → Type 0) → ((i : ℕ) → i < length l → P i → ⊥) → None l P
-none-of l P h = record { within = omega arith; before = h; here = λ x. absurd (omega arith) }
-
 -- TWO PATHS TO ONE SOURCE ARE NO LOOP
 pub orderly-fine : (s : List ℕ) (l : List Entity) → Orderly s l → Judged s l Accepted
 orderly-fine s l o =
-    fine (none-of l (Breaks13 s l) lost) (none-of l (Breaks14 s l) output) (none-of l (Breaks15 s l) (λ i h. no-loop (Feeds s l) down i))
+    fine lost output (λ i h. no-loop (Feeds s l) down i)
   where
-    lost : (i : ℕ) → i < length l → Breaks13 s l i → ⊥
+    lost : None l (Breaks13 s l)
     lost i h x = let e = o i h (x .0) (x .1) in let n = e .found in let p = x .2 in let z : _≡_ {A = ℕ} 0 1 = cc in omega arith
 
-    output : (i : ℕ) → i < length l → Breaks14 s l i → ⊥
+    output : None l (Breaks14 s l)
     output i h x =
         let e = o i h (x .0) (x .1) in
         let n = e .found in
@@ -124,8 +121,8 @@ module _ (s : List ℕ) (l : List Entity) (h : allPlain s l ≡ true) where
 
   pub plain-found : None l (Breaks13 s l)
   unfolding plain
-  plain-found = none-of l (Breaks13 s l) (λ i hi x. true≢false (sym (rw (x .2) at (plain-at i hi (x .0) (x .1)))))
+  plain-found i hi x = true≢false (sym (rw (x .2) at (plain-at i hi (x .0) (x .1))))
 
   pub plain-kept : None l (Breaks14 s l)
   unfolding plain
-  plain-kept = none-of l (Breaks14 s l) (λ i hi x. let p = plain-at i hi (x .0) (x .1) in eqb-false (entityAt l (x .2 .0) .kind) 3 (not-true (eqb (entityAt l (x .2 .0) .kind) 3) (rw (x .2 .1) at p)) (x .2 .2))
+  plain-kept i hi x = let p = plain-at i hi (x .0) (x .1) in eqb-false (entityAt l (x .2 .0) .kind) 3 (not-true (eqb (entityAt l (x .2 .0) .kind) 3) (rw (x .2 .1) at p)) (x .2 .2)

@@ -3,8 +3,7 @@ use Prim.Native.Nat.{ℕ, _<_}
 use mathlib.Core.Path.{_≡_, refl, ap}
 use mathlib.Core.List.{List}
 use lib.ListN.{length}
-use native.Mathlib.Omega.{arith}
-use Rattle.rules.specs.First.{First}
+use Rattle.rules.specs.First.{NoneBelow, First}
 use Rattle.rules.specs.declared.Verdict.{Verdict}
 use Rattle.rules.specs.declared.Verdict.the-variants.{Refused}
 use Rattle.rules.proofs.Firsts.{first-unique}
@@ -12,8 +11,8 @@ use Rattle.entities.specs.Table.{entityAt}
 use Rattle.entities.specs.declared.Entity.{Entity}
 use Rattle.sources.specs.Sources.{Judged, Judged.thirteen, Judged.fourteen, Judged.fifteen, Judged.fine}
 
-clash : {P : ℕ → Type 0} {n i : ℕ} → i < n → First P n i → First P n n → ⊥
-clash {P} {n} {i} l f g = omega (arith, first-unique P n i n f g)
+clash : {P : ℕ → Type 0} {n i : ℕ} → i < n → First P n i → NoneBelow n P → ⊥
+clash {i = i} l f g = g i l (f .here l)
 
 module _ (s : List ℕ) (l : List Entity) where
   same : (c : ℕ) {P : ℕ → Type 0} (i j : ℕ) → First P (length l) i → First P (length l) j → Refused c (entityAt l i .offset) ≡ Refused c (entityAt l j .offset)

@@ -3,11 +3,11 @@ use Prim.Native.Nat.{ℕ, _+_, _<_}
 use mathlib.Core.Path.{_≡_}
 use mathlib.Core.List.{List}
 use lib.ListN.{length, getD}
-use Rattle.rules.specs.First.{First}
+use Rattle.rules.specs.First.{NoneBelow, First}
 use Rattle.rules.specs.Chain.{OnLoop}
 use Rattle.rules.specs.declared.Verdict.{Verdict}
 use Rattle.rules.specs.declared.Verdict.the-variants.{Accepted, Refused}
-use Rattle.entities.specs.Table.{entityAt, findFrom}
+use Rattle.entities.specs.Table.{outputTerminal, entityAt, findFrom}
 use Rattle.entities.specs.declared.Entity.{Entity}
 use Rattle.entities.specs.declared.Found.the-variants.{At, Nothing}
 use Rattle.control_rules.specs.Descriptors.{kindOf, sourceCount, sourcePlace}
@@ -31,9 +31,9 @@ Lost s l e = Some (sourcesOf s e) (λ q. findFrom 0 l (sourceAt s e q) ≡ Nothi
 abbrev pub Names : List ℕ → List Entity → Entity → ℕ → Type 0
 Names s l e j = Some (sourcesOf s e) (λ q. findFrom 0 l (sourceAt s e q) ≡ At j)
 
--- a source of e names an output terminal, which has subtype 3
+-- a source of e names an output terminal
 abbrev pub ToOutput : List ℕ → List Entity → Entity → Type 0
-ToOutput s l e = Some (sourcesOf s e) (λ q. (j : ℕ) × (findFrom 0 l (sourceAt s e q) ≡ At j) × (entityAt l j .kind ≡ 3))
+ToOutput s l e = Some (sourcesOf s e) (λ q. (j : ℕ) × (findFrom 0 l (sourceAt s e q) ≡ At j) × (entityAt l j .kind ≡ outputTerminal))
 
 -- the entity at i has a source that names the one at j
 abbrev pub Feeds : List ℕ → List Entity → ℕ → ℕ → Type 0
@@ -51,7 +51,7 @@ Breaks15 s l i = OnLoop (Feeds s l) i
 
 -- no entity breaks the rule
 abbrev pub None : List Entity → (ℕ → Type 0) → Type 0
-None l P = First P (length l) (length l)
+None l P = NoneBelow (length l) P
 
 -- number by number, each at the first entity in block order that breaks it
 pub data Judged (s : List ℕ) (l : List Entity) : Verdict → Type 0 where

@@ -4,15 +4,14 @@ ghost use mathlib.Core.Bool.{true};
 ghost use mathlib.Core.Logic.{_↔_};
 ghost use Prim.Native.Nat.{ℕ, _<_, _≤_};
 ghost use Rattle.bits.specs.Bits.{Bit};
-ghost use Rattle.entities.specs.Table.{entitiesMost, used, entityAt};
+ghost use Rattle.entities.specs.Table.{entitiesMost, outputTerminal, used, entityAt};
 ghost use Rattle.entities.specs.declared.Found.the-variants.{At, Nothing};
 ghost use Rattle.control_rules.specs.Descriptors.{kindOf, sourceCount, sourcePlace};
 ghost use Rattle.sources.specs.Links.{LinksOf};
 use entities::Entity;
 use entities::Found;
+use entities::OUTPUT_TERMINAL;
 use entities::Table;
-
-const OUTPUT_TERMINAL: u8 = 3;
 
 pub struct Links {
     pub lost: bool,
@@ -56,7 +55,7 @@ fn names_nothing(f: Found) -> bool
 
 fn names_output(t: Table, f: Found) -> bool
     requires { ⌜ ((j : ℕ) → f ≡ At j → j < t .count) × (t .count ≤ entitiesMost) ⌝ }
-    ensures { λ r. ⌜ (r ≡ true) ↔ ((j : ℕ) × (f ≡ At j) × (entityAt (used t) j .kind ≡ 3)) ⌝ }
+    ensures { λ r. ⌜ (r ≡ true) ↔ ((j : ℕ) × (f ≡ At j) × (entityAt (used t) j .kind ≡ outputTerminal)) ⌝ }
 {
     match f {
         Found::Nothing => false,

@@ -9,13 +9,14 @@ use lib.Dec.{eqb, ltb}
 use borrow.Author.Tests.{eq-eqb, ne-eqb, le-ltb, eqb-true, eqb-false, ltb-true, ltb-false}
 use native.Mathlib.Omega.{arith}
 use Rattle.rules.specs.Pick.{pick}
-use Rattle.rules.specs.First.{First}
+use Rattle.rules.specs.First.{NoneBelow, First}
 use Rattle.rules.specs.Walk.{Outcome, done, stop, walk}
 use Rattle.rules.specs.declared.Verdict.{Verdict}
 use Rattle.rules.specs.declared.Verdict.the-variants.{Accepted, Refused}
 use Rattle.rules.specs.Numbered.{firstRow, Given}
 use Rattle.rules.proofs.Rows.{row-first, row-none, none-row, given-row, given-number}
-use Rattle.rules.proofs.Firsts.{first-map, first-unique}
+use Rattle.rules.proofs.Firsts.{first-map, first-unique, none-below}
+use Rattle.rules.proofs.Verdicts.{apart}
 use Rattle.rules.proofs.Walks.{walk-done, walk-stop}
 use Rattle.entities.specs.declared.Table.{Table}
 use Rattle.streaming_rules.specs.Rules.{headRows}
@@ -27,9 +28,6 @@ use Rattle.streaming.specs.Broken.{BlockRight, blockCourse, formatIn, Co
 use Rattle.streaming.specs.declared.Streaming.{Streaming}
 use Rattle.rules.proofs.Places.{Says, first-place}
 use Rattle.streaming.proofs.Going.{steady}
-
-apart : (k o : ℕ) → Accepted ≡ Refused k o → ⊥
-apart k o e = let z : _≡_ {A = ℕ} 0 1 = cc in omega arith
 
 -- ---- the tests of 36 and 37 say what the rules say
 count-wrong : (m n : ℕ) → not (eqb m n) ≡ true → m ≡ n → ⊥
@@ -76,15 +74,12 @@ module _ (s : List ℕ) (a : Seen) where
       (λ k l h. default-wrong (formatIn a k) h) (λ k l h. wrong-default (formatIn a k) h)
       (first-place (λ i. defaultBroken (formatIn a i)) (length (a .formats)))
 
-  none-below : (P : ℕ → Type 0) (m r : ℕ) → First P m r → m ≤ r → (k : ℕ) → k < m → P k → ⊥
-  none-below P m r f h k l p = f .before k (omega arith) p
-
   -- what comes after the walk
   pub data After : Verdict → Type 0 where
     at-count : (i : ℕ) → i < length (a .formats) → First (CountWrong a) (length (a .formats)) i → After (Refused 36 (formatIn a i .offset))
-    at-default : ((j : ℕ) → j < length (a .formats) → CountWrong a j → ⊥) → (i : ℕ) → i < length (a .formats) → First (DefaultWrong a) (length (a .formats)) i → After (Refused 37 (formatIn a i .offset))
-    at-number : ((j : ℕ) → j < length (a .formats) → CountWrong a j → ⊥) → ((j : ℕ) → j < length (a .formats) → DefaultWrong a j → ⊥) → (length (a .formats) ≡ formatCount s → ⊥) → After (Refused 38 0)
-    well : ((j : ℕ) → j < length (a .formats) → CountWrong a j → ⊥) → ((j : ℕ) → j < length (a .formats) → DefaultWrong a j → ⊥) → length (a .formats) ≡ formatCount s → After Accepted
+    at-default : NoneBelow (length (a .formats)) (CountWrong a) → (i : ℕ) → i < length (a .formats) → First (DefaultWrong a) (length (a .formats)) i → After (Refused 37 (formatIn a i .offset))
+    at-number : NoneBelow (length (a .formats)) (CountWrong a) → NoneBelow (length (a .formats)) (DefaultWrong a) → (length (a .formats) ≡ formatCount s → ⊥) → After (Refused 38 0)
+    well : NoneBelow (length (a .formats)) (CountWrong a) → NoneBelow (length (a .formats)) (DefaultWrong a) → length (a .formats) ≡ formatCount s → After Accepted
 
   pub late-is : After (late s a)
   unfolding lateBy pick i j
@@ -184,7 +179,7 @@ module _ (t : Table) (s : List ℕ) where
     where
       to : (x : Streaming) → Ends t s x → x .verdict ≡ Accepted → (a : Seen) × Sound t s a
       to x (taken a w) e = (a, w)
-      to x (given-back k o w) e = absurd (apart k o (sym e))
+      to x (given-back k o w) e = absurd (apart k o e)
 
   -- refused by (k, o) exactly when k is the first broken rule, at the first place that breaks it
   pub refused : (k o : ℕ) → (streamingOf t s .verdict ≡ Refused k o) ↔ FirstBroken t s k o
@@ -192,5 +187,5 @@ module _ (t : Table) (s : List ℕ) where
   refused k o = (to (streamingOf t s) reads, λ w. ap (λ (x : Streaming). x .verdict) (all-zero w))
     where
       to : (x : Streaming) → Ends t s x → x .verdict ≡ Refused k o → FirstBroken t s k o
-      to x (taken a w) e = absurd (apart k o e)
+      to x (taken a w) e = absurd (apart k o (sym e))
       to x (given-back j p w) e = let q : j ≡ k = cc in let r : p ≡ o = cc in rw (← q, ← r) w

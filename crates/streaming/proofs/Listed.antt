@@ -1,5 +1,5 @@
 -- The formats and frames of a block that breaks no rule: each stands where it says, as its descriptor has it, and none is left out.
-use Prim.Native.Nat.{ℕ, _+_, _-_, _≤_, _<_}
+use Prim.Native.Nat.{ℕ, _+_, _-_, _/_, _%_, _^_, _≤_, _<_}
 use mathlib.Core.Path.{_≡_, refl, sym, ap, _∙_}
 use mathlib.Core.List.{List, [], _∷_, _++_}
 use mathlib.Core.Bool.{Bool, true, false, not, true≢false}
@@ -25,13 +25,14 @@ use Rattle.streaming_descriptors.specs.declared.Kind.the-variants.{Header, Form
 use Rattle.streaming_rules.specs.declared.Sofar.{Sofar}
 use Rattle.streaming_descriptors.specs.declared.Format.{Format}
 use Rattle.streaming_descriptors.specs.declared.Frame.{Frame}
-use Rattle.streaming_rules.proofs.Fine.{Fine, fine, format-of, frame-of}
+use Rattle.streaming_rules.proofs.Fine.{Fine, fine, head-sizes, header-first, format-of, frame-of}
 use Rattle.streaming_rules.proofs.Sizes.{sizes-true}
 use Rattle.streaming_rules.proofs.Flags.{flag-right, line-right}
-use Rattle.streaming.specs.Answer.{Seen, linkedTo, linkOf, lastOf, sofar, after, acceptedWith, streamingOf}
+use Rattle.streaming.specs.Answer.{Seen, linkedTo, endpointOf, linkOf, lastOf, sofar, after, acceptedWith, streamingOf}
 use Rattle.streaming.specs.Broken.{blockCourse, formatIn, Sound}
 use Rattle.streaming.specs.Listed.{frameIn, Starts, FormatStands, numbered, FrameStands, Listed}
 use Rattle.streaming.specs.declared.Streaming.{Streaming}
+use Rattle.streaming.proofs.Links.{link-right}
 use Rattle.streaming.proofs.Going.{after-format, after-frame, after-other}
 use Rattle.streaming.proofs.ExactlyWhen.{accepted, tables}
 
@@ -198,6 +199,8 @@ module _ (t : Table) (s : List ℕ) where
   pub listed : (a : Seen) → Sound t s a → Listed t s a
   listed a w =
       record {
+        endpoint = eqb-true (endpointOf s / 2 ^ 7 % 2) 1 (head .endpoint (rw header-here));
+        link = link-right t (linkOf s) (head .linked (rw header-here));
         formats = whole .formats;
         frames = whole .frames;
         each-format = λ o d q. passes (blockCourse t s) (HasFormat o) (keeps-format o) (d .seen) o (gains-format o (d .seen) q) (d .there) (w .walked .there) (d .inside);
@@ -207,6 +210,13 @@ module _ (t : Table) (s : List ℕ) where
         number = w .number;
       }
     where
+      -- the descriptor at 0 is the header
+      header-here : kindAt s 0 ≡ Header
+      header-here = header-first (t .count) s (w .walked .block)
+
+      head : Fine s 0 (sofar (linkedTo t (linkOf s)) (record { formats = []; frames = [] }))
+      head = fine s 0 _ (w .walked .each (record { formats = []; frames = [] }) 0 first (omega (arith, head-sizes (t .count) s (w .walked .block) .0)))
+
       whole : Held a (length s)
       whole = held (w .walked .each) (w .walked .there)
 

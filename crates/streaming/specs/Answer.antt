@@ -11,7 +11,7 @@ use Rattle.rules.specs.Numbered.{firstRow}
 use Rattle.rules.specs.Walk.{Course, Outcome, done, stop, walk}
 use Rattle.rules.specs.declared.Verdict.{Verdict}
 use Rattle.rules.specs.declared.Verdict.the-variants.{Accepted, Refused}
-use Rattle.entities.specs.Table.{entityAt, foundIn}
+use Rattle.entities.specs.Table.{outputTerminal, entityAt, foundIn}
 use Rattle.entities.specs.declared.Entity.{Entity}
 use Rattle.entities.specs.declared.Table.{Table}
 use Rattle.entities.specs.declared.Found.{Found}
@@ -25,8 +25,11 @@ use Rattle.rules.specs.Place.{firstPlace}
 use Rattle.streaming.specs.declared.Streaming.{Streaming}
 
 -- ---- 30: the link names, among the used places of the table, an output terminal of type 0x0101
+abbrev pub streamingTerminal : ℕ
+streamingTerminal = 0x0101
+
 unfoldable pub isOutput : Entity → Bool
-isOutput e = eqb (e .kind) 3 && eqb (e .terminal) 0x0101
+isOutput e = eqb (e .kind) outputTerminal && eqb (e .terminal) streamingTerminal
 
 unfoldable pub linkedAt : Table → Found → Bool
 linkedAt t (At i) = isOutput (entityAt (t .entities) i)

@@ -3,8 +3,8 @@ use Prim.Native.Nat.{ℕ, _+_, _≤_, _<_}
 use mathlib.Core.Path.{_≡_}
 use mathlib.Core.List.{List}
 use lib.ListN.{length, getD}
-use Rattle.rules.specs.Numbered.{Given, NoneOf, rowsBefore}
-use Rattle.rules.specs.First.{First}
+use Rattle.rules.specs.Numbered.{Given, NoneOf}
+use Rattle.rules.specs.First.{NoneBelow, First}
 use Rattle.rules.specs.Walk.{Course, Reached, Clean, FirstBreak}
 use Rattle.entities.specs.declared.Table.{Table}
 use Rattle.streaming_descriptors.specs.Descriptors.{noFormat}
@@ -41,18 +41,9 @@ pub record Walked (t : Table) (s : List ℕ) (a : Seen) : Type 0 where
 -- no rule is broken, and these are all of the block's formats and frames, in order
 pub record Sound (t : Table) (s : List ℕ) (a : Seen) : Type 0 where
   pub walked : Walked t s a
-  pub counts : (i : ℕ) → i < length (a .formats) → CountWrong a i → ⊥
-  pub defaults : (i : ℕ) → i < length (a .formats) → DefaultWrong a i → ⊥
+  pub counts : NoneBelow (length (a .formats)) (CountWrong a)
+  pub defaults : NoneBelow (length (a .formats)) (DefaultWrong a)
   pub number : length (a .formats) ≡ formatCount s
-
--- rule k of the descriptor at o comes to be asked: the block and every descriptor before o obey their rules, and this one obeys those that are checked before k
-pub record Comes (t : Table) (s : List ℕ) (k o : ℕ) : Type 0 where
-  pub block : BlockRight t s
-  pub seen : Seen
-  pub there : Reached (blockCourse t s) seen o
-  pub inside : o < length s
-  pub earlier : (a : Seen) (p : ℕ) → Reached (blockCourse t s) a p → p < o → NoneOf (blockCourse t s .rows a p)
-  pub before : NoneOf (rowsBefore k (blockCourse t s .rows seen o))
 
 -- rule k is the first that is broken, at the first place that breaks it
 pub data FirstBroken (t : Table) (s : List ℕ) : ℕ → ℕ → Type 0 where
@@ -65,7 +56,7 @@ pub data FirstBroken (t : Table) (s : List ℕ) : ℕ → ℕ → Type 0 where
   by-37 :
       (a : Seen) →
       Walked t s a →
-      ((j : ℕ) → j < length (a .formats) → CountWrong a j → ⊥) →
+      NoneBelow (length (a .formats)) (CountWrong a) →
       (i : ℕ) →
       i < length (a .formats) →
       First (DefaultWrong a) (length (a .formats)) i →
@@ -73,7 +64,7 @@ pub data FirstBroken (t : Table) (s : List ℕ) : ℕ → ℕ → Type 0 where
   by-38 :
       (a : Seen) →
       Walked t s a →
-      ((j : ℕ) → j < length (a .formats) → CountWrong a j → ⊥) →
-      ((j : ℕ) → j < length (a .formats) → DefaultWrong a j → ⊥) →
+      NoneBelow (length (a .formats)) (CountWrong a) →
+      NoneBelow (length (a .formats)) (DefaultWrong a) →
       (length (a .formats) ≡ formatCount s → ⊥) →
       FirstBroken t s 38 0

@@ -1,12 +1,14 @@
 -- What an accepted streaming block says, in document 01's words: of its formats and frames in block order, each with the descriptor that it was read from.
 -- `t` is the entity table, `s` the block, `a` its formats and frames.
-use Prim.Native.Nat.{ℕ, _+_, _-_, _≤_, _<_}
+use Prim.Native.Nat.{ℕ, _+_, _-_, _/_, _%_, _^_, _≤_, _<_}
 use mathlib.Core.Path.{_≡_}
 use mathlib.Core.List.{List}
 use mathlib.Core.Bool.{true}
 use lib.ListN.{length, getD, take}
 use Rattle.le.specs.Le.{byte}
-use Rattle.rules.specs.Walk.{Reached}
+use Rattle.rules.specs.Walk.{Comes}
+use Rattle.rules.specs.Walk as walk
+use Rattle.entities.specs.Table.{outputTerminal, entityAt, used, Finds}
 use Rattle.entities.specs.declared.Table.{Table}
 use Rattle.intervals.specs.Intervals.{Offered}
 use Rattle.pictures.specs.Pictures.{Asked}
@@ -15,17 +17,23 @@ use Rattle.streaming_rules.specs.Rules.{SizesTrue, FlagOrLine}
 use Rattle.streaming_descriptors.specs.declared.Kind.the-variants.{Formats, Frames}
 use Rattle.streaming_descriptors.specs.declared.Format.{Format}
 use Rattle.streaming_descriptors.specs.declared.Frame.{Frame}
-use Rattle.streaming.specs.Answer.{Seen, countUnder, formatCount, lastOf}
-use Rattle.streaming.specs.Broken.{blockCourse, formatIn, Comes}
+use Rattle.streaming.specs.Answer.{streamingTerminal, Seen, endpointOf, linkOf, countUnder, formatCount, lastOf}
+use Rattle.streaming.specs.Broken.{BlockRight, blockCourse, formatIn}
 
 abbrev pub frameIn : Seen → ℕ → Frame
 frameIn a i = getD (a .frames) i noFrame
 
 -- a descriptor of the block starts at o
-pub record Starts (t : Table) (s : List ℕ) (o : ℕ) : Type 0 where
-  pub seen : Seen
-  pub there : Reached (blockCourse t s) seen o
-  pub inside : o < length s
+abbrev pub Starts : Table → List ℕ → ℕ → Type 0
+Starts t s o = walk.Starts (blockCourse t s) o
+
+-- the first used place of the table that has this ID holds an output terminal of type 0x0101
+pub record Linked (t : Table) (id : ℕ) : Type 0 where
+  pub place : ℕ
+  pub inside : place < length (used t)
+  pub first : Finds (used t) id place
+  pub output : entityAt (used t) place .kind ≡ outputTerminal
+  pub terminal : entityAt (used t) place .terminal ≡ streamingTerminal
 
 -- the format x at place i, with those before it
 pub record FormatStands (t : Table) (s : List ℕ) (i : ℕ) (before : List Format) (x : Format) : Type 0 where
@@ -65,6 +73,9 @@ pub record FrameStands (t : Table) (s : List ℕ) (formats : List Format) (befor
   pub sizes : numbered formats (x .format) .kind ≡ 4 → Asked (numbered formats (x .format) .guid) → SizesTrue (numbered formats (x .format)) x
 
 pub record Listed (t : Table) (s : List ℕ) (a : Seen) : Type 0 where
+  -- the header's endpoint has D7 set, and its link names an output terminal
+  pub endpoint : endpointOf s / 2 ^ 7 % 2 ≡ 1
+  pub link : Linked t (linkOf s)
   pub formats : (i : ℕ) → i < length (a .formats) → FormatStands t s i (take i (a .formats)) (formatIn a i)
   pub frames : (i : ℕ) → i < length (a .frames) → FrameStands t s (a .formats) (take i (a .frames)) (frameIn a i)
   -- and no format or frame of the block is left out
@@ -77,12 +88,14 @@ pub record Listed (t : Table) (s : List ℕ) (a : Seen) : Type 0 where
 
 -- 39 in words: a frame of subtype 5 under a YUY2 or NV12 format comes, and its sizes cannot be true
 pub record Untrue (t : Table) (s : List ℕ) (o : ℕ) : Type 0 where
-  pub comes : Comes t s 39 o
+  pub block : BlockRight t s
+  pub comes : Comes (blockCourse t s) 39 o
   pub frame : kindAt s o ≡ Frames 4
   pub asked : Asked (lastOf (comes .seen .formats) .guid)
   pub untrue : SizesTrue (lastOf (comes .seen .formats)) (frameAt 4 (length (comes .seen .formats)) s o) → ⊥
 
 -- 40 in words: such a format or frame comes
 pub record Unsteady (t : Table) (s : List ℕ) (o : ℕ) : Type 0 where
-  pub comes : Comes t s 40 o
+  pub block : BlockRight t s
+  pub comes : Comes (blockCourse t s) 40 o
   pub wrong : FlagOrLine (lastOf (comes .seen .formats)) s o

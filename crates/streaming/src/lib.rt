@@ -30,13 +30,16 @@ pub struct Streaming {
 // How many frames stand under each format, by its number; place 0 is that of no format.
 type Counts = [u8; FORMATS_MOST + 1];
 
+// The terminal type of the output terminal that streams.
+const STREAMING: u16 = 0x0101;
+
 fn is_output(e: Entity) -> bool
     ensures { λ r. ⌜ r ≡ isOutput e ⌝ }
 {
-    if e.kind != 3 {
+    if e.kind != entities::OUTPUT_TERMINAL {
         return false;
     }
-    e.terminal == 0x0101
+    e.terminal == STREAMING
 }
 
 // 30: the first used place of the table that carries the link is an output terminal of type 0x0101.

@@ -6,10 +6,9 @@ use mathlib.Core.Bool.{Bool, true, false, not, _&&_, _||_, true≢false}
 use mathlib.Core.Logic.{_⊎_, inl, inr, ⊎-elim, _↔_}
 use lib.Dec.{eqb}
 use borrow.Author.Tests.{eq-eqb, ne-eqb, lt-ltb, eqb-true, eqb-false, ltb-true, ltb-false, not-false}
-use native.Mathlib.Omega.{arith}
 use Rattle.rules.specs.Pick.{pick}
-use Rattle.rules.specs.Numbered.{rowsAfter, isBroken}
-use Rattle.rules.proofs.Rows.{Elsewhere, and-first, and-second, or-either}
+use Rattle.rules.specs.Numbered.{isBroken}
+use Rattle.rules.proofs.Rows.{and-first, and-second, or-either}
 use Rattle.streaming_descriptors.specs.Descriptors.{kindAt, isFormat, isFrame, formatOf, flagAt, lineAt}
 use Rattle.streaming_rules.specs.Rules.{flagWrong, lineWrong, FlagOrLine, kindRows, rows}
 use Rattle.streaming_descriptors.specs.declared.Kind.the-variants.{Formats, Frames}
@@ -90,8 +89,3 @@ module _ (s : List ℕ) (o : ℕ) (a : Sofar) where
     λ e. ⊎-elim at-format at-frame (or-either byFormat byFrame .0 (sym here ∙ e)),
     ⊎-elim (λ r. either (inl (format-broken (r .0) (r .1)))) (λ r. either (inr (frame-broken (r .0) (r .1) (r .2)))),
   )
-
-  -- its number stands once
-  pub once-40 : Elsewhere 40 (rowsAfter 40 (rows s o a))
-  unfolding rows kindRows rowsAfter pick
-  once-40 = omega arith

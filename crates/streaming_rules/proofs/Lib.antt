@@ -3,3 +3,4 @@ pub mod Fine
 pub mod Sizes
 pub mod Flags
 pub mod Unique
+pub mod Order

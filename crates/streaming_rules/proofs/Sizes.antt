@@ -5,10 +5,9 @@ use mathlib.Core.List.{List}
 use mathlib.Core.Bool.{Bool, true, false, _&&_}
 use mathlib.Core.Logic.{_↔_}
 use borrow.Author.Tests.{eqb-true}
-use native.Mathlib.Omega.{arith}
 use Rattle.rules.specs.Pick.{pick}
-use Rattle.rules.specs.Numbered.{rowsAfter, isBroken}
-use Rattle.rules.proofs.Rows.{Elsewhere, and-first, and-second}
+use Rattle.rules.specs.Numbered.{isBroken}
+use Rattle.rules.proofs.Rows.{and-first, and-second}
 use Rattle.pictures.specs.Pictures.{Asked, untrue}
 use Rattle.pictures.proofs.Deciding.{untrue-decides, can-be-true}
 use Rattle.streaming_descriptors.specs.Descriptors.{kindAt, isFrame, formatOf, layoutOf, frameAt}
@@ -61,8 +60,3 @@ module _ (s : List ℕ) (o : ℕ) (a : Sofar) where
       go : (b : Bool) → isBroken 39 (rows s o a) ≡ b → b ≡ false
       go true e = let r = row-39 0 .0 e in absurd (n (r .0, r .1))
       go false e = refl
-
-  -- its number stands once
-  pub once-39 : Elsewhere 39 (rowsAfter 39 (rows s o a))
-  unfolding rows kindRows rowsAfter pick
-  once-39 = omega arith
