@@ -36,7 +36,7 @@ same-number j p k o e = let z : Refused j p ≡ Refused k o = verdict-of _ _ e i
 of-camera : {t n : ℕ} → ControlsAt input t n → t ≡ camera
 of-camera (camera-terminal t e) = e
 
-only-these : (t x : ℕ) → (x ≡ 2 → ⊥) → (x ≡ 5 → ⊥) → (n : ℕ) → ControlsAt (kindOf x) t n → ⊥
+pub only-these : (t x : ℕ) → (x ≡ 2 → ⊥) → (x ≡ 5 → ⊥) → (n : ℕ) → ControlsAt (kindOf x) t n → ⊥
 only-these t x a b n h = apart n (place-else t x a b ∙ place-is h)
 
 module _ (s : List ℕ) (id : ℕ) where

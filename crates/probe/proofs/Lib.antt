@@ -2,3 +2,4 @@ pub mod Tests
 pub mod Each
 pub mod RoundTrip
 pub mod Unique
+pub mod Late

@@ -3,10 +3,12 @@ use Prim.Native.Nat.{ℕ, _+_, _<_}
 use mathlib.Core.Path.{_≡_, refl, sym, ap, _∙_}
 use mathlib.Core.List.{List, []}
 use mathlib.Core.Bool.{Bool, true, false, _||_}
-use lib.ListN.{length, getD}
+use mathlib.Core.Logic.{_⊎_, inl, inr, ⊎-elim}
+use lib.ListN.{length, getD, take}
 use lib.Dec.{eqb}
 use borrow.Author.Tests.{eqb-true, not-false}
 use native.Mathlib.Omega.{arith}
+use native.Mathlib.Decide.{ℕ-discrete}
 use Rattle.le.specs.Le.{byte, le16At}
 use Rattle.rules.specs.Pick.{pick}
 use Rattle.rules.specs.Numbered.{NoneOf}
@@ -16,12 +18,12 @@ use Rattle.rules.proofs.Rows.{and-second}
 use Rattle.rules.proofs.Padded.{pad-at}
 use Rattle.blocks.specs.Blocks.{wholeRows}
 use Rattle.entities.specs.Revisions.{saysOf}
-use Rattle.entities.specs.Table.{entitiesMost, noEntity, entityAt}
+use Rattle.entities.specs.Table.{entitiesMost, inputTerminal, processingUnit, noEntity, entityAt}
 use Rattle.entities.specs.declared.Entity.{Entity}
 use Rattle.entities.specs.declared.Table.{Table}
 use Rattle.entities.specs.declared.Revision.{Revision}
 use Rattle.entities.specs.declared.Revision.the-variants.{R10, R11, R15}
-use Rattle.control_rules.specs.Descriptors.{Kind, header, input, processing, camera, revisionBy, revisionOf, knownAs, kindOf, kindAt, terminalOf, ControlsAt, Shaped}
+use Rattle.control_rules.specs.Descriptors.{Kind, header, input, processing, camera, revisionBy, revisionOf, knownAs, kindOf, kindAt, terminalOf, ControlsAt}
 use Rattle.control_rules.specs.Descriptors as descriptors
 use Rattle.control_rules.specs.Rules.{headRows, isRevision, revisionRight, kindRows, rowsIn}
 use Rattle.control_rules.proofs.Subtypes.{entity-known}
@@ -30,16 +32,20 @@ use Rattle.control.specs.Answer.{ControlIs, tableOf}
 use Rattle.control.specs.Broken.{Sound}
 use Rattle.control.specs.Listed.{Stands}
 use Rattle.control.specs.declared.Control.{Control}
+use Rattle.control.proofs.Unique.{read-unique}
 use Rattle.control.proofs.ExactlyWhen.{accepted}
 use Rattle.control.proofs.Walking.{head-sizes}
 use Rattle.control.proofs.Listed.{lists}
 use Rattle.control_map.specs.Answer.{MapIs, controlsAt}
 use Rattle.control_map.specs.declared.Map.{Map}
 use Rattle.control_map.proofs.Mapping.{entities-listed}
-use Rattle.control_map.proofs.ExactlyWhen.{bytes-given}
+use Rattle.control_map.proofs.ExactlyWhen.{only-these, MappedAt, bytes-given}
+use Rattle.probe.specs.Fields.{noFields}
+use Rattle.probe.proofs.Tests.{read-whole, read-wrong, write-short, write-whole}
+use Rattle.probe.proofs.Late.{fields-kept}
 use Rattle.probe_check.proofs.Checking.{check-41}
 use Rattle.probe_check.proofs.ExactlyWhen.{says-yes}
-use Rattle.revisions.specs.Own.{bcdOf, SizedBy, EntityBy, MapBy, MapBy.of-camera, MapBy.of-unit, Shows}
+use Rattle.revisions.specs.Own.{bcdOf, SizedBy, EntityBy, InTable, MapBy, MapBy.of-camera, MapBy.of-unit, Shows}
 
 -- ---- the revision
 bcd-is : (x : ℕ) → isRevision x ≡ true → x ≡ bcdOf (revisionBy x)
@@ -121,27 +127,53 @@ module _ (s : List ℕ) (before : List Entity) (e : Entity) (w : Stands s before
   entity-by : EntityBy (revisionOf s) s e
   entity-by = record { read = w .same; kind = w .entity; shaped = w .shaped .right; encoding = seven; camera-terminal = camera-by; processing-unit = unit-by }
 
--- ---- a map
-map-of : {k : Kind} {t n : ℕ} → ControlsAt k t n → (s : List ℕ) (o : ℕ) → Shaped k s o → t ≡ terminalOf k s o → MapBy (revisionOf s) s (controlsAt s o n)
-unfolding terminalOf
-map-of (descriptors.ControlsAt.camera-terminal t e) s o w q = of-camera o (sized-by (revisionOf s) s o (saysOf (revisionOf s) .camera) 14 (camera-sized s o w (sym q ∙ e)))
-map-of (descriptors.ControlsAt.processing-unit t) s o w q = of-unit o (sized-by (revisionOf s) s o (saysOf (revisionOf s) .unit) 7 (unit-sized s o w))
-
-map-by : (s : List ℕ) (id : ℕ) (m : Map) → MapIs s id m → m .verdict ≡ Accepted → MapBy (revisionOf s) s m
-map-by s id m r a =
-    let u = bytes-given s id m r .0 a in
-    let e = entityAt (u .seen) (u .entity) in
-    let w = entities-listed s (u .seen) (u .with) .entities (u .entity) (u .mapped .inside) in
-    let k : kindOf (e .kind) ≡ kindAt s (e .offset) = sym (by-kind s _ e w (e .kind) refl) in
-    let t : e .terminal ≡ terminalOf (kindAt s (e .offset)) s (e .offset) = ap (λ (x : Entity). x .terminal) (w .same) in
-    rw (u .bytes) (map-of (rw k at (u .mapped .has)) s (e .offset) (w .shaped) t)
-
 -- ---- the table
 place-of : (s : List ℕ) (t : Table) (l : List Entity) → t ≡ tableOf s l → (i : ℕ) → entityAt (t .entities) i ≡ entityAt l i
 place-of s t l e i = rw e (pad-at entitiesMost noEntity l i)
 
 count-of : (s : List ℕ) (t : Table) (l : List Entity) → t ≡ tableOf s l → t .count ≡ length l
 count-of s t l e = rw e
+
+-- ---- a map
+-- what has controls is a camera or a processing unit
+controls-kind : (x : ℕ) (t n : ℕ) → ControlsAt (kindOf x) t n → ((x ≡ inputTerminal) × (t ≡ camera) × (n ≡ 14)) ⊎ ((x ≡ processingUnit) × (n ≡ 7))
+unfolding kindOf
+controls-kind x t n h = go (ℕ-discrete x inputTerminal) (ℕ-discrete x processingUnit)
+  where
+    by-camera : {u m : ℕ} → ControlsAt input u m → (u ≡ camera) × (m ≡ 14)
+    by-camera (descriptors.ControlsAt.camera-terminal u e) = (e, refl)
+
+    by-unit : {u m : ℕ} → ControlsAt processing u m → m ≡ 7
+    by-unit (descriptors.ControlsAt.processing-unit u) = refl
+
+    go : Dec (x ≡ inputTerminal) → Dec (x ≡ processingUnit) → ((x ≡ inputTerminal) × (t ≡ camera) × (n ≡ 14)) ⊎ ((x ≡ processingUnit) × (n ≡ 7))
+    go (yes e) d = (let k = by-camera (rw e at h) in inl (e, k .0, k .1))
+    go (no a) (yes e) = inr (e, by-unit (rw e at h))
+    go (no a) (no b) = absurd (only-these t x a b n h)
+
+map-by : (s : List ℕ) (c : Control) → ControlIs s c → (id : ℕ) (m : Map) → MapIs s id m → m .verdict ≡ Accepted → MapBy (revisionOf s) s (c .table) id m
+map-by s c r id m q a = rw (u .bytes) (⊎-elim camera-map unit-map (controls-kind (e .kind) (e .terminal) (u .place) (u .mapped .has)))
+  where
+    u : MappedAt s id m
+    u = bytes-given s id m q .0 a
+
+    e : Entity
+    e = entityAt (u .seen) (u .entity)
+
+    the-table : c .table ≡ tableOf s (u .seen)
+    the-table = ap (λ (x : Control). x .table) (read-unique s r (u .with .accepted))
+
+    there : InTable (c .table) id e
+    there = record { place = u .entity; used = rw (count-of s (c .table) (u .seen) the-table) (u .mapped .inside); same = place-of s (c .table) (u .seen) the-table (u .entity); named = u .mapped .named }
+
+    w : Stands s (take (u .entity) (u .seen)) e
+    w = entities-listed s (u .seen) (u .with) .entities (u .entity) (u .mapped .inside)
+
+    camera-map : (e .kind ≡ inputTerminal) × (e .terminal ≡ camera) × (u .place ≡ 14) → MapBy (revisionOf s) s (c .table) id (controlsAt s (e .offset) (u .place))
+    camera-map k = rw (k .2) (of-camera e there (k .0) (k .1) (camera-by s _ e w (k .0) (k .1)))
+
+    unit-map : (e .kind ≡ processingUnit) × (u .place ≡ 7) → MapBy (revisionOf s) s (c .table) id (controlsAt s (e .offset) (u .place))
+    unit-map k = rw (k .1) (of-unit e there (k .0) (unit-by s _ e w (k .0)))
 
 -- ---- the whole
 module _ (s : List ℕ) (c : Control) (r : ControlIs s c) (a : c .verdict ≡ Accepted) where
@@ -162,13 +194,18 @@ module _ (s : List ℕ) (c : Control) (r : ControlIs s c) (a : c .verdict ≡ Ac
   pub shows : (v : Revision) × Shows v s c
   shows =
       let t = lists s r a in
-      let z : c .table .revision ≡ revisionOf s = table-is (t .0) (t .2) in (
+      let z : c .table .revision ≡ revisionOf s = table-is (t .0) (t .2) in
+      let size : saysOf (revisionOf s) .probe ≡ saysOf (c .table .revision) .probe = ap (λ (v : Revision). saysOf v .probe) (sym z) in (
         revisionOf s,
         record {
           bytes = bcd-is (le16At s 3) (known-revision s sound);
           table = z;
           entities = entities-by;
-          map = λ id m q h. map-by s id m q h;
+          map = map-by s c r;
+          probe-read = λ p e. let k : length p ≡ saysOf (c .table .revision) .probe = e ∙ size in sym (read-whole (c .table .revision) p _ k (sym (fields-kept (revisionOf s) p e)));
+          probe-unread = λ p n. sym (read-wrong (c .table .revision) p noFields (λ e. n (e ∙ sym size)) refl);
+          probe-written = λ p room h. let k = write-whole (c .table .revision) p room _ (rw (← size) h) refl in (sym (k .0), rw size (sym (k .1)));
+          probe-unwritten = λ p room h. let k = write-short (c .table .revision) p room (rw (← size) h) in (sym (k .0), sym (k .1));
           probe-long = λ b p h. says-yes (c .table) b p .0 h .read .whole ∙ ap (λ (v : Revision). saysOf v .probe) z;
           probe-41 = λ b p n. sym (check-41 (c .table) b p (Refused 41 0) (λ e. n (e ∙ ap (λ (v : Revision). saysOf v .probe) z)) refl);
         },
