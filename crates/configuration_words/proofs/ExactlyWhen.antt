@@ -4,7 +4,7 @@ use mathlib.Core.Path.{_≡_, refl, sym, ap, _∙_}
 use mathlib.Core.List.{List, [], _∷_}
 use mathlib.Core.Bool.{Bool, true, false}
 use mathlib.Core.Logic.{⊎-elim, _↔_}
-use lib.ListN.{length, getD}
+use lib.ListN.{length, getD, replicate}
 use native.Mathlib.Omega.{arith}
 use native.Mathlib.Nat.{eq-or-lt-of-le}
 use Rattle.rules.specs.Pick.{pick}
@@ -29,15 +29,18 @@ use Rattle.configuration_rules.specs.declared.Sought.the-variants as sought
 use Rattle.configuration_rules.specs.Words.{ControlFirst}
 use Rattle.configuration_rules.proofs.Deciding as deciding
 use Rattle.interfaces.specs.Line.{found, headOr, nextOf}
-use Rattle.interfaces.specs.Blocks.{blockStart, blockOf, listedIn, streamsOf}
+use Rattle.interfaces.specs.Blocks.{interfacesMost, blockStart, blockOf, noStream, listedIn, streamsOf}
 use Rattle.layout.specs.Answer.{layoutOf}
+use Rattle.layout.specs.Words.{Starts}
 use Rattle.layout.specs.Broken.{Laid}
 use Rattle.layout.proofs.Walked.{lists}
 use Rattle.layout.proofs.ExactlyWhen as layout
-use Rattle.configuration.specs.Answer.{moved, entriesNamed, verdict73, blockVerdict, streamsBy, lateBy, LateIs, controlPlace, refusedBy, acceptedWith, ConfigurationIs, laid, blocks, sound}
+use Rattle.configuration.specs.Answer.{moved, entryCount, entryAt, entriesNamed, verdict73, blockVerdict, streamsBy, lateBy, LateIs, controlPlace, noBlock, refusedBy, acceptedWith, ConfigurationIs, laid, blocks, sound}
 use Rattle.configuration.specs.declared.Configuration.{Configuration}
 use Rattle.configuration.proofs.Unique.{read-unique}
-use Rattle.configuration_words.specs.Broken.{ListedAt, AllNamed, ControlRight, tableIn, StreamRight, Sound, FirstBroken, by-layout, by-control, by-73, by-streaming}
+use Rattle.configuration_words.specs.Block.{startOf, BlockIs}
+use Rattle.configuration_words.specs.Broken.{ListedAt, Named, AllNamed, ControlRight, StreamRight, Sound, FirstBroken, by-layout, by-control, by-73, by-streaming}
+use Rattle.configuration_words.proofs.Block.{start-is, block-is, one-block}
 use Rattle.configuration_words.proofs.Streams.{Judged, all-right, first-wrong, judged, one-judged, lists-streams, listed-at, place-of, all-named, named-all, one-unnamed, unnamed-one}
 
 -- a block's verdict at its place
@@ -72,29 +75,53 @@ module _ (s : List ℕ) where
         let k = w .sources l e in
         control.sound l (w .block) (walk-done (control.course b) (control-walking.steady b) l .1 (e, w .descriptors)) (sources.fine (k .0) (k .1) (k .2))
 
-  -- ---- the streaming blocks
-  stream-right : (t : Table) (o : ℕ) → blockVerdict s t o ≡ Accepted → StreamRight s t o
-  unfolding blockVerdict
-  stream-right t o e = streaming-exactly.accepted t (blockOf s o) .0 (moved-right (blockStart s o) _ e)
-
-  right-stream : (t : Table) (o : ℕ) → StreamRight s t o → blockVerdict s t o ≡ Accepted
-  unfolding blockVerdict
-  right-stream t o r = rw (streaming-exactly.accepted t (blockOf s o) .1 r)
-
-  wrong-stream : (t : Table) (o k x : ℕ) → blockVerdict s t o ≡ Refused k x → (y : ℕ) × (streamingOf t (blockOf s o) .verdict ≡ Refused k y) × (x ≡ blockStart s o + y)
-  unfolding blockVerdict
-  wrong-stream t o k x e = moved-wrong (blockStart s o) _ k x e
-
-  stream-wrong : (t : Table) (o k y : ℕ) → streaming-broken.FirstBroken t (blockOf s o) k y → blockVerdict s t o ≡ Refused k (blockStart s o + y)
-  unfolding blockVerdict
-  stream-wrong t o k y f = rw (streaming-exactly.refused t (blockOf s o) k y .1 f)
-
   -- ---- what comes after 70, 71, 72 and 75, with the control interface at c
   data Ends : Verdict → Type 0 where
     good : Sound s → Ends Accepted
     bad : (k o : ℕ) → FirstBroken s k o → Ends (Refused k o)
 
   module _ (c : ℕ) (l : Laid s c) where
+    -- ---- the block of a descriptor
+    the-block : (o : ℕ) → Starts s o → BlockIs s o (blockOf s o)
+    the-block o b = block-is s (l .kept .each) o b
+
+    same-block : (o : ℕ) → Starts s o → (x : List ℕ) → BlockIs s o x → x ≡ blockOf s o
+    same-block o b x w = one-block s (l .kept .each) o b x w
+
+    same-start : (o : ℕ) → Starts s o → blockStart s o ≡ startOf s o
+    same-start o b = start-is s (l .kept .each) o b
+
+    -- the control block is the one that is read
+    abbrev B : List ℕ
+    B = blockOf s c
+
+    here : BlockIs s c B
+    here = the-block c (l .one .starts)
+
+    control-right : (b : List ℕ) (m : List Entity) → ControlRight s c b m → ControlRight s c B m
+    control-right b m w = rw (same-block c (l .one .starts) b (w .block)) at w
+
+    -- ---- the streaming blocks
+    module _ (t : Table) (o : ℕ) (d : Starts s o) where
+      stream-right : blockVerdict s t o ≡ Accepted → StreamRight s t o
+      unfolding blockVerdict
+      stream-right e =
+          let p = streaming-exactly.accepted t (blockOf s o) .0 (moved-right (blockStart s o) _ e) in
+          record { bytes = blockOf s o; block = the-block o d; seen = p .0; sound = p .1 }
+
+      right-stream : StreamRight s t o → blockVerdict s t o ≡ Accepted
+      unfolding blockVerdict
+      right-stream r = rw (streaming-exactly.accepted t (blockOf s o) .1 (r .seen, rw (same-block o d (r .bytes) (r .block)) at (r .sound)))
+
+      wrong-stream : (k x : ℕ) → blockVerdict s t o ≡ Refused k x → (y : ℕ) × (streamingOf t (blockOf s o) .verdict ≡ Refused k y) × (x ≡ startOf s o + y)
+      unfolding blockVerdict
+      wrong-stream k x e = rw (← same-start o d) (moved-wrong (blockStart s o) _ k x e)
+
+      stream-wrong : (e : List ℕ) → BlockIs s o e → (k y : ℕ) → streaming-broken.FirstBroken t e k y → blockVerdict s t o ≡ Refused k (startOf s o + y)
+      unfolding blockVerdict
+      stream-wrong e w k y f =
+          rw (← same-start o d, streaming-exactly.refused t (blockOf s o) k y .1 (rw (same-block o d e w) at f))
+
     -- an earlier listed interface stands at an earlier place of the list
     earlier-place : (i : ℕ) → i < length (listedIn s) → (p : ℕ) → ListedAt s p → p < getD (listedIn s) i 0 → (j : ℕ) × (j < i) × (getD (listedIn s) j 0 ≡ p)
     earlier-place i b p d z =
@@ -104,64 +131,71 @@ module _ (s : List ℕ) where
         (λ e. absurd (omega (arith, q .2, lists-streams s c l .order i (q .0) e (q .1)))) (eq-or-lt-of-le {n = i} {m = q .0} h))
         (lt-or-ge (q .0) i)
 
-    module _ (m : List Entity) (w : ControlRight s c m) (n : AllNamed s (blockOf s c)) where
-      earlier-right : (i : ℕ) → i < length (listedIn s) → ((j : ℕ) → j < i → blockVerdict s (tableIn s c m) (getD (listedIn s) j 0) ≡ Accepted) → (p : ℕ) → ListedAt s p → p < getD (listedIn s) i 0 → StreamRight s (tableIn s c m) p
+    module _ (m : List Entity) (w : ControlRight s c B m) (n : AllNamed s B) where
+      abbrev T : Table
+      T = control.tableOf B m
+
+      earlier-right : (i : ℕ) → i < length (listedIn s) → ((j : ℕ) → j < i → blockVerdict s T (getD (listedIn s) j 0) ≡ Accepted) → (p : ℕ) → ListedAt s p → p < getD (listedIn s) i 0 → StreamRight s T p
       earlier-right i b h p d z =
           let q = earlier-place i b p d z in
-          rw (q .2) at (stream-right (tableIn s c m) (getD (listedIn s) (q .0) 0) (h (q .0) (q .1)))
+          stream-right T p (d .starts) (rw (q .2) at (h (q .0) (q .1)))
 
-      after-73 : (v : Verdict) → Judged s (tableIn s c m) (listedIn s) v → Ends v
-      after-73 v (all-right h) = good (record { place = c; entities = m; control = w; named = n; blocks = λ o d. let p = place-of s c l o d in rw (p .2) at (stream-right (tableIn s c m) (getD (listedIn s) (p .0) 0) (h (p .0) (p .1))) })
+      after-73 : (v : Verdict) → Judged s T (listedIn s) v → Ends v
+      after-73 v (all-right h) =
+          good (record { place = c; block = B; entities = m; control = w; named = n; blocks = λ o d. let p = place-of s c l o d in stream-right T o (d .starts) (rw (p .2) at (h (p .0) (p .1))) })
       after-73 v (first-wrong i b h k x e) =
           let o = getD (listedIn s) i 0 in
-          let q = wrong-stream (tableIn s c m) o k x e in
-          rw (q .2) (bad k (blockStart s o + q .0) (by-streaming c m w n o (listed-at s c l i b) (earlier-right i b h) k (q .0) (streaming-exactly.refused (tableIn s c m) (blockOf s o) k (q .0) .0 (q .1))))
+          let d = listed-at s c l i b in
+          let q = wrong-stream T o (d .starts) k x e in
+          rw (q .2)
+          (bad k (startOf s o + q .0) (by-streaming c B m w n o d (earlier-right i b h) (blockOf s o) (the-block o (d .starts)) k (q .0) (streaming-exactly.refused T (blockOf s o) k (q .0) .0 (q .1))))
 
-    after-control : (m : List Entity) → ControlRight s c m → (t : Bool) → entriesNamed (blockOf s c) (streamsOf s .streams) (streamsOf s .count) ≡ t
-        → Ends (pick t Accepted (Refused 73 (blockStart s c)) andThen streamsBy s (tableIn s c m) (listedIn s))
+    after-control : (m : List Entity) → ControlRight s c B m → (t : Bool) → entriesNamed B (streamsOf s .streams) (streamsOf s .count) ≡ t
+        → Ends (pick t Accepted (Refused 73 (blockStart s c)) andThen streamsBy s (control.tableOf B m) (listedIn s))
     unfolding pick
-    after-control m w true e = after-73 m w (all-named s c l (blockOf s c) e) (streamsBy s (tableIn s c m) (listedIn s)) (judged s (tableIn s c m) (listedIn s))
-    after-control m w false e = let j = one-unnamed s c l (blockOf s c) e in bad 73 (blockStart s c) (by-73 c m w (j .0) (j .1) (j .2))
+    after-control m w true e = after-73 m w (all-named s c l B e) (streamsBy s (control.tableOf B m) (listedIn s)) (judged s (control.tableOf B m) (listedIn s))
+    after-control m w false e = let j = one-unnamed s c l B e in rw (same-start c (l .one .starts)) (bad 73 (startOf s c) (by-73 c B m w (j .0) (j .1) (j .2)))
 
-    after-layout : (a : Control) → control.ControlIs (blockOf s c) a → (v : Verdict) → a .verdict ≡ v
-        → Ends (moved (blockStart s c) v andThen (verdict73 s (blockOf s c) (blockStart s c) andThen streamsBy s (a .table) (listedIn s)))
+    after-layout : (a : Control) → control.ControlIs B a → (v : Verdict) → a .verdict ≡ v
+        → Ends (moved (blockStart s c) v andThen (verdict73 s B (blockStart s c) andThen streamsBy s (a .table) (listedIn s)))
     unfolding verdict73
-    after-layout a r (Refused k x) e = bad k (blockStart s c + x) (by-control c l k x (control-exactly.refused (blockOf s c) a r k x .0 e))
+    after-layout a r (Refused k x) e = rw (same-start c (l .one .starts)) (bad k (startOf s c + x) (by-control c B l here k x (control-exactly.refused B a r k x .0 e)))
     after-layout a r Accepted e =
-        let t = control-exactly.tables (blockOf s c) r e in
+        let t = control-exactly.tables B r e in
         rw (t .2)
-        (after-control (t .0) (record { laid = l; sound = control-exactly.accepted (blockOf s c) a r .0 e; entities = t .1 }) (entriesNamed (blockOf s c) (streamsOf s .streams) (streamsOf s .count)) refl)
+        (after-control (t .0) (record { laid = l; block = here; sound = control-exactly.accepted B a r .0 e; entities = t .1 }) (entriesNamed B (streamsOf s .streams) (streamsOf s .count)) refl)
 
     late-ends : (v : Verdict) → LateIs s c v → Ends v
     unfolding lateBy
     late-ends v r = rw (r .same) (after-layout (r .answer) (r .read) (r .answer .verdict) refl)
 
     -- ---- the other way round
-    late-control : (k x : ℕ) → control-broken.FirstBroken (blockOf s c) k x → LateIs s c (Refused k (blockStart s c + x))
+    late-control : (b : List ℕ) → BlockIs s c b → (k x : ℕ) → control-broken.FirstBroken b k x → LateIs s c (Refused k (startOf s c + x))
     unfolding lateBy
-    late-control k x f = record { answer = control.refusedBy k x; read = control-exactly.from-first (blockOf s c) f; same = refl }
+    late-control b w k x f =
+        record { answer = control.refusedBy k x; read = control-exactly.from-first B (rw (same-block c (l .one .starts) b w) at f); same = rw (same-start c (l .one .starts)) }
 
-    module _ (m : List Entity) (w : ControlRight s c m) where
-      late-73 : entriesNamed (blockOf s c) (streamsOf s .streams) (streamsOf s .count) ≡ false → LateIs s c (Refused 73 (blockStart s c))
+    module _ (m : List Entity) (w : ControlRight s c B m) where
+      late-73 : entriesNamed B (streamsOf s .streams) (streamsOf s .count) ≡ false → LateIs s c (Refused 73 (startOf s c))
       unfolding lateBy verdict73 pick
-      late-73 e = record { answer = control.acceptedWith (blockOf s c) m; read = control-accepts (blockOf s c) (w .sound) m (w .entities); same = rw e }
+      late-73 e = record { answer = control.acceptedWith B m; read = control-accepts B (w .sound) m (w .entities); same = rw (e, same-start c (l .one .starts)) }
 
-      late-streams : AllNamed s (blockOf s c) → (v : Verdict) → Judged s (tableIn s c m) (listedIn s) v → LateIs s c v
+      late-streams : AllNamed s B → (v : Verdict) → Judged s (control.tableOf B m) (listedIn s) v → LateIs s c v
       unfolding lateBy verdict73 pick
       late-streams n v j =
           record {
-            answer = control.acceptedWith (blockOf s c) m;
-            read = control-accepts (blockOf s c) (w .sound) m (w .entities);
-            same = rw (named-all s c l (blockOf s c) n) (one-judged s (tableIn s c m) (listedIn s) v (streamsBy s (tableIn s c m) (listedIn s)) j (judged s (tableIn s c m) (listedIn s)));
+            answer = control.acceptedWith B m;
+            read = control-accepts B (w .sound) m (w .entities);
+            same = rw (named-all s c l B n) (one-judged s (control.tableOf B m) (listedIn s) v (streamsBy s (control.tableOf B m) (listedIn s)) j (judged s (control.tableOf B m) (listedIn s)));
           }
 
-      wrong-first : (o : ℕ) → ListedAt s o → ((p : ℕ) → ListedAt s p → p < o → StreamRight s (tableIn s c m) p) → (k x : ℕ) → streaming-broken.FirstBroken (tableIn s c m) (blockOf s o) k x
-          → Judged s (tableIn s c m) (listedIn s) (Refused k (blockStart s o + x))
-      wrong-first o d h k x f =
+      wrong-first : (o : ℕ) → ListedAt s o → ((p : ℕ) → ListedAt s p → p < o → StreamRight s (control.tableOf B m) p) → (e : List ℕ) → BlockIs s o e → (k x : ℕ) → streaming-broken.FirstBroken (control.tableOf B m) e k x
+          → Judged s (control.tableOf B m) (listedIn s) (Refused k (startOf s o + x))
+      wrong-first o d h e q k x f =
           let i = place-of s c l o d in
           first-wrong (i .0) (i .1)
-          (λ j b. right-stream (tableIn s c m) (getD (listedIn s) j 0) (h (getD (listedIn s) j 0) (listed-at s c l j (omega (arith, i .1))) (omega (arith, lists-streams s c l .order j (i .0) b (i .1), i .2))))
-          k (blockStart s o + x) (rw (i .2) (stream-wrong (tableIn s c m) o k x f))
+          (λ j b. let g = listed-at s c l j (omega (arith, i .1)) in right-stream (control.tableOf B m) (getD (listedIn s) j 0) (g .starts) (h (getD (listedIn s) j 0) g (omega (arith, lists-streams s c l .order j (i .0) b (i .1), i .2))))
+          k (startOf s o + x) (rw (i .2) (stream-wrong (control.tableOf B m) o (d .starts) e q k x f))
 
     -- at the place that the search finds
     found-late : (v : Verdict) → LateIs s c v → LateIs s (controlPlace s) v
@@ -173,20 +207,32 @@ module _ (s : List ℕ) where
     laid-out : layoutOf s ≡ Accepted
     laid-out = layout.laid s .1 (c, l)
 
+    -- what is said of the control block in words is said of the one that is read
+    config-73 : (b : List ℕ) (m : List Entity) → ControlRight s c b m → b ≡ B → (j : ℕ) → j < entryCount b → (Named s (entryAt b j) → ⊥) → ConfigurationIs s (refusedBy 73 (startOf s c))
+    config-73 b m w e j h n =
+        blocks 73 (startOf s c) laid-out (found-late _ (late-73 m (control-right b m w) (unnamed-one s c l B j (rw e at h) (rw e at n))))
+
+    config-streams : (b : List ℕ) (m : List Entity) → ControlRight s c b m → b ≡ B → AllNamed s b → (v : Verdict) → Judged s (control.tableOf b m) (listedIn s) v → LateIs s (controlPlace s) v
+    config-streams b m w e n v j = found-late v (late-streams m (control-right b m w) (rw e at n) v (rw e at j))
+
   config-bad : {k o : ℕ} → FirstBroken s k o → ConfigurationIs s (refusedBy k o)
   config-bad (by-layout k o f) = laid k o (layout.mislaid s k o .1 f)
-  config-bad (by-control c l k x f) = blocks k (blockStart s c + x) (laid-out c l) (found-late c l _ (late-control c l k x f))
-  config-bad (by-73 c m w j h n) = let l = w .laid in blocks 73 (blockStart s c) (laid-out c l) (found-late c l _ (late-73 c l m w (unnamed-one s c l (blockOf s c) j h n)))
-  config-bad (by-streaming c m w n o d h k x f) =
+  config-bad (by-control c b l w k x f) = blocks k (startOf s c + x) (laid-out c l) (found-late c l _ (late-control c l b w k x f))
+  config-bad (by-73 c b m w j h n) = let l = w .laid in config-73 c l b m w (same-block c l c (l .one .starts) b (w .block)) j h n
+  config-bad (by-streaming c b m w n o d h e q k x f) =
       let l = w .laid in
-      blocks k (blockStart s o + x) (laid-out c l) (found-late c l _ (late-streams c l m w n _ (wrong-first c l m w o d h k x f)))
+      let z = same-block c l c (l .one .starts) b (w .block) in
+      blocks k (startOf s o + x) (laid-out c l)
+      (config-streams c l (blockOf s c) m (control-right c l b m w) refl (rw z at n) _ (wrong-first c l m (control-right c l b m w) o d (rw z at h) e q k x (rw z at f)))
 
   config-good : Sound s → ConfigurationIs s (acceptedWith s)
   config-good w =
       let c = w .place in
       let l = w .control .laid in
+      let T = control.tableOf (w .block) (w .entities) in
       sound (laid-out c l)
-      (found-late c l Accepted (late-streams c l (w .entities) (w .control) (w .named) Accepted (all-right (λ i b. right-stream (tableIn s c (w .entities)) (getD (listedIn s) i 0) (w .blocks (getD (listedIn s) i 0) (listed-at s c l i b))))))
+      (config-streams c l (w .block) (w .entities) (w .control) (same-block c l c (l .one .starts) (w .block) (w .control .block)) (w .named) Accepted
+      (all-right (λ i b. let d = listed-at s c l i b in right-stream c l T (getD (listedIn s) i 0) (d .starts) (w .blocks (getD (listedIn s) i 0) d))))
 
   config-ends : {r : Configuration} → ConfigurationIs s r → Ends (r .verdict)
   unfolding refusedBy acceptedWith
@@ -211,3 +257,10 @@ module _ (s : List ℕ) where
       to : (v : Verdict) → Ends v → v ≡ Refused k o → FirstBroken s k o
       to v (good w) e = absurd (apart k o (sym e))
       to v (bad j p f) e = let x : j ≡ k = cc in let y : p ≡ o = cc in rw (← x, ← y) f
+
+  -- A REFUSED ONE is all zero
+  pub zero-configuration : {r : Configuration} → ConfigurationIs s r → (k o : ℕ) → r .verdict ≡ Refused k o → (r .control ≡ noBlock) × (r .count ≡ 0) × (r .streams ≡ replicate interfacesMost noStream)
+  unfolding refusedBy acceptedWith
+  zero-configuration (laid j p e) k o q = (refl, refl, refl)
+  zero-configuration (blocks j p e l) k o q = (refl, refl, refl)
+  zero-configuration (sound e l) k o q = absurd (apart k o (sym q))

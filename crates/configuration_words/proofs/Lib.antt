@@ -1,4 +1,5 @@
 -- The theorems of request One.
+pub mod Block
 pub mod Streams
 pub mod ExactlyWhen
 pub mod Listed

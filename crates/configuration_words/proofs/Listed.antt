@@ -21,28 +21,22 @@ use Rattle.configuration_rules.specs.Words.{SettingOf, EndpointOf}
 use Rattle.configuration_rules.proofs.Deciding as deciding
 use Rattle.interfaces.specs.Line.{course, found, nextOf}
 use Rattle.interfaces.specs.Blocks.{blockStart, blockEnd, blockOf, blockAt, streamAt, listedIn}
-use Rattle.interfaces.proofs.Lines.{after-on, after-whole, next-is}
+use Rattle.interfaces.proofs.Lines.{after-on, next-is}
 use Rattle.settings.specs.Settings as settings
 use Rattle.settings.specs.Holding.{noSetting}
 use Rattle.layout.specs.Words.{Starts}
 use Rattle.layout.specs.Broken.{Laid}
-use Rattle.layout.proofs.Walked.{lists, run, not-before, stands-there, later-behind}
+use Rattle.layout.proofs.Walked.{lists, not-before, stands-there, later-behind}
 use Rattle.layout.proofs.Few.{few}
 use Rattle.configuration.specs.Answer.{refusedBy, acceptedWith, ConfigurationIs, laid, blocks, sound}
 use Rattle.configuration.specs.declared.Configuration.{Configuration}
 use Rattle.configuration_words.specs.Broken.{ListedAt, Sound}
-use Rattle.configuration_words.specs.Listed.{BlockLies, StreamStands, Lists-all, Between, BytesAre, by-endpoint, no-endpoint, Settings-all}
+use Rattle.configuration_words.specs.Listed.{StreamStands, Lists-all, Between, BytesAre, by-endpoint, no-endpoint, Settings-all}
+use Rattle.configuration_words.proofs.Block.{block-lies, one-block}
 use Rattle.configuration_words.proofs.Streams.{getD-map, lists-streams, few-streams, count-is, stream-is, stream-past, listed-at}
 use Rattle.configuration_words.proofs.ExactlyWhen.{place-is, accepted}
 
 module _ (s : List ℕ) (clean : Clean (course s)) where
-  -- ---- the block of a descriptor
-  block-end : (o : ℕ) → Starts s o → blockStart s o + (blockEnd s o - blockStart s o) ≡ blockEnd s o
-  block-end o b = let n = next-is s sought.Outside (afterAt s o) (after-on s o (b .inside) .1) in omega (arith, n .least)
-
-  pub block-lies : (o : ℕ) → Starts s o → BlockLies s o (blockStart s o) (blockEnd s o - blockStart s o)
-  block-lies o b = record { start = after-whole s o (clean (b .seen) o (b .there) (b .inside) .0); run = rw (block-end o b) (run s clean (b .there) (b .inside)) }
-
   -- ---- the bytes of a setting
   module _ (o a : ℕ) (b : Starts s o) where
     abbrev e : ℕ
@@ -119,7 +113,10 @@ module _ (s : List ℕ) where
   same-answer (sound e l) q = refl
 
   pub stream-endpoint : (w : Sound s) (o : ℕ) → ListedAt s o → streamAt s o .endpoint ≡ endpointOf (blockOf s o)
-  stream-endpoint w o d = endpoint-in o (d .starts) (head-sizes _ (blockOf s o) (w .blocks o d .1 .walked .block) .0)
+  stream-endpoint w o d =
+      let r = w .blocks o d in
+      let e = one-block s (w .control .laid .kept .each) o (d .starts) (r .bytes) (r .block) in
+      endpoint-in o (d .starts) (rw e at (head-sizes _ (r .bytes) (r .sound .walked .block) .0))
 
   stands : (w : Sound s) (o : ℕ) → ListedAt s o → StreamStands s o (streamAt s o)
   unfolding streamAt

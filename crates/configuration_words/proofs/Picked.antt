@@ -10,7 +10,7 @@ use borrow.Author.Tests.{eq-eqb, ne-eqb, eqb-true, eqb-false}
 use native.Mathlib.Omega.{arith}
 use native.Mathlib.Nat.{eq-or-lt-of-le}
 use Rattle.rules.specs.Pick.{pick}
-use Rattle.rules.specs.declared.Verdict.the-variants.{Accepted}
+use Rattle.rules.specs.declared.Verdict.the-variants.{Accepted, Refused}
 use Rattle.rules.proofs.Firsts.{lt-or-ge}
 use Rattle.rules.proofs.Verdicts.{apart, clash, same-refusal}
 use Rattle.rules.proofs.Rows.{given-each}
@@ -19,11 +19,12 @@ use Rattle.blocks.specs.Blocks.{wholeRows}
 use Rattle.control.specs.Broken as control-broken
 use Rattle.control.proofs.ExactlyWhen.{head-few, rows-few}
 use Rattle.streaming_rules.specs.Rules as streaming-rules
+use Rattle.streaming.specs.Answer.{endpointOf}
 use Rattle.streaming.specs.Broken as streaming-broken
 use Rattle.configuration_rules.specs.Descriptors.{numberAt}
-use Rattle.interfaces.specs.Blocks.{noStream, listedIn, streamsOf, placeOf}
-use Rattle.settings.specs.Settings.{fewestOf}
-use Rattle.settings.specs.Holding.{Holds, Fewest, NoneHolds}
+use Rattle.interfaces.specs.Blocks.{noStream, blockOf, listedIn, streamsOf, placeOf}
+use Rattle.settings.specs.Settings.{settingsOf, fewestOf}
+use Rattle.settings.specs.Holding.{noSetting, Holds, Fewest, NoneHolds}
 use Rattle.settings.specs.declared.Setting.{Setting}
 use Rattle.settings.specs.declared.Choice.{Choice}
 use Rattle.settings.specs.declared.Choice.the-variants.{At, Nothing}
@@ -34,7 +35,8 @@ use Rattle.configuration.specs.declared.Configuration.{Configuration}
 use Rattle.picking.specs.Answer.{settingsIn, settingsFor, refusedBy, answerOf, PickIs, own, picks}
 use Rattle.picking.specs.declared.Picked.{Picked}
 use Rattle.configuration_words.specs.Broken.{Sound, FirstBroken, by-layout, by-control, by-73, by-streaming}
-use Rattle.configuration_words.specs.Picked.{FirstOf, settingsAt, HoldsIn, PickedIn, Picks}
+use Rattle.configuration_words.specs.Picked.{FirstOf, SettingsAre, HoldsIn, PickedIn, Picks}
+use Rattle.configuration_words.proofs.Block.{block-is, one-block}
 use Rattle.configuration_words.proofs.Streams.{lists-streams, count-is, stream-is, listed-at, place-of, unnamed, number-is}
 use Rattle.configuration_words.proofs.ExactlyWhen.{accepted, refused}
 use Rattle.configuration_words.proofs.Listed.{stream-endpoint}
@@ -66,9 +68,9 @@ module _ (s : List ℕ) where
       layout-few (layout-broken.by-72-none k n) e = omega arith
       layout-few (layout-broken.by-72-second o k c) e = omega arith
       layout-few (layout-broken.by-75 o c k d f) e = omega arith
-  not-74 (by-control c l k x f) e = omega (arith, control-few f)
-  not-74 (by-73 c l w j h n) e = omega arith
-  not-74 (by-streaming c l w n o d h k x f) e = omega (arith, stream-few f)
+  not-74 (by-control c b l q k x f) e = omega (arith, control-few f)
+  not-74 (by-73 c b l w j h n) e = omega arith
+  not-74 (by-streaming c b l w n o d h z q k x f) e = omega (arith, stream-few f)
 
   -- ---- the settings that are picked from
   module _ (w : Sound s) (i : ℕ) where
@@ -105,11 +107,15 @@ module _ (s : List ℕ) where
                 (lt-or-ge (j .0) r);
           }
 
-      settings-are : settingsFor s i ≡ settingsAt s i o
+      settings-at : settingsFor s i ≡ settingsOf s i (endpointOf (blockOf s o))
       unfolding settingsIn pick o
-      settings-are =
+      settings-at =
           let l = w .control .laid in
           rw (ne-eqb r n h, stream-is s (w .place) l r inside, stream-endpoint s w (getD (listedIn s) r 0) (listed-at s (w .place) l r inside))
+
+      settings-are : SettingsAre s i (settingsFor s i)
+      settings-are =
+          record { place = o; first = first-listed; bytes = blockOf s o; block = block-is s (w .control .laid .kept .each) o (first-listed .listed .starts); same = settings-at }
 
     -- there is one first
     one-first : (a b : ℕ) → FirstOf s i a → FirstOf s i b → a ≡ b
@@ -119,10 +125,12 @@ module _ (s : List ℕ) where
     some-listed a f e = unnamed s (w .place) (w .control .laid) i e (record { place = a; listed = f .listed; number = f .number })
 
     -- where there is one, they are its settings
-    same-settings : (a : ℕ) → FirstOf s i a → settingsFor s i ≡ settingsAt s i a
-    same-settings a f =
-        let h = some-listed a f in
-        settings-are h ∙ (rw (one-first (o h) a (first-listed h) f))
+    same-settings : (l : List Setting) → SettingsAre s i l → settingsFor s i ≡ l
+    same-settings l a =
+        let h = some-listed (a .place) (a .first) in
+        let e = one-first (o h) (a .place) (first-listed h) (a .first) in
+        let b = one-block s (w .control .laid .kept .each) (a .place) (a .first .listed .starts) (a .bytes) (a .block) in
+        settings-at h ∙ (rw (e, ← b) (sym (a .same)))
 
     empty : (p : ℕ) (x : Setting) → r ≡ n → Holds (settingsFor s i) p x → ⊥
     empty p x e h = let z : length (settingsFor s i) ≡ 0 = ap length (none-listed e) in omega (arith, h .inside)
@@ -137,14 +145,14 @@ module _ (s : List ℕ) where
     module _ (p : ℕ) where
       none-in : NoneHolds (settingsFor s i) p ↔ ((x : Setting) → HoldsIn s i p x → ⊥)
       none-in = (
-        λ h x d. h x (rw (same-settings (d .place) (d .first)) (d .holds)),
-        λ h x d. ⊎-elim (λ e. empty p x e d) (λ e. h x (record { place = o e; first = first-listed e; holds = rw (settings-are e) at d })) either,
+        λ h x d. h x (rw (same-settings (d .settings) (d .are)) (d .holds)),
+        λ h x d. ⊎-elim (λ e. empty p x e d) (λ e. h x (record { settings = settingsFor s i; are = settings-are e; holds = d })) either,
       )
 
       picked-in : (x : Setting) → Fewest (settingsFor s i) p x ↔ PickedIn s i p x
       picked-in x = (
-        λ f. ⊎-elim (λ e. absurd (empty p x e (f .holds))) (λ e. record { place = o e; first = first-listed e; fewest = rw (settings-are e) at f }) either,
-        λ d. rw (same-settings (d .place) (d .first)) (d .fewest),
+        λ f. ⊎-elim (λ e. absurd (empty p x e (f .holds))) (λ e. record { settings = settingsFor s i; are = settings-are e; fewest = f }) either,
+        λ d. rw (same-settings (d .settings) (d .are)) (d .fewest),
       )
 
   -- ---- EXACTLY WHEN
@@ -187,3 +195,13 @@ module _ (s : List ℕ) where
       no-setting = (λ v. absurd (not-74 (refused s c a j q .0 e) (same-refusal j q 74 0 v .0)), λ d. absurd (clash (c .verdict) j q e (accepted s c a .1 (d .0))));
       setting = λ y. (λ v. absurd (apart j q (v .0)), λ d. absurd (clash (c .verdict) j q e (accepted s c a .1 (d .0))));
     }
+
+    -- A REFUSED PICK is all zero
+    pub zero-pick : {x : Picked} → PickIs s i p x → (k o : ℕ) → x .verdict ≡ Refused k o → x .setting ≡ noSetting
+    unfolding answerOf refusedBy
+    zero-pick (own c j q a e) k o v = refl
+    zero-pick (picks c a e) k o v = go (fewestOf p (settingsFor s i)) v
+      where
+        go : (h : Choice) → answerOf h .verdict ≡ Refused k o → answerOf h .setting ≡ noSetting
+        go Nothing v = refl
+        go (At z) v = absurd (apart k o (sym v))

@@ -10,10 +10,10 @@ use Rattle.streaming.specs.Answer.{Seen}
 use Rattle.streaming.specs.Broken as streaming
 use Rattle.configuration_rules.specs.Descriptors.{numberAt}
 use Rattle.configuration_rules.specs.Words.{StreamingFirst}
-use Rattle.interfaces.specs.Blocks.{blockStart, blockOf}
 use Rattle.layout.specs.Words.{Starts}
 use Rattle.layout.specs.Broken.{Laid, FirstMislaid}
 use Rattle.configuration.specs.Answer.{entryCount, entryAt}
+use Rattle.configuration_words.specs.Block.{startOf, BlockIs}
 
 -- a streaming interface is listed by its descriptor of setting 0, which stands at o
 pub record ListedAt (s : List ℕ) (o : ℕ) : Type 0 where
@@ -30,35 +30,36 @@ pub record Named (s : List ℕ) (x : ℕ) : Type 0 where
 abbrev pub AllNamed : List ℕ → List ℕ → Type 0
 AllNamed s b = (j : ℕ) → j < entryCount b → Named s (entryAt b j)
 
--- 70, 71, 72 and 75 are kept, the control interface stands at c, its block breaks no rule and has these entities
-pub record ControlRight (s : List ℕ) (c : ℕ) (l : List Entity) : Type 0 where
+-- 70, 71, 72 and 75 are kept, the control interface stands at c, its block is b, breaks no rule and has these entities
+pub record ControlRight (s : List ℕ) (c : ℕ) (b : List ℕ) (l : List Entity) : Type 0 where
   pub laid : Laid s c
-  pub sound : control.Sound (blockOf s c)
-  pub entities : control.Entities (blockOf s c) l
+  pub block : BlockIs s c b
+  pub sound : control.Sound b
+  pub entities : control.Entities b l
 
--- the entity table that the streaming blocks are read against
-abbrev pub tableIn : List ℕ → ℕ → List Entity → Table
-tableIn s c l = tableOf (blockOf s c) l
+-- the streaming block behind the descriptor at o, read against the entity table t, breaks no rule
+pub record StreamRight (s : List ℕ) (t : Table) (o : ℕ) : Type 0 where
+  pub bytes : List ℕ
+  pub block : BlockIs s o bytes
+  pub seen : Seen
+  pub sound : streaming.Sound t bytes seen
 
--- the streaming block behind the descriptor at o breaks no rule
-abbrev pub StreamRight : List ℕ → Table → ℕ → Type 0
-StreamRight s t o = (a : Seen) × streaming.Sound t (blockOf s o) a
-
--- NO RULE IS BROKEN
+-- NO RULE IS BROKEN. The streaming blocks are read against the control block's entity table
 pub record Sound (s : List ℕ) : Type 0 where
   pub place : ℕ
+  pub block : List ℕ
   pub entities : List Entity
-  pub control : ControlRight s place entities
-  pub named : AllNamed s (blockOf s place)
-  pub blocks : (o : ℕ) → ListedAt s o → StreamRight s (tableIn s place entities) o
+  pub control : ControlRight s place block entities
+  pub named : AllNamed s block
+  pub blocks : (o : ℕ) → ListedAt s o → StreamRight s (tableOf block entities) o
 
 -- THE FIRST BROKEN RULE: 70, 71, 72, 75, the control block's own, 73, the streaming blocks' own in order of appearance. A block's own is given where the block starts,
 -- plus the offset that it has in the block
 pub data FirstBroken (s : List ℕ) : ℕ → ℕ → Type 0 where
   by-layout : (k o : ℕ) → FirstMislaid s k o → FirstBroken s k o
-  by-control : (c : ℕ) → Laid s c → (k x : ℕ) → control.FirstBroken (blockOf s c) k x → FirstBroken s k (blockStart s c + x)
-  by-73 : (c : ℕ) (l : List Entity) → ControlRight s c l → (j : ℕ) → j < entryCount (blockOf s c) → (Named s (entryAt (blockOf s c) j) → ⊥) → FirstBroken s 73 (blockStart s c)
+  by-control : (c : ℕ) (b : List ℕ) → Laid s c → BlockIs s c b → (k x : ℕ) → control.FirstBroken b k x → FirstBroken s k (startOf s c + x)
+  by-73 : (c : ℕ) (b : List ℕ) (l : List Entity) → ControlRight s c b l → (j : ℕ) → j < entryCount b → (Named s (entryAt b j) → ⊥) → FirstBroken s 73 (startOf s c)
   by-streaming :
-      (c : ℕ) (l : List Entity) → ControlRight s c l → AllNamed s (blockOf s c) →
-      (o : ℕ) → ListedAt s o → ((p : ℕ) → ListedAt s p → p < o → StreamRight s (tableIn s c l) p) →
-      (k x : ℕ) → streaming.FirstBroken (tableIn s c l) (blockOf s o) k x → FirstBroken s k (blockStart s o + x)
+      (c : ℕ) (b : List ℕ) (l : List Entity) → ControlRight s c b l → AllNamed s b →
+      (o : ℕ) → ListedAt s o → ((p : ℕ) → ListedAt s p → p < o → StreamRight s (tableOf b l) p) →
+      (e : List ℕ) → BlockIs s o e → (k x : ℕ) → streaming.FirstBroken (tableOf b l) e k x → FirstBroken s k (startOf s o + x)

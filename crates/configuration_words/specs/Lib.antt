@@ -1,3 +1,4 @@
+pub mod Block
 pub mod Broken
 pub mod Listed
 pub mod Picked

@@ -1,9 +1,8 @@
 -- What an accepted configuration lists, in document 02's words. `s` is the configuration.
-use Prim.Native.Nat.{ℕ, _+_, _≤_, _<_}
+use Prim.Native.Nat.{ℕ, _≤_, _<_}
 use mathlib.Core.Path.{_≡_}
 use mathlib.Core.List.{List}
 use lib.ListN.{length, take, drop, getD}
-use Rattle.blocks.specs.Blocks.{lenAt}
 use Rattle.streaming.specs.Answer.{endpointOf}
 use Rattle.configuration_rules.specs.Descriptors.{interfaceType, typeAt, numberAt, settingAt, packetAt, packetBytes}
 use Rattle.configuration_rules.specs.Words.{StreamingFirst, SettingOf, EndpointOf}
@@ -11,14 +10,10 @@ use Rattle.interfaces.specs.Blocks.{interfacesMost, settingsMost, noStream}
 use Rattle.interfaces.specs.declared.Stream.{Stream}
 use Rattle.settings.specs.Holding.{noSetting}
 use Rattle.settings.specs.declared.Setting.{Setting}
-use Rattle.layout.specs.Words.{Starts, Lists, Run}
+use Rattle.layout.specs.Words.{Starts, Lists}
 use Rattle.layout.specs.Broken.{OneControl}
 use Rattle.configuration.specs.declared.Configuration.{Configuration}
-
--- the block of the interface descriptor at o: the longest run of 0x24 descriptors straight after it
-pub record BlockLies (s : List ℕ) (o offset n : ℕ) : Type 0 where
-  pub start : offset ≡ o + lenAt s o
-  pub run : Run s offset (offset + n)
+use Rattle.configuration_words.specs.Block.{BlockLies}
 
 -- a stream is what the streaming descriptor at o says, and its block
 pub record StreamStands (s : List ℕ) (o : ℕ) (x : Stream) : Type 0 where

@@ -6,11 +6,11 @@ use mathlib.Core.Logic.{_↔_}
 use Rattle.rules.specs.declared.Verdict.the-variants.{Accepted, Refused}
 use Rattle.streaming.specs.Answer.{endpointOf}
 use Rattle.configuration_rules.specs.Descriptors.{numberAt}
-use Rattle.interfaces.specs.Blocks.{blockOf}
 use Rattle.settings.specs.Settings.{settingsOf}
 use Rattle.settings.specs.Holding.{Holds, Fewest}
 use Rattle.settings.specs.declared.Setting.{Setting}
 use Rattle.picking.specs.declared.Picked.{Picked}
+use Rattle.configuration_words.specs.Block.{BlockIs}
 use Rattle.configuration_words.specs.Broken.{ListedAt, Sound, FirstBroken}
 
 -- the first listed interface of number i stands at o
@@ -19,21 +19,25 @@ pub record FirstOf (s : List ℕ) (i o : ℕ) : Type 0 where
   pub number : numberAt s o ≡ i
   pub earliest : (q : ℕ) → ListedAt s q → numberAt s q ≡ i → o ≤ q
 
--- its settings, with their bytes at its header's endpoint
-abbrev pub settingsAt : List ℕ → ℕ → ℕ → List Setting
-settingsAt s i o = settingsOf s i (endpointOf (blockOf s o))
+-- its settings, with their bytes at the endpoint of its block's header
+pub record SettingsAre (s : List ℕ) (i : ℕ) (l : List Setting) : Type 0 where
+  pub place : ℕ
+  pub first : FirstOf s i place
+  pub bytes : List ℕ
+  pub block : BlockIs s place bytes
+  pub same : l ≡ settingsOf s i (endpointOf bytes)
 
 -- one of them holds the payload size
 pub record HoldsIn (s : List ℕ) (i p : ℕ) (x : Setting) : Type 0 where
-  pub place : ℕ
-  pub first : FirstOf s i place
-  pub holds : Holds (settingsAt s i place) p x
+  pub settings : List Setting
+  pub are : SettingsAre s i settings
+  pub holds : Holds settings p x
 
 -- and is picked: it has the fewest bytes of those that do, and the lowest number on a tie
 pub record PickedIn (s : List ℕ) (i p : ℕ) (x : Setting) : Type 0 where
-  pub place : ℕ
-  pub first : FirstOf s i place
-  pub fewest : Fewest (settingsAt s i place) p x
+  pub settings : List Setting
+  pub are : SettingsAre s i settings
+  pub fewest : Fewest settings p x
 
 -- WHAT IS ANSWERED
 pub record Picks (s : List ℕ) (i p : ℕ) (r : Picked) : Type 0 where
