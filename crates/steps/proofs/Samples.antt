@@ -15,12 +15,12 @@ use Rattle.payload.specs.declared.Stamp.the-variants.{At}
 use Rattle.payload.specs.declared.Layer.{Layer}
 use Rattle.payload.specs.Layouts.{layoutOf}
 use Rattle.payload.specs.Transfer.{flagOf, layerPlace, needOf, flagsBy, stampOf, layerOf, headerBy, headerOf, readingOf}
-use Rattle.frames.specs.Inner.{turnOf, handsOf, spoiltOf, closedOf}
+use Rattle.frames.specs.Inner.{turnOf, handsOf, outOf, spoiltOf, closedOf}
 use Rattle.ledger.specs.Entry.{Entry}
 use Rattle.ledger.specs.Ledger.{plusOf, timedOf, postOf, shownOf}
 use Rattle.ledger.specs.Accounts.{ticksAt, backwardAt, untimedAt}
 use Rattle.rule_50.specs.Rule50.{rule50, fillBroken, accountsBroken, countsBroken}
-use Rattle.session.specs.Session.{readOf, tookOf, handsOut, takeOf}
+use Rattle.session.specs.Session.{readOf, tookOf, handsOut, handedOf, takeOf}
 use Rattle.session.specs.Call.{Call}
 use Rattle.session.specs.Calls.{Offer}
 use Rattle.steps.specs.Signed.{signed, lowest}
@@ -103,3 +103,46 @@ in-halves =
 numbers : (billed (job opening whole) ticksAt ≡ 52) × (billed (job opening whole) backwardAt ≡ 1) × (billed (job opening whole) untimedAt ≡ 1)
 unfolding pick firstFrom anyBelow frameSizeBroken payloadSizeBroken byEof layoutOf flagOf layerPlace needOf flagsBy stampOf layerOf headerBy readingOf turnOf spoiltOf closedOf plusOf timedOf postOf shownOf sizesBroken fillBroken accountsBroken countsBroken rule50 readOf tookOf handsOut handsOf takeOf
 numbers = (refl, refl, refl)
+
+-- ---- the same of a camera that sends no EOF (D1 clear): frames with stamps FFFFFFF0, 10 and 20, split at the second. Each is handed out by the next one's first transfer, which is offered again.
+abbrev by-fid : Opening
+by-fid = record { frame = 256; payload = 62; framing = 1; kind = Old }
+
+abbrev a : List ℕ
+a = 0x06 ∷ 0x84 ∷ 0xF0 ∷ 0xFF ∷ 0xFF ∷ 0xFF ∷ 0xAA ∷ []
+
+abbrev b : List ℕ
+b = 0x06 ∷ 0x85 ∷ 0x10 ∷ 0x00 ∷ 0x00 ∷ 0x00 ∷ 0xBB ∷ []
+
+abbrev c : List ℕ
+c = 0x06 ∷ 0x84 ∷ 0x20 ∷ 0x00 ∷ 0x00 ∷ 0x00 ∷ 0xCC ∷ []
+
+abbrev d : List ℕ
+d = 0x02 ∷ 0x81 ∷ 0xDD ∷ []
+
+at-middle-by-fid : Middle by-fid (Call.transfer a ∷ Call.handed ∷ []) b (Call.handed ∷ [])
+unfolding pick firstFrom anyBelow frameSizeBroken payloadSizeBroken byEof layoutOf flagOf layerPlace needOf flagsBy stampOf layerOf headerBy readingOf turnOf spoiltOf closedOf plusOf timedOf postOf shownOf sizesBroken fillBroken accountsBroken countsBroken rule50 readOf tookOf handsOut handsOf outOf handedOf takeOf
+at-middle-by-fid =
+    record {
+      header = headerOf by-fid b;
+      reads = refl;
+      other = λ e. true≢false (sym e);
+      unspoilt = refl;
+      item = record { entry = Entry.Delivered (record { len = 1; stamp = At 0x10; layer = Layer.Absent }); load = 0xBB ∷ [] };
+      alone = refl;
+      delivery = record { len = 1; stamp = At 0x10; layer = Layer.Absent };
+      delivered = refl;
+      stamp = 0x10;
+      stamped = refl;
+    }
+
+in-halves-by-fid : BillAsWhole (job by-fid (offered (a ∷ b ∷ b ∷ c ∷ c ∷ d ∷ []))) (job by-fid (offered (a ∷ b ∷ b ∷ c ∷ []))) (job by-fid (offered (b ∷ c ∷ c ∷ d ∷ [])))
+unfolding pick firstFrom anyBelow frameSizeBroken payloadSizeBroken byEof layoutOf flagOf layerPlace needOf flagsBy stampOf layerOf headerBy readingOf turnOf spoiltOf closedOf plusOf timedOf postOf shownOf sizesBroken fillBroken accountsBroken countsBroken rule50 readOf tookOf handsOut handsOf outOf handedOf takeOf
+in-halves-by-fid =
+    halves .of-calls by-fid (offered (a ∷ b ∷ b ∷ c ∷ c ∷ d ∷ [])) (offered (a ∷ b ∷ b ∷ c ∷ [])) (offered (b ∷ c ∷ c ∷ d ∷ [])) (Call.transfer a ∷ Call.handed ∷ []) b (Call.handed ∷ [])
+    (Call.transfer c ∷ Call.handed ∷ []) at-middle-by-fid refl refl refl
+
+numbers-by-fid : (billed (job by-fid (offered (a ∷ b ∷ b ∷ c ∷ []))) ticksAt ≡ 32) × (billed (job by-fid (offered (b ∷ c ∷ c ∷ d ∷ []))) ticksAt ≡ 16)
+    × (billed (job by-fid (offered (a ∷ b ∷ b ∷ c ∷ c ∷ d ∷ []))) ticksAt ≡ 48)
+unfolding pick firstFrom anyBelow frameSizeBroken payloadSizeBroken byEof layoutOf flagOf layerPlace needOf flagsBy stampOf layerOf headerBy readingOf turnOf spoiltOf closedOf plusOf timedOf postOf shownOf sizesBroken fillBroken accountsBroken countsBroken rule50 readOf tookOf handsOut handsOf outOf handedOf takeOf
+numbers-by-fid = (refl, refl, refl)

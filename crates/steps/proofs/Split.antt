@@ -13,13 +13,14 @@ use Rattle.ledger.specs.Accounts.{ticksAt, backwardAt, untimedAt}
 use Rattle.ledger.specs.Entry.{Entry}
 use Rattle.session.specs.Session.{fresh}
 use Rattle.session.specs.Call.{Call}
-use Rattle.session.specs.Calls.{Offer, taken}
+use Rattle.session.specs.Calls.{Offer}
+use Rattle.books.specs.Offers.{listOf}
 use Rattle.books.specs.Rule.{Event, Item, events, isOpen, loose, entryOf, entries, framesBy, total, stamps, stampList, untimed, noStamp, forward, back, between}
 use Rattle.books.proofs.Taken.{Proper, taken-proper}
 use Rattle.books.proofs.Posts.{total-append}
 use Rattle.books.proofs.History.{map-append, stamps-append}
 use Rattle.books.proofs.Accounts.{loose-stamped, loose-timed}
-use Rattle.books.proofs.Histories.{accounts-taken}
+use Rattle.books.proofs.Theorems.{list-right, accounts-right}
 use Rattle.steps.specs.Cut.{Middle}
 use Rattle.steps.specs.Halves.{StampHalves, EntryHalves, Job, job, framesIn, Split, billed, BillAsWhole, Halves}
 use Rattle.books.proofs.Begins.{proper-open, proper-later, earlier, frames-from, frames-after}
@@ -67,7 +68,7 @@ record Timed (j : Job) (es : List Entry) : Type 0 where
 
 timed : (j : Job) → Timed j (map entryOf (framesIn j))
 timed j =
-    let right = accounts-taken (j .opening) (j .offered) in
+    let right = accounts-right (j .opening) (j .offered) in
     record {
       ticks = right .ticks ∙ ap (between forward) stamped;
       backward = right .backward ∙ ap (between back) stamped;
@@ -75,9 +76,9 @@ timed j =
     }
   where
     others : List Event
-    others = events (j .opening) (taken (fresh (j .opening)) (j .offered))
+    others = events (j .opening) (listOf (j .opening) (j .offered))
 
-    stamped : stamps (entries (j .opening) (taken (fresh (j .opening)) (j .offered))) ≡ stamps (map entryOf (framesIn j))
+    stamped : stamps (entries (j .opening) (listOf (j .opening) (j .offered))) ≡ stamps (map entryOf (framesIn j))
     stamped =
         stamps-append (map entryOf (framesIn j)) (loose others) ∙ ap (stamps (map entryOf (framesIn j)) ++_) (loose-stamped others) ∙ append-nil _
 
@@ -105,10 +106,14 @@ module _ (whole first second : Job) (p : Split whole first second) where
 
 -- ---- calls
 module _ (o : Opening) (whole first second : List Offer) (before : List Call) (t : List ℕ) (own after : List Call) (m : Middle o before t own)
-    (w : taken (fresh o) whole ≡ before ++ (Call.transfer t ∷ (own ++ after))) (f : taken (fresh o) first ≡ before ++ (Call.transfer t ∷ own))
-    (s : taken (fresh o) second ≡ Call.transfer t ∷ (own ++ after)) where
+    (w : listOf o whole ≡ before ++ (Call.transfer t ∷ (own ++ after))) (f : listOf o first ≡ before ++ (Call.transfer t ∷ own))
+    (s : listOf o second ≡ Call.transfer t ∷ (own ++ after)) where
+  -- what the list of a job's offers is, a session has taken
+  proper-as : (xs : List Offer) (cs : List Call) → listOf o xs ≡ cs → Proper (fresh o) cs
+  proper-as xs cs e = subst (Proper (fresh o)) (list-right o xs ∙ e) (taken-proper (fresh o) xs)
+
   proper-first : Proper (fresh o) (before ++ (Call.transfer t ∷ own))
-  proper-first = subst (Proper (fresh o)) f (taken-proper (fresh o) first)
+  proper-first = proper-as first _ f
 
   open₀ : isOpen before ≡ true
   open₀ = proper-open before (Call.transfer t) own (fresh o) proper-first
@@ -125,12 +130,12 @@ module _ (o : Opening) (whole first second : List Offer) (before : List Call) (t
   split-calls =
       let second-frames =
       frames-after o (Call.transfer t ∷ own) after (m .item) (m .delivery) (m .delivered) (m .alone)
-      (proper-later o before t (m .header) (m .reads) (m .other) (m .unspoilt) open₀ own proper-first) (subst (Proper (fresh o)) s (taken-proper (fresh o) second)) in
+      (proper-later o before t (m .header) (m .reads) (m .other) (m .unspoilt) open₀ own proper-first) (proper-as second _ s) in
       record {
         before = frames-before;
         middle = m .item;
         after = second-frames .0;
-        all = ap (framesBy o) w ∙ from-middle (own ++ after) (subst (Proper (fresh o)) w (taken-proper (fresh o) whole)) ∙ ap (frames-before ++_) (second-frames .1);
+        all = ap (framesBy o) w ∙ from-middle (own ++ after) (proper-as whole _ w) ∙ ap (frames-before ++_) (second-frames .1);
         up-to = ap (framesBy o) f ∙ from-middle own proper-first ∙ ap (frames-before ++_) (m .alone);
         from = ap (framesBy o) s ∙ second-frames .1;
         delivery = m .delivery;

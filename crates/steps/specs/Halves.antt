@@ -13,7 +13,8 @@ use Rattle.ledger.specs.Entry.{Entry}
 use Rattle.session.specs.Refusals.{ledgerOf}
 use Rattle.session.specs.Session.{fresh}
 use Rattle.session.specs.Call.{Call}
-use Rattle.session.specs.Calls.{Offer, after, taken}
+use Rattle.session.specs.Calls.{Offer, after}
+use Rattle.books.specs.Offers.{listOf}
 use Rattle.books.specs.Rule.{Item, framesBy, total, stamps, untimed, forward, back, between}
 use Rattle.steps.specs.Cut.{Middle}
 
@@ -30,7 +31,7 @@ pub record EntryHalves (before : List Entry) (middle : Entry) (after : List Entr
       between back (stamps (before ++ (middle ∷ []))) + between back (stamps (middle ∷ after))
   pub plain : total untimed (before ++ (middle ∷ after)) ≡ total untimed (before ++ (middle ∷ [])) + total untimed (middle ∷ after)
 
--- A JOB: an opening and what is offered to a fresh session, refused or not; its ledger at the end; and its frames, which are the rule's, of the calls taken
+-- A JOB: an opening and what is offered to a fresh session, refused or not; its ledger at the end; and its frames, which are the rule's, of the list of those offers (books/specs/Offers)
 pub record Job : Type 0 where
   pub opening : Opening
   pub offered : List Offer
@@ -42,7 +43,7 @@ abbrev pub ledgerAfter : Job → Ledger
 ledgerAfter j = ledgerOf (after (fresh (j .opening)) (j .offered))
 
 abbrev pub framesIn : Job → List Item
-framesIn j = framesBy (j .opening) (taken (fresh (j .opening)) (j .offered))
+framesIn j = framesBy (j .opening) (listOf (j .opening) (j .offered))
 
 -- the frames of the whole are those of the first half and of the second, which share the middle one; it is delivered and has a stamp
 pub record Split (whole first second : Job) : Type 0 where
@@ -71,7 +72,7 @@ pub record Halves : Type 0 where
   pub of-entries : (before after : List Entry) (d : Delivery) (s : ℕ) → d .stamp ≡ At s → EntryHalves before (Entry.Delivered d) after
   pub of-jobs : (whole first second : Job) → Split whole first second → BillAsWhole whole first second
   pub of-calls : (o : Opening) (whole first second : List Offer) (before : List Call) (t : List ℕ) (own after : List Call) → Middle o before t own →
-      taken (fresh o) whole ≡ before ++ (Call.transfer t ∷ (own ++ after)) →
-      taken (fresh o) first ≡ before ++ (Call.transfer t ∷ own) →
-      taken (fresh o) second ≡ Call.transfer t ∷ (own ++ after) →
+      listOf o whole ≡ before ++ (Call.transfer t ∷ (own ++ after)) →
+      listOf o first ≡ before ++ (Call.transfer t ∷ own) →
+      listOf o second ≡ Call.transfer t ∷ (own ++ after) →
       BillAsWhole (job o whole) (job o first) (job o second)
