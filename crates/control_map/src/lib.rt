@@ -2,11 +2,13 @@
 ghost use mathlib.Core.Path.{_≡_};
 ghost use Prim.Native.Nat.{_<_};
 ghost use Rattle.rules.specs.declared.Verdict.the-variants.{Accepted};
+ghost use Rattle.entities.specs.Table.{foundAmong};
 ghost use Rattle.control_rules.specs.Descriptors.{kindOf};
 ghost use Rattle.control.specs.Answer.{ControlIs};
 ghost use Rattle.control_map.specs.Answer.{MapIs, controlsMost, controlByte, controlBytes, controlsAt, refusedMap};
 ghost use Rattle.control_map.specs.Inner.{cameraPlace, placeBy, placeOf, mapBy};
 use control_rules::CAMERA;
+use entities::ENTITIES_MOST;
 use entities::Entity;
 use entities::Found;
 use entities::Table;
@@ -47,13 +49,20 @@ pub fn find_controls(s: &[u8], table: Table, id: u8) -> Map
     ensures { λ r. ⌜ MapIs (now (s .entry)) id r ⌝ }
 {
     let entities = table.entities;
-    match entities::find_among(entities, table.count, id) {
+    match place_among(entities, table.count, id) {
         Found::Nothing => refused(16, 0),
         Found::At(i) => {
             let e = table.entities[i];
             controls_of(s, e)
         }
     }
+}
+
+// The place of the ID among the table's places, which are lent to the scan.
+fn place_among(entities: [Entity; ENTITIES_MOST], count: usize, id: u8) -> Found
+    ensures { λ r. ⌜ r ≡ foundAmong entities count id ⌝ }
+{
+    entities::find_lent(&entities, count, id)
 }
 
 // The controls of a camera terminal or a processing unit; else 16.

@@ -1,20 +1,23 @@
 -- What is found is the first used place that carries the ID; and one step of the search.
-use Prim.Native.Nat.{ℕ, zero, suc, _+_, _≤_, _<_}
-use mathlib.Core.Path.{_≡_, refl, sym, ap, _∙_}
+use Prim.Native.Nat.{ℕ, zero, suc, _+_, _-_, _≤_, _<_}
+use mathlib.Core.Path.{_≡_, refl, sym, ap, _∙_, subst}
 use mathlib.Core.Bool.{Bool, true, false}
-use mathlib.Core.List.{List, [], _∷_, map}
+use mathlib.Core.List.{List, [], _∷_, _++_, map, append-nil}
+use mathlib.Core.Logic.{⊎-elim}
 use lib.Dec.{leb, eqb}
-use lib.ListN.{length, take, drop, getD, length-map, length-take, length-drop}
-use lib.Seq.{drop-cons, getD-take}
+use lib.ListN.{length, take, drop, getD, set, replicate, length-map, length-take, length-drop}
+use lib.Seq.{drop-cons, getD-take, take-suc, take-all, take-length, take-take, take-append-le, set-out}
 use native.Mathlib.Numerals.{add-one}
 use native.Mathlib.Omega.{arith}
 use borrow.Author.Tests.{eq-eqb, ne-eqb, eqb-true, eqb-false, leb-true, leb-false}
 use Rattle.rules.specs.Pick.{pick}
+use Rattle.rules.specs.Pad.{pad}
 use Rattle.rules.specs.First.{First}
-use Rattle.rules.proofs.Firsts.{first-unique}
-use Rattle.entities.specs.Table.{entitiesMost, entityAt, used, findFrom, foundAmong, foundIn}
+use Rattle.rules.proofs.Firsts.{lt-or-ge, first-unique}
+use Rattle.rules.proofs.Lists.{no-elements}
+use Rattle.rules.proofs.Padded.{pad-set, pad-length}
+use Rattle.entities.specs.Table.{entitiesMost, noEntity, entityAt, findFrom, foundAmong}
 use Rattle.entities.specs.declared.Entity.{Entity}
-use Rattle.entities.specs.declared.Table.{Table}
 use Rattle.entities.specs.declared.Found.{Found}
 use Rattle.entities.specs.declared.Found.the-variants.{At, Nothing}
 
@@ -92,78 +95,100 @@ present l id r h w = go (findFrom 0 l id) refl
     go Nothing e = absurd ((rw e at (found-first l id)) .before r h (w .here h))
     go (At j) e = ap At (first-unique (Carries l id) (length l) r j w (rw e at (found-first l id)))
 
--- ---- the scan of all the places, used and unused: what is found among the first k
-module _ (l : List Entity) (k id r : ℕ) (w : First (Carries l id) (length l) r) where
-  used-carries : (i : ℕ) → i < length (take k l) → Carries (take k l) id i → Carries l id i
-  used-carries i h e = let j : i < k = omega (arith, simp length-take at h) in rw getD-take at e
+-- ---- lent places, taken apart into a table of `places`: the first i of them by value
+module _ (places : ℕ) where
+  abbrev pub takenTo : List Entity → ℕ → List Entity
+  takenTo l i = pad places noEntity (take places (take i l))
 
-  lent-none : (min : length (take k l) ≤ r) → Nothing ≡ foundAmong l k id
-  lent-none m = absent (take k l) id (λ i h e. w .before i (omega arith) (used-carries i h e))
+  module _ (l : List Entity) where
+    -- one more
+    pub taken-more : (i : ℕ) → i < length l → set (takenTo l i) i (entityAt l i) ≡ takenTo l (i + 1)
+    taken-more i h = ⊎-elim inside outside (lt-or-ge i places)
+      where
+        more : take (i + 1) l ≡ take i l ++ (entityAt l i ∷ [])
+        more = rw (add-one i) (take-suc l i noEntity h)
 
-  lent-at : r < length l → r < k → At r ≡ foundAmong l k id
-  lent-at h b =
-      present (take k l) id r (simp length-take (omega arith))
-      (record {
-        within = simp length-take (omega arith);
-        before = λ i j e. w .before i j (used-carries i (simp length-take (omega arith)) e);
-        here = λ j. rw getD-take (w .here h);
-      })
+        inside : i < places → set (takenTo l i) i (entityAt l i) ≡ takenTo l (i + 1)
+        inside b =
+            let n : length (take i l) ≡ i = simp length-take (omega arith) in
+            let t : take places (take i l) ≡ take i l = take-all places (take i l) (omega arith) in
+            let m : length (take (i + 1) l) ≤ places = simp length-take (omega arith) in
+            let u : take places (take (i + 1) l) ≡ take (i + 1) l = take-all places (take (i + 1) l) m in
+            rw (t, u, more)
+            (subst (λ (k : ℕ). set (pad places noEntity (take i l)) k (entityAt l i) ≡ pad places noEntity (take i l ++ (entityAt l i ∷ []))) n
+            (pad-set places noEntity (take i l) (entityAt l i) (omega arith)))
 
-  pub lent-found : pick (leb (length l) r) Nothing (pick (leb k r) Nothing (At r)) ≡ foundAmong l k id
-  unfolding pick
-  lent-found = go (leb (length l) r) refl (leb k r) refl
-    where
-      go : (x : Bool) → leb (length l) r ≡ x → (y : Bool) → leb k r ≡ y → pick x Nothing (pick y Nothing (At r)) ≡ foundAmong l k id
-      go true p y q = lent-none (simp length-take (omega (arith, leb-true (length l) r p)))
-      go false p true q = lent-none (simp length-take (omega (arith, leb-true k r q)))
-      go false p false q = lent-at (leb-false (length l) r p) (leb-false k r q)
+        outside : places ≤ i → set (takenTo l i) i (entityAt l i) ≡ takenTo l (i + 1)
+        outside b =
+            let n : length (take places (take i l)) ≤ places = simp length-take (omega arith) in
+            let e : length (takenTo l i) ≤ i = omega (arith, pad-length places noEntity (take places (take i l)) n) in
+            set-out (takenTo l i) i (entityAt l i) e ∙ (rw (take-take places i l b, take-take places (i + 1) l (omega arith)))
 
--- ---- the search in a table, place by place
+    -- all of them
+    pub taken-all : (i : ℕ) → i ≡ length l → takenTo l i ≡ pad places noEntity (take places l)
+    taken-all i e = rw (e, take-length l)
+
+    -- the first m of the table, where all of them were lent
+    first-of : (m : ℕ) → m ≤ length l → take m (pad places noEntity (take places l)) ≡ take m (take places l)
+    first-of m h = ⊎-elim within past (lt-or-ge places (length l))
+      where
+        past : length l ≤ places → take m (pad places noEntity (take places l)) ≡ take m (take places l)
+        past c =
+            let n : m ≤ length (take places l) = simp length-take (omega arith) in
+            take-append-le m (take places l) (replicate (places - length (take places l)) noEntity) n
+
+        within : places < length l → take m (pad places noEntity (take places l)) ≡ take m (take places l)
+        within c =
+            let n : length (take places l) ≡ places = simp length-take (omega arith) in
+            let z : places - length (take places l) ≡ 0 = omega arith in
+            rw (z, append-nil (take places l))
+
+    -- looking up in them is looking up in the lent places
+    pub lent-found : (k id : ℕ) → pick (leb (length l) k) (foundAmong (pad places noEntity (take places l)) (length l) id) (foundAmong (pad places noEntity (take places l)) k id) ≡ foundAmong (take places l) k id
+    unfolding pick
+    lent-found k id = go (leb (length l) k) refl
+      where
+        go : (b : Bool) → leb (length l) k ≡ b → pick b (foundAmong (pad places noEntity (take places l)) (length l) id) (foundAmong (pad places noEntity (take places l)) k id) ≡ foundAmong (take places l) k id
+        go true e =
+            let h = leb-true (length l) k e in
+            let n : length (take places l) ≤ length l = simp length-take (omega arith) in
+            ap (λ (x : List Entity). findFrom 0 x id) (first-of (length l) (omega arith) ∙ (take-all (length l) (take places l) n ∙ sym (take-all k (take places l) (omega arith))))
+        go false e = let h = leb-false (length l) k e in ap (λ (x : List Entity). findFrom 0 x id) (first-of k (omega arith))
+
+-- ---- the search in places by value, place by place
+-- the length of an array of structs that lies in a struct
 pub length-of : (X Y : Type 0) (f : X → Y) (l : List X) (n : ℕ) → length (map f l) ≡ n → length l ≡ n
 length-of X Y f l n e = sym (length-map l f) ∙ e
 
 -- the search from place i on answers as the whole search does
-pub record Seeking (t : Table) (id i : ℕ) : Type 0 where
-  pub size : length (t .entities) ≡ entitiesMost
+pub record Seeking (l : List Entity) (n id i : ℕ) : Type 0 where
+  pub size : length l ≡ entitiesMost
   pub within : i ≤ entitiesMost
-  pub same : findFrom i (drop i (used t)) id ≡ foundIn t id
+  pub same : findFrom i (drop i (take n l)) id ≡ foundAmong l n id
 
-pub seek : (t : Table) (id : ℕ) → length (t .entities) ≡ entitiesMost → Seeking t id 0
-seek t id e = record { size = e; within = omega arith; same = refl }
+pub seek : (l : List Entity) (n id : ℕ) → length l ≡ entitiesMost → Seeking l n id 0
+seek l n id e = record { size = e; within = omega arith; same = refl }
 
-nothing-left : (t : Table) (id i : ℕ) → length (used t) ≤ i → findFrom i (drop i (used t)) id ≡ Nothing
+nothing-left : (l : List Entity) (id i : ℕ) → length l ≤ i → findFrom i (drop i l) id ≡ Nothing
 unfolding findFrom
-nothing-left t id i h = go (drop i (used t)) (simp length-drop (omega arith))
-  where
-    go : (l : List Entity) → length l ≡ 0 → findFrom i l id ≡ Nothing
-    go [] e = refl
-    go (x ∷ l) e = absurd (omega arith)
+nothing-left l id i h = rw (no-elements (drop i l) (simp length-drop (omega arith)))
 
-module _ (t : Table) (id i : ℕ) (w : Seeking t id i) where
-  long : length (used t) ≤ t .count
-  long = simp length-take (omega arith)
+module _ (l : List Entity) (n id i : ℕ) (w : Seeking l n id i) where
+  pub none-left : n ≤ i → Nothing ≡ foundAmong l n id
+  none-left h = let b : length (take n l) ≤ i = simp length-take (omega arith) in sym (nothing-left (take n l) id i b) ∙ w .same
 
-  short : length (used t) ≤ entitiesMost
-  short = simp length-take (omega (arith, w .size))
+  pub none-more : entitiesMost ≤ i → Nothing ≡ foundAmong l n id
+  none-more h = let b : length (take n l) ≤ i = simp length-take (omega (arith, w .size)) in sym (nothing-left (take n l) id i b) ∙ w .same
 
-  pub none-left : t .count ≤ i → Nothing ≡ foundIn t id
-  none-left h = sym (nothing-left t id i (omega (arith, long))) ∙ w .same
+  module _ (d : Entity) (h : i < n) (b : i < entitiesMost) where
+    here : drop i (take n l) ≡ getD l i d ∷ drop (suc i) (take n l)
+    here = let c : i < length (take n l) = simp length-take (omega (arith, w .size)) in drop-cons (take n l) i d c ∙ (rw getD-take)
 
-  pub none-more : entitiesMost ≤ i → Nothing ≡ foundIn t id
-  none-more h = sym (nothing-left t id i (omega (arith, short))) ∙ w .same
-
-  module _ (d : Entity) (h : i < t .count) (b : i < entitiesMost) where
-    inside : i < length (used t)
-    inside = simp length-take (omega (arith, w .size))
-
-    here : drop i (used t) ≡ getD (t .entities) i d ∷ drop (suc i) (used t)
-    here = drop-cons (used t) i d inside ∙ (rw getD-take)
-
-    pub here-at : getD (t .entities) i d .id ≡ id → At i ≡ foundIn t id
+    pub here-at : getD l i d .id ≡ id → At i ≡ foundAmong l n id
     unfolding findFrom pick
-    here-at e = rw (here, eq-eqb (getD (t .entities) i d .id) id e) at (w .same)
+    here-at e = rw (here, eq-eqb (getD l i d .id) id e) at (w .same)
 
-    pub not-here : (getD (t .entities) i d .id ≡ id → ⊥) → Seeking t id (i + 1)
+    pub not-here : (getD l i d .id ≡ id → ⊥) → Seeking l n id (i + 1)
     unfolding findFrom pick
     not-here e =
-        record { size = w .size; within = rw (add-one i) b; same = rw (add-one i) (rw (here, ne-eqb (getD (t .entities) i d .id) id e) at (w .same)) }
+        record { size = w .size; within = rw (add-one i) b; same = rw (add-one i) (rw (here, ne-eqb (getD l i d .id) id e) at (w .same)) }

@@ -1,9 +1,11 @@
 // The entity table of a control block: terminals and units in block order, unused places zero.
 ghost use mathlib.Core.Path.{_≡_};
-ghost use lib.Dec.{leb, eqb};
+ghost use mathlib.Core.List.{[]};
+ghost use lib.Dec.{leb};
+ghost use lib.ListN.{take, set};
 ghost use Rattle.rules.specs.Pick.{pick};
-ghost use Rattle.entities.specs.declared.Found.the-variants.{At, Nothing};
-ghost use Rattle.entities.specs.Table.{foundIn, foundAmong, noTable, Finds};
+ghost use Rattle.rules.specs.Pad.{pad};
+ghost use Rattle.entities.specs.Table.{entitiesMost, noEntity, foundIn, foundAmong, noTable};
 ghost use Rattle.entities.specs.Revisions.{saysOf};
 
 // Ours: the most entities of a block, and the places of its table.
@@ -109,17 +111,24 @@ pub fn no_table() -> Table
     }
 }
 
-// The first used place whose entity carries the ID.
+// The first used place of a table whose entity carries the ID.
 pub fn find(t: Table, id: u8) -> Found
     ensures { λ r. ⌜ r ≡ foundIn t id ⌝ }
 {
-    let n = t.count;
+    let entities = t.entities;
+    find_among(entities, t.count, id)
+}
+
+// The lookup, of places by value: the first of the first `count` whose entity carries the ID.
+pub fn find_among(entities: [Entity; ENTITIES_MOST], count: usize, id: u8) -> Found
+    ensures { λ r. ⌜ r ≡ foundAmong entities count id ⌝ }
+{
     let mut i: usize = 0;
     while i < ENTITIES_MOST {
-        if n <= i {
+        if count <= i {
             return Found::Nothing;
         }
-        let e = t.entities[i];
+        let e = entities[i];
         if e.id == id {
             return Found::At(i);
         }
@@ -128,49 +137,55 @@ pub fn find(t: Table, id: u8) -> Found
     Found::Nothing
 }
 
-// The same among the first `count` of the lent places, by the thin scan.
+// The same over lent places, as many as a table has: a thin scan takes them apart, and the lookup goes by value.
 pub fn find_lent(entities: &[Entity], count: usize, id: u8) -> Found
-    ensures { λ r. ⌜ r ≡ foundAmong (now (entities .entry)) count id ⌝ }
+    ensures { λ r. ⌜ r ≡ foundAmong (take entitiesMost (now (entities .entry))) count id ⌝ }
 {
-    used_place(scan(entities, id), entities.len(), count)
+    find_placed(taken_apart(entities), entities.len(), count, id)
 }
 
-// The same among the first `count` of a table's places, which are lent to the scan.
-pub fn find_among(entities: [Entity; ENTITIES_MOST], count: usize, id: u8) -> Found
-    ensures { λ r. ⌜ r ≡ foundAmong entities count id ⌝ }
+// The lookup where so many places were lent.
+fn find_placed(all: [Entity; ENTITIES_MOST], places: usize, count: usize, id: u8) -> Found
+    ensures { λ r. ⌜ r ≡ pick (leb places count) (foundAmong all places id) (foundAmong all count id) ⌝ }
 {
-    find_lent(&entities, count, id)
-}
-
-// What a scan of so many places found, if it is one of the first `count`.
-fn used_place(i: usize, places: usize, count: usize) -> Found
-    ensures { λ r. ⌜ r ≡ pick (leb places i) Nothing (pick (leb count i) Nothing (At i)) ⌝ }
-{
-    if places <= i {
-        return Found::Nothing;
+    if places <= count {
+        return find_among(all, places, id);
     }
-    if count <= i {
-        return Found::Nothing;
-    }
-    Found::At(i)
+    find_among(all, count, id)
 }
 
-// The first of the lent places whose entity carries the ID, or their number.
-fn scan(entities: &[Entity], id: u8) -> usize
-    ensures { λ r. ⌜ Finds (now (entities .entry)) id r ⌝ }
+// The lent places by value, as many as a table has.
+fn taken_apart(entities: &[Entity]) -> [Entity; ENTITIES_MOST]
+    ensures { λ r. ⌜ r ≡ pad entitiesMost noEntity (take entitiesMost (now (entities .entry))) ⌝ }
 {
+    let mut all = no_places();
     let mut i: usize = 0;
     while i < entities.len() {
-        if carries(entities[i], id) {
-            return i;
-        }
+        all = with_place(all, i, entities[i]);
         i += 1;
     }
-    i
+    all
 }
 
-fn carries(e: Entity, id: u8) -> bool
-    ensures { λ r. ⌜ r ≡ eqb (e .id) id ⌝ }
+fn no_places() -> [Entity; ENTITIES_MOST]
+    ensures { λ r. ⌜ r ≡ pad entitiesMost noEntity [] ⌝ }
 {
-    e.id == id
+    let none = Entity {
+        id: 0,
+        kind: 0,
+        terminal: 0,
+        offset: 0,
+    };
+    [none; ENTITIES_MOST]
+}
+
+// With this entity at a place; a place that the table has not stays out.
+fn with_place(all: [Entity; ENTITIES_MOST], i: usize, e: Entity) -> [Entity; ENTITIES_MOST]
+    ensures { λ r. ⌜ r ≡ set all i e ⌝ }
+{
+    let mut all = all;
+    if i < ENTITIES_MOST {
+        all[i] = e;
+    }
+    all
 }
