@@ -5,6 +5,7 @@ use mathlib.Core.List.{List, [], _∷_, _++_}
 use native.Mathlib.Omega.{arith}
 use lib.ListN.{length, take, drop, length-append, length-drop}
 use lib.Seq.{take-append-le, drop-append-le}
+use Rattle.rules.proofs.Lists.{no-elements}
 use Rattle.records.specs.Record.{recordsOf}
 use Rattle.trace.specs.Trace.{stepOf, stepBuffer, traced, tracedBuffer}
 use Rattle.trace.specs.declared.Trace.{Trace}
@@ -18,14 +19,10 @@ buffer-more : (xs ys : List (List ℕ)) (t : Trace) (b : List ℕ) → tracedBuf
 buffer-more [] ys t b = refl
 buffer-more (x ∷ xs) ys t b = buffer-more xs ys (stepOf t b x) (stepBuffer t b x)
 
-none : (l : List ℕ) → length l ≡ 0 → l ≡ []
-none [] e = refl
-none (x ∷ l) e = absurd (omega arith)
-
 -- the records of k whole ones and of what comes after them
 pub records-append : (k : ℕ) (xs ys : List ℕ) → length xs ≡ k * 64 → recordsOf (xs ++ ys) ≡ recordsOf xs ++ recordsOf ys
 unfolding recordsOf
-records-append zero xs ys e = rw (none xs (omega arith))
+records-append zero xs ys e = rw (no-elements xs (omega arith))
 records-append (suc k) xs ys e =
     let z : 64 ≤ length xs = omega arith in
     records-more (xs ++ ys) (omega (arith, length-append xs ys))
