@@ -12,6 +12,7 @@ use Rattle.payload.specs.declared.Reading.the-variants.{Idle, Unreadable, Reada
 use Rattle.payload.specs.Transfer.{readingOf}
 use Rattle.frames.specs.declared.Phase.{Phase}
 use Rattle.frames.specs.declared.Phase.the-variants.{Fresh, Under, Past}
+use Rattle.frames.specs.declared.Ended.{Ended}
 use Rattle.frames.specs.declared.Ended.the-variants.{Nothing, Frame}
 use Rattle.frames.specs.declared.Run.{Run}
 use Rattle.frames.specs.declared.Track.{Track}
@@ -31,10 +32,11 @@ use Rattle.books.proofs.History.{callItems, dataNext, items, dataRun, a
 use Rattle.books.proofs.Accounts.{frames-made}
 use Rattle.books.proofs.Sound.{run-opening}
 use Rattle.books.specs.LastReadable.{LastFid, none, of, lastFid, spoiltSince, Other}
+use Rattle.books.proofs.Openings.{alike-itself, alike-moved}
 use Rattle.books.proofs.Alike.{Alike, proper-alike, items-alike, data-alike, run-alike, run-append, data-append, items-append}
 
 -- ---- what a session knows of the transfers before: the FID of the last readable one, and whether it is spoilt since
-abbrev phaseFid : Phase → LastFid
+abbrev pub phaseFid : Phase → LastFid
 phaseFid Fresh = none
 phaseFid (Under x) = of (x .fid)
 phaseFid (Past f) = of f
@@ -90,7 +92,7 @@ took-gap s t es (Unreadable k) = refl
 took-gap s t es (Readable h) =
     ap (λ (b : Bool). spoiltSince b es) (turn-gap (s .rest .opening) h (length t - h .len) (s .rest .track .phase) (s .rest .track .gap))
 
-run-fid : (cs : List Call) (s : Session) → isOpen cs ≡ true →
+pub run-fid : (cs : List Call) (s : Session) → isOpen cs ≡ true →
     phaseFid (run s cs .rest .track .phase) ≡ lastFid (phaseFid (s .rest .track .phase)) (events (s .rest .opening) cs)
 unfolding tookOf spoiltOf handedOf outOf
 run-fid [] s p = refl
@@ -104,7 +106,7 @@ run-fid (Call.handed ∷ cs) s p =
     run-fid cs (nextCall s Call.handed) p ∙ ap (λ (f : LastFid). lastFid f (events (s .rest .opening) cs)) (out-fid (s .rest .track .phase) (s .rest .track .gap))
 run-fid (Call.close ∷ cs) s p = absurd (true≢false (sym p))
 
-run-gap : (cs : List Call) (s : Session) → isOpen cs ≡ true →
+pub run-gap : (cs : List Call) (s : Session) → isOpen cs ≡ true →
     run s cs .rest .track .gap ≡ spoiltSince (s .rest .track .gap) (events (s .rest .opening) cs)
 unfolding tookOf spoiltOf handedOf outOf
 run-gap [] s p = refl
@@ -118,31 +120,51 @@ run-gap (Call.handed ∷ cs) s p =
 run-gap (Call.close ∷ cs) s p = absurd (true≢false (sym p))
 
 -- ---- a readable transfer of another FID, where nothing is spoilt: its turn is that of a fresh session, but for the frame that it ends
-other-fid : (f g : Bool) → (f ≡ g → ⊥) → (sameOf f g ≡ false) × (Bool·beq f g ≡ false)
+pub other-fid : (f g : Bool) → (f ≡ g → ⊥) → (sameOf f g ≡ false) × (Bool·beq f g ≡ false)
 other-fid true true n = absurd (n refl)
 other-fid false false n = absurd (n refl)
 other-fid true false n = (refl, refl)
 other-fid false true n = (refl, refl)
 
-record Begun (x y : Turn) : Type 0 where
-  track : x .track ≡ y .track
-  fate : x .answer .fate ≡ y .answer .fate
-  bytes : x .bytes ≡ y .bytes
+pub record Begun (x y : Turn) : Type 0 where
+  pub track : x .track ≡ y .track
+  pub fate : x .answer .fate ≡ y .answer .fate
+  pub bytes : x .bytes ≡ y .bytes
+  pub at : x .at ≡ y .at
+  pub len : x .len ≡ y .len
 
 module _ (o : Opening) (h : Header) (n : ℕ) where
-  turn-begun : (ph : Phase) → Other (h .fid) (phaseFid ph) → Begun (turnBy ph o false h n) (turnBy Fresh o false h n)
+  pub turn-begun : (ph : Phase) → Other (h .fid) (phaseFid ph) → Begun (turnBy ph o false h n) (turnBy Fresh o false h n)
   unfolding pick
-  turn-begun Fresh p = record { track = refl; fate = refl; bytes = refl }
-  turn-begun (Past f) p = rw (other-fid f (h .fid) p .0) (record { track = refl; fate = refl; bytes = refl })
-  turn-begun (Under x) p = rw (other-fid (x .fid) (h .fid) p .0) (record { track = refl; fate = refl; bytes = refl })
+  turn-begun Fresh p = record { track = refl; fate = refl; bytes = refl; at = refl; len = refl }
+  turn-begun (Past f) p = rw (other-fid f (h .fid) p .0) (record { track = refl; fate = refl; bytes = refl; at = refl; len = refl })
+  turn-begun (Under x) p = rw (other-fid (x .fid) (h .fid) p .0) (record { track = refl; fate = refl; bytes = refl; at = refl; len = refl })
 
 base-none : (f : Bool) (D : List ℕ) (ph : Phase) → Other f (phaseFid ph) → base ph f D ≡ []
 base-none f D Fresh p = refl
 base-none f D (Past g) p = refl
 base-none f D (Under x) p = rw (other-fid (x .fid) f p .1) refl
 
-record Starts (o : Opening) (s : Session) (D t : List ℕ) : Type 0 where
-  ended : List Item
+-- no frame is under way: none is ended
+abbrev pub NotUnder : Phase → Type 0
+NotUnder Fresh = Unit {0}
+NotUnder (Past f) = Unit {0}
+NotUnder (Under x) = ⊥
+
+none-ended : (o : Opening) (h : Header) (n : ℕ) (ph : Phase) → NotUnder ph → turnBy ph o false h n .answer .ended ≡ Nothing
+unfolding pick
+none-ended o h n Fresh p = refl
+none-ended o h n (Past f) p = go (sameOf f (h .fid))
+  where
+    go : (c : Bool) → pick c (strayTurn f n) (joinTurn o (begunOf false (h .fid) (h .still)) h n Nothing 0) .answer .ended ≡ Nothing
+    go true = refl
+    go false = refl
+none-ended o h n (Under x) p = absurd p
+
+pub record Starts (o : Opening) (s : Session) (D t : List ℕ) : Type 0 where
+  pub ended : List Item
+  pub ended-is : (e : Ended) × (k : ℕ) × (ended ≡ endedItems e k D)
+  pub ended-none : NotUnder (s .rest .track .phase) → ended ≡ []
   entered : callItems s D (Call.transfer t) ≡ ended ++ callItems (fresh o) [] (Call.transfer t)
   held : dataNext s D (Call.transfer t) ≡ dataNext (fresh o) [] (Call.transfer t)
   alike : Alike (nextCall s (Call.transfer t)) (nextCall (fresh o) (Call.transfer t))
@@ -157,11 +179,14 @@ starts o s D t h e g p q =
     let turned : turnBy (s .rest .track .phase) (s .rest .opening) (s .rest .track .gap) h n .track ≡ turnBy Fresh o false h n .track = rw (e, g) (b .track) in
     record {
       ended = endedItems (T .answer .ended) (T .gone) D;
+      ended-is = (T .answer .ended, T .gone, refl);
+      ended-none = λ w. ap (λ (e : Ended). endedItems e (T .gone) D) (none-ended o h n (s .rest .track .phase) w);
       entered = rw (e, q, g, base-none (h .fid) D (s .rest .track .phase) p, b .fate, b .bytes) refl;
       held = rw (e, q, base-none (h .fid) D (s .rest .track .phase) p) refl;
       alike =
           record {
-            opening = next-opening s (Call.transfer t) ∙ e ∙ sym (next-opening (fresh o) (Call.transfer t));
+            opening = alike-moved o o (nextCall s (Call.transfer t) .rest .opening) (nextCall (fresh o) (Call.transfer t) .rest .opening)
+                (next-opening s (Call.transfer t) ∙ e) (next-opening (fresh o) (Call.transfer t)) (alike-itself o);
             track =
                 ap (λ (x : Reading). tookBy x s t .session .rest .track) (ap (λ (w : Opening). readingOf w t) e ∙ q)
                 ∙ turned
@@ -206,11 +231,11 @@ module _ (o : Opening) (before : List Call) (t : List ℕ) (h : Header) (reads :
   abbrev D : List ℕ
   D = dataRun (fresh o) [] before
 
-  begun : Starts o s D t
+  pub begun : Starts o s D t
   begun =
       starts o s D t h (run-opening before (fresh o)) (run-gap before (fresh o) open₀ ∙ unspoilt) (rw (run-fid before (fresh o) open₀) other) reads
 
-  pub earlier : List Item
+  unfoldable pub earlier : List Item
   earlier = items (fresh o) [] before ++ begun .ended
 
   module _ (rest : List Call) where

@@ -21,8 +21,12 @@ pub mod HandedOut
 pub mod Held
 pub mod Whole
 pub mod Print
+pub mod Openings
 pub mod Alike
 pub mod Begins
+pub mod Ways
+pub mod Goes
+pub mod Alongside
 pub mod Histories
 pub mod Offers
 pub mod Every

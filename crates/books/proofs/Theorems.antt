@@ -37,6 +37,7 @@ use Rattle.books.specs.HandedOut.{HandsOut, HandedWhole, MarkedBefore, E
 use Rattle.books.specs.HeaderKinds.{NoLayers, AllTimed, ReportsNone, ClosesNoStill, AnswersNoStill}
 use Rattle.books.specs.Answer.{answerOf, outcomeOf, endingOf, writtenOf}
 use Rattle.books.specs.Offers.{takenIn, refusedBy, listedAs, listOf, refusedOr, takeSays, lostSays, closeSays, takeLeaves}
+use Rattle.books.specs.Alike.{At, NoneRefused, heard, Same}
 use Rattle.books.proofs.Taken.{next-refused, after-run, Proper, taken-proper, close-last}
 use Rattle.books.proofs.Sound.{after-opening}
 use Rattle.books.proofs.Histories.{accounts-taken, numbers-taken, last-taken, bytes-taken, sound-taken}
@@ -51,6 +52,7 @@ use Rattle.books.proofs.Whole.{delivered-whole}
 use Rattle.books.proofs.Whole as buffers
 use Rattle.books.proofs.Stills.{without-stills}
 use Rattle.books.proofs.HeaderKinds.{no-layers, reports-none, all-timed, all-film, answers-no-still, closes-no-still}
+use Rattle.books.proofs.Alongside.{heard-alike}
 use Rattle.books.proofs.Samples.{opening, transfers, printed, by-rule, by-session}
 use Rattle.ledger.specs.Accounts.{ticksAt}
 use Rattle.sizes.specs.Sizes.{sizesBroken}
@@ -266,6 +268,11 @@ vp8-answers o xs buffer t e = answers-no-still o e xs buffer t
 
 pub vp8-close : (o : Opening) (xs : List Offer) → o .kind ≡ Vp8 → ClosesNoStill (closeOf (after (fresh o) xs) .closing)
 vp8-close o xs e = closes-no-still o e xs
+
+-- Two sessions that are opened alike (of the framing byte D1 is enough), with equal tracks and buffers that agree on the bytes of the frame under way, say the same of any calls that both
+-- are given, bytes included: nothing else that a session holds is looked at.
+pub same-from-here : (x y : At) (ks : List Ask) → Same x y → NoneRefused x ks → NoneRefused y ks → heard x ks ≡ heard y ks
+same-from-here = heard-alike
 
 -- 7. The ledger sample of document 01, about the rule and about the session, as computed equalities.
 pub sample-by-rule : numbersOf (entries opening (map Call.transfer transfers)) ≡ printed

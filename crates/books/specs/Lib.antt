@@ -6,3 +6,4 @@ pub mod HandedOut
 pub mod HeaderKinds
 pub mod Offers
 pub mod LastReadable
+pub mod Alike
