@@ -61,7 +61,7 @@ taken-more (y ∷ xs) x s = go (refusal s y) (taken-more xs x (next s y))
     go zero e = ap (callOf s y ∷_) e
     go (suc k) e = e
 
-afoot-way : (ph : Phase) (D : List ℕ) → UnderWay (afoot ph D)
+pub afoot-way : (ph : Phase) (D : List ℕ) → UnderWay (afoot ph D)
 afoot-way Fresh D = Demands.none
 afoot-way (Past f) D = Demands.none
 afoot-way (Under x) D = Demands.one (x .bytes) D

@@ -211,7 +211,7 @@ proper-from (Call.handed ∷ before) rest s e p = proper-from before rest (nextC
 proper-from (Call.close ∷ before) rest s e p = absurd (true≢false (sym e))
 
 -- a fresh session hands nothing out
-fresh-hands : (o : Opening) (t : List ℕ) → handsOut (fresh o) t ≡ false
+pub fresh-hands : (o : Opening) (t : List ℕ) → handsOut (fresh o) t ≡ false
 unfolding handsOut handsOf
 fresh-hands o t = go (readingOf o t)
   where
