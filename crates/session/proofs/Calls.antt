@@ -116,6 +116,15 @@ module _ (o : Opening) (room n : ℕ) (x : Session) (e : n ≡ firstFrom 45 (ope
 pub part-length : (t : List ℕ) (from k : ℕ) → from + k ≤ length t → length (take (from + k - from) (drop from t)) ≡ k
 part-length t from k h = rw (add-sub-cancel-left from k) (length-take-le k (drop from t) (rw length-drop (omega arith)))
 
+-- it has room in the part of the buffer from `at` on
+pub part-fits : (buffer t : List ℕ) (at from k : ℕ) → at + k ≤ length buffer → from + k ≤ length t
+    → (at + length (take (from + k - from) (drop from t)) ≤ length buffer)
+    × (length (take (from + k - from) (drop from t)) ≤ length (take (length buffer - at) (drop at buffer)))
+part-fits buffer t at from k h g =
+    let n = part-length t from k g in
+    let m = length-take-le (length buffer - at) (drop at buffer) (rw length-drop (omega arith)) in
+    (omega (arith, n), omega (arith, n, m))
+
 pub put-buffer :
     (x y : Turn) (from : ℕ) (buffer t : List ℕ) → x ≡ y → from + x .len ≤ length t →
     paste buffer (x .at) (take (from + x .len - from) (drop from t)) (length (take (from + x .len - from) (drop from t))) ≡ paste buffer (y .at)

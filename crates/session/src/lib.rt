@@ -262,7 +262,7 @@ impl Rest {
         let turn = track.turn(o, h, n);
         let at = turn.at;
         let k = turn.len;
-        copier::put(buffer, at, &t[from..from + k]);
+        copier::lay(&mut buffer[at..], at, &t[from..from + k]);
         let answer = turn.answer;
         let was = self.last;
         Ledger::entered(m, Account::Headers, from as u64);
