@@ -4,7 +4,8 @@ use mathlib.Core.Path.{_≡_, refl}
 use mathlib.Core.Bool.{true, false}
 use mathlib.Core.List.{List, _∷_}
 use lib.ListN.{replicate}
-use Rattle.records.specs.Record.{anySet, recordBad}
+use Rattle.fill.specs.Fill.{anySet}
+use Rattle.records.specs.Record.{recordBad}
 
 -- a record of this kind and length, with one byte and so many zeros after it
 abbrev pub row : ℕ → ℕ → ℕ → ℕ → List ℕ

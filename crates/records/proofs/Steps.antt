@@ -1,27 +1,13 @@
 -- What each branch of the code says of the definitions.
 use Prim.Native.Nat.{ℕ, _+_, _≤_, _<_}
-use mathlib.Core.Path.{_≡_, sym, _∙_}
+use mathlib.Core.Path.{_≡_}
 use mathlib.Core.Bool.{Bool, true, false, _||_, _&&_, not}
 use mathlib.Core.List.{List}
-use native.Mathlib.Numerals.{add-one}
-use lib.ListN.{length, getD, drop, drop-of-length-le}
-use lib.Seq.{drop-cons}
+use lib.ListN.{length, drop}
 use lib.Dec.{eqb}
 use borrow.Author.Tests.{eq-eqb, ne-eqb, lt-ltb, le-ltb}
-use Rattle.records.specs.Record.{kindAt, lengthAt, anySet, recordBad}
-
-module _ (r : List ℕ) (at i : ℕ) (e : anySet (drop i r) ≡ anySet (drop at r)) where
-  pub set-found : i < length r → (getD r i 0 ≡ 0 → ⊥) → true ≡ anySet (drop at r)
-  unfolding anySet
-  set-found l h = (rw (drop-cons r i 0 l, ne-eqb (getD r i 0) 0 h)) ∙ e
-
-  pub set-on : i < length r → getD r i 0 ≡ 0 → anySet (drop (i + 1) r) ≡ anySet (drop at r)
-  unfolding anySet
-  set-on l h = sym (rw (drop-cons r i 0 l, h, add-one i)) ∙ e
-
-  pub set-end : length r ≤ i → false ≡ anySet (drop at r)
-  unfolding anySet
-  set-end l = (rw (drop-of-length-le r {i = i} l)) ∙ e
+use Rattle.fill.specs.Fill.{anySet}
+use Rattle.records.specs.Record.{kindAt, lengthAt, recordBad}
 
 module _ (r : List ℕ) where
   pub bad-size : (length r ≡ 64 → ⊥) → true ≡ recordBad r

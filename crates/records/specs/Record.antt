@@ -1,9 +1,10 @@
 -- Document 01, "The ledger program": one record of a trace. `r` is the record's bytes.
 use Prim.Native.Nat.{ℕ, zero, suc, _+_}
 use mathlib.Core.List.{List, [], _∷_}
-use mathlib.Core.Bool.{Bool, false, _||_, not, _&&_}
+use mathlib.Core.Bool.{Bool, _||_, not, _&&_}
 use lib.ListN.{length, getD, take, drop}
 use lib.Dec.{ltb, eqb}
+use Rattle.fill.specs.Fill.{anySet}
 
 -- kind (0 transfer, 1 lost, 2 close), length 0 to 62, the bytes, zero fill
 abbrev pub kindAt : List ℕ → ℕ
@@ -14,11 +15,6 @@ lengthAt r = getD r 1 0
 
 abbrev pub bytesAt : List ℕ → List ℕ
 bytesAt r = take (lengthAt r) (drop 2 r)
-
--- some byte is not zero
-unfoldable pub anySet : List ℕ → Bool
-anySet [] = false
-anySet (b ∷ bs) = not (eqb b 0) || anySet bs
 
 -- a partial record, kind over 2, length over 62, a length with kind 1 or 2, nonzero fill
 unfoldable pub recordBad : List ℕ → Bool

@@ -1,27 +1,10 @@
 // One record of 64 bytes: kind, length, the bytes, zero fill.
 ghost use mathlib.Core.Path.{_≡_};
-ghost use Prim.Native.Nat.{_≤_};
-ghost use lib.ListN.{length, drop};
-ghost use Rattle.records.specs.Record.{anySet, recordBad};
+ghost use Rattle.records.specs.Record.{recordBad};
 
 pub const SIZE: usize = 64;
 
 pub const MOST: usize = 62;
-
-// Whether some byte from `at` on is not zero.
-fn any_set(r: &[u8], at: usize) -> bool
-    requires { ⌜ at ≤ length (now r) ⌝ }
-    ensures { λ x. ⌜ x ≡ anySet (drop at (now (r .entry))) ⌝ }
-{
-    let mut i = at;
-    while i < r.len() {
-        if r[i] != 0 {
-            return true;
-        }
-        i += 1;
-    }
-    false
-}
 
 // A partial record, kind over 2, length over 62, a length with kind 1 or 2, nonzero fill.
 pub fn bad(r: &[u8]) -> bool
@@ -39,10 +22,10 @@ pub fn bad(r: &[u8]) -> bool
         return true;
     }
     if kind == 0 {
-        return any_set(r, 2 + n);
+        return fill::any_set(r, 2 + n);
     }
     if n != 0 {
         return true;
     }
-    any_set(r, 2 + n)
+    fill::any_set(r, 2 + n)
 }

@@ -2,7 +2,8 @@
 use Prim.Native.Nat.{ℕ}
 use mathlib.Core.Path.{_≡_, refl}
 use mathlib.Core.List.{List, [], _∷_}
-use Rattle.records.specs.Record.{anySet, recordBad}
+use Rattle.fill.specs.Fill.{anySet}
+use Rattle.records.specs.Record.{recordBad}
 use Rattle.records.proofs.Samples.{row}
 use Rattle.trace.specs.Standing.{stateOf}
 use Rattle.trace.specs.declared.State.the-variants.{Good, Bad}

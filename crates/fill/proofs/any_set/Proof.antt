@@ -1,12 +1,12 @@
-use Rattle.records.proofs.Steps.{set-found, set-on, set-end}
+use Rattle.fill.proofs.Steps.{set-found, set-on, set-end}
 use Prim.Native.Nat.{_≤_, _-_}
 use mathlib.Core.Path.{_≡_, refl}
 use lib.ListN.{length, drop}
 use native.Mathlib.Omega.{arith}
-use Rattle.records.specs.Record.{anySet}
+use Rattle.fill.specs.Fill.{anySet}
 use borrow.Author.Needs.{needs}
-use Rattle.records.proofs.any_set.Statement.{statement}
-use Rattle.records.proofs.any_set.Tie as tie
+use Rattle.fill.proofs.any_set.Statement.{statement}
+use Rattle.fill.proofs.any_set.Tie as tie
 
 abbrev Inv-loop : tie.InvT-loop
 Inv-loop r at i₀ i = (i ≤ length r) × (anySet (drop i r) ≡ anySet (drop at r))

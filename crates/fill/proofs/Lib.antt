@@ -1,0 +1,4 @@
+-- Laws of zero fill.
+pub mod Steps
+pub mod Zeros
+pub mod Unique
