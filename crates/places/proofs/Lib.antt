@@ -1,0 +1,4 @@
+-- Laws of the places.
+pub mod Steps
+pub mod Laying
+pub mod Trips
