@@ -1,14 +1,16 @@
 -- What each way through `broken`, `number_at` and `numbers_of` says of the definitions.
 use Prim.Native.Nat.{ℕ, zero, suc, _+_, _*_, _≤_, _<_}
 use mathlib.Core.Path.{_≡_, refl, sym, ap, _∙_}
-use mathlib.Core.Bool.{Bool, true}
+use mathlib.Core.Bool.{Bool, true, false, not}
 use mathlib.Core.List.{List, [], _∷_, _++_}
 use native.Mathlib.Numerals.{add-one}
 use native.Mathlib.Omega.{arith}
 use lib.ListN.{length, getD, set, drop, List·getD-eq-default}
-use borrow.Author.Tests.{eq-eqb, ne-eqb}
+use lib.Dec.{eqb}
+use borrow.Author.Tests.{eq-eqb, ne-eqb, eqb-true, not-false}
 use Rattle.rules.specs.Pad.{pad}
 use Rattle.rules.proofs.Padded.{pad-set}
+use Rattle.rules.proofs.Rows.{or-first}
 use Rattle.fill.specs.Fill.{anySet}
 use Rattle.places.specs.Places.{recordSize, wordAt, wordsFrom, numbersIn, broken54}
 
@@ -21,6 +23,10 @@ module _ (r : List ℕ) where
   pub broken-rest : (x : Bool) → length r ≡ 320 → x ≡ anySet (drop 248 r) → x ≡ broken54 r
   unfolding broken54
   broken-rest x h e = rw (eq-eqb (length r) 320 h) e
+
+  pub right-size : (x : Bool) → x ≡ broken54 r → x ≡ false → length r ≡ 320
+  unfolding broken54
+  right-size x e f = eqb-true (length r) 320 (not-false (eqb (length r) 320) (or-first (not (eqb (length r) 320)) (anySet (drop 248 r)) (sym e ∙ f)))
 
 -- ---- a place of the rest
 pub past : (l : List ℕ) (k : ℕ) → length l ≡ 31 → 31 ≤ k → 0 ≡ getD l k 0

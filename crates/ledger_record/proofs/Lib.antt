@@ -1,0 +1,2 @@
+-- Laws of the calls on a record.
+pub mod Steps
