@@ -5,14 +5,15 @@ use mathlib.Core.Bool.{Bool, true, false, not}
 use mathlib.Core.List.{List, [], _∷_, _++_}
 use native.Mathlib.Numerals.{add-one}
 use native.Mathlib.Omega.{arith}
-use lib.ListN.{length, getD, set, drop, List·getD-eq-default}
+use lib.ListN.{length, getD, set, drop, replicate, List·getD-eq-default}
 use lib.Dec.{eqb}
 use borrow.Author.Tests.{eq-eqb, ne-eqb, eqb-true, not-false}
 use Rattle.rules.specs.Pad.{pad}
+use Rattle.rules.specs.declared.Verdict.the-variants.{Accepted, Refused}
 use Rattle.rules.proofs.Padded.{pad-set}
 use Rattle.rules.proofs.Rows.{or-first}
 use Rattle.fill.specs.Fill.{anySet}
-use Rattle.places.specs.Places.{recordSize, wordAt, wordsFrom, numbersIn, broken54}
+use Rattle.places.specs.Places.{wordAt, wordsFrom, recordOf, numbersIn, broken54, heldBy, heldOf, writeVerdict, written}
 
 -- ---- 54
 module _ (r : List ℕ) where
@@ -27,6 +28,23 @@ module _ (r : List ℕ) where
   pub right-size : (x : Bool) → x ≡ broken54 r → x ≡ false → length r ≡ 320
   unfolding broken54
   right-size x e f = eqb-true (length r) 320 (not-false (eqb (length r) 320) (or-first (not (eqb (length r) 320)) (anySet (drop 248 r)) (sym e ∙ f)))
+
+  -- ---- reading and writing
+  pub held-none : (x : Bool) → x ≡ broken54 r → x ≡ true → record { verdict = Refused 54 0; numbers = replicate 31 0 } ≡ heldOf r
+  unfolding heldOf
+  held-none x e f = ap (λ (z : Bool). heldBy z r) (sym f ∙ e)
+
+  pub held-all : (x : Bool) (ns : List ℕ) → x ≡ broken54 r → x ≡ false → ns ≡ numbersIn r → record { verdict = Accepted; numbers = ns } ≡ heldOf r
+  unfolding heldOf
+  held-all x ns e f g = ap (λ (l : List ℕ). record { verdict = Accepted; numbers = l }) g ∙ ap (λ (z : Bool). heldBy z r) (sym f ∙ e)
+
+  pub written-none : (ns : List ℕ) → (length r ≡ 320 → ⊥) → (Refused 54 0 ≡ writeVerdict r) × (r ≡ written r ns)
+  unfolding writeVerdict written
+  written-none ns h = (rw (ne-eqb (length r) 320 h), rw (ne-eqb (length r) 320 h))
+
+  pub written-all : (ns new : List ℕ) → length r ≡ 320 → new ≡ recordOf ns → (Accepted ≡ writeVerdict r) × (new ≡ written r ns)
+  unfolding writeVerdict written
+  written-all ns new h e = (rw (eq-eqb (length r) 320 h), rw (eq-eqb (length r) 320 h) e)
 
 -- ---- a place of the rest
 pub past : (l : List ℕ) (k : ℕ) → length l ≡ 31 → 31 ≤ k → 0 ≡ getD l k 0

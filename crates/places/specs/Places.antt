@@ -1,13 +1,16 @@
 -- Document 02, Eight: the ledger as one record of 320 bytes, eight bytes a number, little-endian, in the order that the ledger program prints, rest zero.
 use Prim.Native.Nat.{ℕ, zero, suc, _+_, _-_, _*_, _/_, _%_, _^_, _<_}
 use mathlib.Core.Path.{_≡_}
-use mathlib.Core.Bool.{Bool, not, _||_}
+use mathlib.Core.Bool.{Bool, true, false, not, _||_}
 use mathlib.Core.List.{List, [], _∷_, _++_}
 use lib.ListN.{length, drop, replicate}
 use lib.Dec.{eqb}
 use Rattle.le.specs.Le.{le32At}
 use Rattle.fill.specs.Fill.{anySet}
 use Rattle.ledger.specs.Accounts.{numberCount}
+use Rattle.rules.specs.declared.Verdict.{Verdict}
+use Rattle.rules.specs.declared.Verdict.the-variants.{Accepted, Refused}
+use Rattle.places.specs.declared.Held.{Held}
 
 abbrev pub recordSize : ℕ
 recordSize = 320
@@ -41,6 +44,29 @@ numbersIn r = wordsFrom r 0 numberCount
 -- 54: RECORD NOT 320 BYTES OR REST NOT ZERO
 unfoldable pub broken54 : List ℕ → Bool
 broken54 r = not (eqb (length r) recordSize) || anySet (drop (8 * numberCount) r)
+
+-- READ: what a record holds, or 54 and nothing
+abbrev pub heldBy : Bool → List ℕ → Held
+heldBy true r = record { verdict = Refused 54 0; numbers = replicate numberCount 0 }
+heldBy false r = record { verdict = Accepted; numbers = numbersIn r }
+
+unfoldable pub heldOf : List ℕ → Held
+heldOf r = heldBy (broken54 r) r
+
+-- WRITE: all 320 bytes, or 54 where there are not so many, and nothing changes
+abbrev pub writeBy : Bool → Verdict
+writeBy true = Accepted
+writeBy false = Refused 54 0
+
+abbrev pub writtenBy : Bool → List ℕ → List ℕ → List ℕ
+writtenBy true r ns = recordOf ns
+writtenBy false r ns = r
+
+unfoldable pub writeVerdict : List ℕ → Verdict
+writeVerdict r = writeBy (eqb (length r) recordSize)
+
+unfoldable pub written : List ℕ → List ℕ → List ℕ
+written r ns = writtenBy (eqb (length r) recordSize) r ns
 
 -- what the types say: every byte of a record is below 256, and every number of a ledger below 2^64
 abbrev pub Below : ℕ → List ℕ → Type 0

@@ -2,11 +2,18 @@
 ghost use mathlib.Core.Path.{_≡_};
 ghost use Prim.Native.Nat.{_+_, _≤_};
 ghost use lib.ListN.{length, getD};
-ghost use Rattle.places.specs.Places.{recordSize, littleOf, wordAt, recordOf, numbersIn, broken54};
+ghost use Rattle.places.specs.Places.{recordSize, littleOf, wordAt, recordOf, numbersIn, broken54, heldOf, writeVerdict, written};
 use ledger::Ledger;
 use ledger::Numbers;
+use rules::Verdict;
 
 pub const SIZE: usize = 320;
+
+// What a record holds: the numbers of its ledger. Refused, they are all zero.
+pub struct Held {
+    pub verdict: Verdict,
+    pub numbers: Numbers,
+}
 
 const PLACES: usize = 40;
 
@@ -91,4 +98,39 @@ pub fn lay(r: &mut [u8], numbers: Numbers)
         copier::put(r, 8 * k, &b);
         k += 1;
     }
+}
+
+// Reads a ledger's record, or refuses it by 54.
+pub fn read(r: &[u8]) -> Held
+    ensures { λ x. ⌜ x ≡ heldOf (now (r .entry)) ⌝ }
+{
+    if broken(r) {
+        return Held {
+            verdict: Verdict::Refused {
+                number: 54,
+                offset: 0,
+            },
+            numbers: [0u64; Ledger::NUMBERS],
+        };
+    }
+    let numbers = numbers_of(r);
+    Held {
+        verdict: Verdict::Accepted,
+        numbers,
+    }
+}
+
+// Writes a ledger's numbers as a record; a room that has not 320 bytes is refused by 54, and no byte changes.
+pub fn write(r: &mut [u8], numbers: Numbers) -> Verdict
+    ensures { λ x. ⌜ x ≡ writeVerdict (now (r .entry)) ⌝ }
+    ensures { λ _. ⌜ now (r .exit) ≡ written (now (r .entry)) numbers ⌝ }
+{
+    if r.len() != SIZE {
+        return Verdict::Refused {
+            number: 54,
+            offset: 0,
+        };
+    }
+    lay(r, numbers);
+    Verdict::Accepted
 }
