@@ -1,0 +1,3 @@
+-- Laws of the thin calls.
+pub mod Steps
+pub mod Walk
