@@ -1,2 +1,4 @@
 -- Laws of the calls on a record.
 pub mod Steps
+pub mod Dead
+pub mod Square
