@@ -1,0 +1,1 @@
+// What the books say of the ledger in fixed places; no code.
