@@ -2,3 +2,5 @@
 pub mod Steps
 pub mod Dead
 pub mod Square
+pub mod Refused
+pub mod Unique

@@ -1,9 +1,9 @@
 -- Document 02, Eight: "each operation on the record gives the record of the old result". The rest of the session goes by value beside the record: transfers taken, the last stamp, the
 -- frame under way and the gap flag are not printed and not in it.
 use Prim.Native.Nat.{ℕ}
-use mathlib.Core.List.{List}
+use mathlib.Core.List.{List, _∷_}
 use mathlib.Core.Bool.{Bool, true, false}
-use lib.ListN.{length}
+use Rattle.rules.specs.Numbered.{Row, row}
 use Rattle.session.specs.declared.Rest.{Rest}
 use Rattle.session.specs.declared.Session.{Session}
 use Rattle.session.specs.declared.Outcome.{Outcome}
@@ -15,7 +15,7 @@ use Rattle.session.specs.declared.Closed.{Closed}
 use Rattle.session.specs.declared.RestTaken.{RestTaken}
 use Rattle.session.specs.declared.RestReported.{RestReported}
 use Rattle.session.specs.declared.RestClosed.{RestClosed}
-use Rattle.session.specs.Refusals.{ledgerOf}
+use Rattle.session.specs.Refusals.{ledgerOf, takeRows, lostRows, closeRows}
 use Rattle.session.specs.Session.{takeOf, bufferOf, lostOf, closeOf}
 use Rattle.session.specs.Inner.{wholeOf}
 use Rattle.places.specs.Places.{recordOf, numbersIn, broken54}
@@ -31,6 +31,16 @@ recordIn s = recordOf (ledgerOf s .numbers)
 abbrev pub left : Bool → List ℕ → Session → List ℕ
 left true r s = r
 left false r s = recordIn s
+
+-- WHAT REFUSES A CALL: 54 before 50, 53, 52, 51 and 55
+abbrev pub takeRows54 : List ℕ → Rest → ℕ → ℕ → List Row
+takeRows54 r rest room n = row 54 (broken54 r) ∷ takeRows (sessionOf r rest) room n
+
+abbrev pub lostRows54 : List ℕ → Rest → List Row
+lostRows54 r rest = row 54 (broken54 r) ∷ lostRows (sessionOf r rest)
+
+abbrev pub closeRows54 : List ℕ → Rest → List Row
+closeRows54 r rest = row 54 (broken54 r) ∷ closeRows (sessionOf r rest)
 
 -- TAKE: 54 first; then what the call on the ledger that the record holds answers
 abbrev pub isRefused : Outcome → Bool

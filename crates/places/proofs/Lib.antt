@@ -2,3 +2,4 @@
 pub mod Steps
 pub mod Laying
 pub mod Trips
+pub mod Unique
