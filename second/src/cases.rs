@@ -17,6 +17,7 @@
 //!   B room       as E, with four bytes length of a room of zeros in place of the buffer, and the room's hash after the last four calls alone
 //!   F forged     session record, part buffer, part transfer
 //!   G from       session record, part buffer, four bytes number of calls, and the calls as in T; told as in E
+//!   R record     part ledger's record, session record without its numbers, part buffer, and a call as in T
 //!   U settings   byte 0 build: part control block, bytes interface, unit, setting and request (places of their names), part room
 //!                byte 1 read: part control block, byte interface, part bytes
 //!                byte 2 nearest: byte setting, two bytes each minimum, maximum, step and wanted
@@ -52,6 +53,8 @@ pub enum Case {
     Room { opening: Opening, room: usize, calls: Vec<Call> },
     Forged(Record, Vec<u8>, Vec<u8>),
     From(Record, Vec<u8>, Vec<Call>),
+    /// A ledger's record, the rest of a session (its numbers are not looked at), a buffer and a call.
+    Lent(Vec<u8>, Record, Vec<u8>, Call),
     Build { control: Vec<u8>, interface: u8, unit: u8, setting: usize, request: usize, room: Vec<u8> },
     ReadBack(Vec<u8>, u8, Vec<u8>),
     Nearest(usize, [u16; 4]),
@@ -67,7 +70,7 @@ fn stamp(out: &mut Vec<u8>, s: Option<u32>) {
     out.extend(s.unwrap_or(0).to_le_bytes());
 }
 
-fn record(out: &mut Vec<u8>, r: &Record) {
+fn front(out: &mut Vec<u8>, r: &Record) {
     out.extend(r.frame.to_le_bytes());
     out.extend(r.payload.to_le_bytes());
     out.extend([r.framing, r.kind as u8, u8::from(r.closed)]);
@@ -85,6 +88,10 @@ fn record(out: &mut Vec<u8>, r: &Record) {
         Phase::Past(fid) => out.extend([2, u8::from(fid)]),
     }
     out.push(u8::from(r.gap));
+}
+
+fn record(out: &mut Vec<u8>, r: &Record) {
+    front(out, r);
     for n in r.numbers {
         out.extend(n.to_le_bytes());
     }
@@ -97,18 +104,22 @@ fn opening(out: &mut Vec<u8>, o: &Opening) {
     out.extend([o.framing, o.kind as u8]);
 }
 
+fn one(out: &mut Vec<u8>, call: &Call) {
+    match call {
+        Call::Transfer(t) => {
+            out.push(0);
+            part(out, t);
+        }
+        Call::Lost => out.push(1),
+        Call::Close => out.push(2),
+        Call::Mark => unreachable!("no caller asks for a mark"),
+    }
+}
+
 fn list(out: &mut Vec<u8>, calls: &[Call]) {
     out.extend((calls.len() as u32).to_le_bytes());
     for call in calls {
-        match call {
-            Call::Transfer(t) => {
-                out.push(0);
-                part(out, t);
-            }
-            Call::Lost => out.push(1),
-            Call::Close => out.push(2),
-            Call::Mark => unreachable!("no caller asks for a mark"),
-        }
+        one(out, call);
     }
 }
 
@@ -129,6 +140,7 @@ impl Case {
             Case::Room { .. } => 'B',
             Case::Forged(..) => 'F',
             Case::From(..) => 'G',
+            Case::Lent(..) => 'R',
             Case::Build { .. } | Case::ReadBack(..) | Case::Nearest(..) => 'U',
         }
     }
@@ -138,6 +150,7 @@ impl Case {
         match self {
             Case::Calls { calls, .. } | Case::Whole { calls, .. } | Case::Room { calls, .. } | Case::From(_, _, calls) => calls.len(),
             Case::Forged(..) => 3,
+            Case::Lent(..) => 1,
             _ => 0,
         }
     }
@@ -194,6 +207,13 @@ impl Case {
                 part(&mut out, buffer);
                 list(&mut out, calls);
             }
+            Case::Lent(bytes, r, buffer, call) => {
+                part(&mut out, bytes);
+                front(&mut out, r);
+                stamp(&mut out, r.last);
+                part(&mut out, buffer);
+                one(&mut out, call);
+            }
             Case::Forged(r, buffer, transfer) => {
                 record(&mut out, r);
                 part(&mut out, buffer);
@@ -245,6 +265,7 @@ impl Case {
             Case::Room { opening, room, calls } => session::calls(opening, &vec![0; *room], calls, Told::Room),
             Case::Forged(r, buffer, transfer) => records::forged(r, buffer, transfer),
             Case::From(r, buffer, calls) => records::follow(r, buffer, calls, Told::Whole),
+            Case::Lent(bytes, r, buffer, call) => records::lent(bytes, r, buffer, call),
             Case::Build { control, interface, unit, setting, request, room } => {
                 let mut room = room.clone();
                 let built = setup::build(control, *interface, *unit, SETTINGS[*setting], REQUESTS[*request], &mut room);

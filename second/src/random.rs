@@ -5,7 +5,7 @@ use crate::cases::{table, Case};
 use crate::configurations;
 use crate::control::Revision;
 use crate::frames::{Call, HeaderKind, Opening};
-use crate::records::{Phase, Record, FAULTS};
+use crate::records::{laid, Phase, Record, FAULTS};
 use crate::setup::{self, REQUESTS, SETTINGS};
 use crate::streaming::Place;
 
@@ -713,6 +713,25 @@ fn forged(r: &mut Random) -> Case {
     Case::Forged(it, buffer, transfer)
 }
 
+/// A ledger's record, mostly one that 54 does not refuse, with the rest of a session and a call.
+fn lent(r: &mut Random) -> Case {
+    let Case::Forged(it, buffer, transfer) = forged(r) else { unreachable!() };
+    let mut bytes = laid(&it.numbers);
+    match r.below(12) {
+        0 => bytes.truncate(r.below(320)),
+        1 => bytes.extend(vec![0; 1 + r.below(40)]),
+        2 => bytes[248 + r.below(72)] = 1 + r.below(255) as u8,
+        3 => bytes[144..160].copy_from_slice(&r.bytes(16)),
+        _ => {}
+    }
+    let call = match r.below(4) {
+        0 => Call::Lost,
+        1 => Call::Close,
+        _ => Call::Transfer(transfer),
+    };
+    Case::Lent(bytes, it, buffer, call)
+}
+
 /// A list of calls from a record on, which mostly holds.
 fn from(r: &mut Random, most: usize) -> Case {
     let mut it = record(r);
@@ -822,6 +841,7 @@ pub fn case(r: &mut Random, most: usize) -> Case {
             Case::Check(control, block, probe)
         }
         9 => write(r),
+        10 if r.once_in(2) => lent(r),
         10 => forged(r),
         11 if r.once_in(25) => room(r),
         11 => from(r, most),

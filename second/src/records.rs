@@ -332,3 +332,44 @@ pub fn forged(r: &Record, buffer: &[u8], transfer: &[u8]) -> String {
     let (lost, close) = (say(Call::Lost), say(Call::Close));
     format!("take {take} hash {}\nlost {lost}\nclose {close}\n", hash(&buffer))
 }
+
+/// A ledger's record: forty places of eight bytes, little-endian, in the order of print; all behind the 31 used ones zero.
+const PLACES: usize = 40;
+
+pub fn laid(numbers: &[u64]) -> Vec<u8> {
+    let mut bytes = vec![0; 8 * PLACES];
+    for (i, n) in numbers.iter().enumerate() {
+        bytes[8 * i..8 * i + 8].copy_from_slice(&n.to_le_bytes());
+    }
+    bytes
+}
+
+/// The numbers that a record holds, or 54.
+fn held(bytes: &[u8]) -> Option<[u64; 31]> {
+    if bytes.len() != 8 * PLACES || bytes[8 * 31..].iter().any(|&b| b != 0) {
+        return None;
+    }
+    Some(std::array::from_fn(|i| u64::from_le_bytes(bytes[8 * i..8 * i + 8].try_into().unwrap())))
+}
+
+/// One call on a lent record, with the rest of the session beside it: what it answers, and all that it leaves.
+pub fn lent(bytes: &[u8], rest: &Record, buffer: &[u8], call: &Call) -> String {
+    let mut record = bytes.to_vec();
+    let mut r = rest.clone();
+    let mut buffer = buffer.to_vec();
+    let said = match held(bytes) {
+        None => "refused 54".to_string(),
+        Some(numbers) => {
+            r.numbers = numbers;
+            r.call(call, &mut buffer)
+        }
+    };
+    if !said.starts_with("refused") {
+        record = laid(&r.shown());
+    }
+    let ledger = match held(&record) {
+        None => "ledger refused 54".to_string(),
+        Some(numbers) => "ledger".to_string() + &numbers.iter().map(|n| format!(" {n}")).collect::<String>(),
+    };
+    format!("{said} hash {}\nbytes hash {}\n{ledger}\n{}", hash(&buffer), hash(&record), r.line())
+}

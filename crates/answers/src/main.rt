@@ -16,6 +16,8 @@
 //   B room       as E, with four bytes length of the room, up to 16,777,300, in place of the buffer: zeros, and its hash after the last four calls alone
 //   F forged     session record (forged.rt), part buffer, part transfer: which of take, lost and close are refused on this record
 //   G calls from a record   session record, part buffer, number of calls and the calls as in T: told as in E, without the opening
+//   R record     part ledger's record, the rest of a session (the session record without its numbers), part buffer, and a call as in T: what the call
+//                leaves of the record and the rest
 //   U settings   byte 0 build: part control block, bytes interface, unit, setting (0 brightness, 1 contrast, 2 hue, 3 saturation), request
 //                (0 get_cur, 1 get_min, 2 get_max, 3 get_res, 4 get_def, 5 set_cur), part room
 //                byte 1 read: part control block, byte interface, part bytes
@@ -25,6 +27,7 @@ use block_cases::descriptors;
 use block_cases::probes;
 use call_cases::calls;
 use call_cases::forged;
+use call_cases::recorded;
 use call_cases::rooms;
 use cases::input;
 use cases::print;
@@ -45,6 +48,7 @@ fn case(kind: u8) -> bool {
         b'B' => rooms::run(),
         b'F' => forged::plain(),
         b'G' => forged::whole(),
+        b'R' => recorded::run(),
         b'U' => setup_cases::run(),
         _ => {
             print::text(b"unknown kind\n");

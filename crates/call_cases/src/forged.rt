@@ -58,6 +58,22 @@ pub fn plain() -> bool {
 }
 
 fn record() -> Session {
+    let rest = front();
+    let numbers = numbers();
+    let last = stamp();
+    let all = with_last(rest, last);
+    Session { rest: all, numbers }
+}
+
+// The rest of a session as it stands in the input: the record without the ledger's numbers.
+pub fn rest() -> Rest {
+    let rest = front();
+    let last = stamp();
+    with_last(rest, last)
+}
+
+// All before the ledger's numbers.
+fn front() -> Rest {
     let frame = input::long() as usize;
     let payload = input::long() as usize;
     let framing = input::byte();
@@ -66,22 +82,29 @@ fn record() -> Session {
     let taken = input::word();
     let phase = phase();
     let gap = input::flag();
-    let numbers = numbers();
-    let last = stamp();
-    Session {
-        rest: Rest {
-            opening: Opening {
-                frame,
-                payload,
-                framing,
-                kind,
-            },
-            closed,
-            taken,
-            track: Track { phase, gap },
-            last,
+    Rest {
+        opening: Opening {
+            frame,
+            payload,
+            framing,
+            kind,
         },
-        numbers,
+        closed,
+        taken,
+        track: Track { phase, gap },
+        last: Stamp::Absent,
+    }
+}
+
+fn with_last(rest: Rest, last: Stamp) -> Rest {
+    let opening = rest.opening;
+    let track = rest.track;
+    Rest {
+        opening,
+        closed: rest.closed,
+        taken: rest.taken,
+        track,
+        last,
     }
 }
 

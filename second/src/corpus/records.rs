@@ -3,7 +3,7 @@
 use crate::blocks::*;
 use crate::cases::Case;
 use crate::frames::{Call, HeaderKind};
-use crate::records::{Phase, Record, FAULTS};
+use crate::records::{laid, Phase, Record, FAULTS};
 
 pub fn plain_record() -> Record {
     Record {
@@ -190,5 +190,44 @@ fn from() -> Vec<Case> {
         add(held.clone(), 8, calls);
     }
     add(held.clone(), 8, &[Call::Transfer(vec![2; 65_537]), Call::Lost]);
+    all.extend(lent(&held));
     all
+}
+
+/// Ledgers as records that are lent: 54 by length and by each byte of the rest, before 50; each call; what stands in the places of the frame under way.
+fn lent(held: &Record) -> Vec<Case> {
+    let mut all = Vec::new();
+    let good = Call::Transfer(transfer(END | FID | PTS | EOF, 5, 0, &[1, 2, 3]));
+    let other = Call::Transfer(transfer(END, 0, 0, &[4]));
+    let mut add = |bytes: &[u8], r: &Record, room: usize, call: &Call| all.push(Case::Lent(bytes.to_vec(), r.clone(), vec![0xAA; room], call.clone()));
+    let bytes = laid(&held.numbers);
+    for call in [&good, &other, &Call::Lost, &Call::Close] {
+        for framing in [1, 3] {
+            add(&bytes, &Record { framing, ..held.clone() }, 9, call);
+        }
+        add(&laid(&[]), &plain_record(), 9, call);
+        // Any numbers in the places of the frame under way, and numbers that use all eight bytes.
+        let mut odd = bytes.clone();
+        odd[144..160].fill(0xFF);
+        add(&odd, held, 9, call);
+        let large = laid(&std::array::from_fn::<u64, 31, _>(|i| 0x0102_0304_0506_0708 << (i % 5)));
+        add(&large, held, 9, call);
+        // 54 before 50, and then each number of the call.
+        add(&bytes[..319], held, 9, call);
+        add(&[&bytes[..], &[0]].concat(), held, 9, call);
+        add(&[], &Record { frame: 0, ..held.clone() }, 9, call);
+        add(&with_byte(&bytes, 248), &Record { frame: 0, ..held.clone() }, 9, call);
+        add(&with_byte(&bytes, 319), held, 9, call);
+        add(&bytes, &Record { frame: 0, ..held.clone() }, 9, call);
+        add(&bytes, &Record { closed: true, ..held.clone() }, 9, call);
+        add(&bytes, &Record { taken: u32::MAX, ..held.clone() }, 9, call);
+        add(&bytes, held, 7, call);
+    }
+    all
+}
+
+fn with_byte(bytes: &[u8], at: usize) -> Vec<u8> {
+    let mut b = bytes.to_vec();
+    b[at] = 1;
+    b
 }
