@@ -15,18 +15,18 @@ use Rattle.rules.specs.declared.Verdict.the-variants.{Accepted, Refused}
 use Rattle.entities.specs.declared.Table.{Table}
 use Rattle.control.specs.Answer.{ControlIs}
 use Rattle.control.specs.declared.Control.{Control}
-use Rattle.streaming.specs.Answer.{streamingOf}
-use Rattle.layout.specs.Answer.{layoutOf}
+use Rattle.streaming.specs.Inner.{streamingOf}
+use Rattle.layout.specs.Inner.{layoutVerdict}
 use Rattle.configuration.specs.declared.Configuration.{Configuration}
 use Rattle.configuration_rules.specs.Descriptors.{afterAt, isSought}
 use Rattle.configuration_rules.specs.declared.Sought.the-variants.{Listed, Outside}
-use Rattle.interfaces.specs.Line.{found, nextOf}
-use Rattle.interfaces.specs.Blocks.{blockStart, blockEnd, blockOf, blockAt, listedIn, streamsOf, placeOf}
+use Rattle.interfaces.specs.Inner.{found, nextOf, blockStart, blockEnd, blockOf, blockAt, listedIn, streamsOf, placeOf}
 use Rattle.interfaces.specs.declared.Stream.{Stream}
 use Rattle.interfaces.specs.declared.Streams.{Streams}
 use Rattle.interfaces.specs.declared.Block.{Block}
 use Rattle.interfaces.proofs.Lines.{after-on, next-is, found-here, found-end}
-use Rattle.configuration.specs.Answer.{entryCount, entryAt, entriesNamed, verdict73, blockVerdict, streamsBy, lateBy, LateIs, controlPlace, refusedBy, acceptedWith, ConfigurationIs, laid, blocks, sound}
+use Rattle.configuration.specs.Answer.{entryCount, entryAt}
+use Rattle.configuration.specs.Inner.{entriesNamed, verdict73, blockVerdict, streamsBy, lateBy, LateIs, controlPlace, refusedBy, acceptedWith, ConfigurationIs, laid, blocks, sound}
 use Rattle.configuration.proofs.Within.{control-within, streaming-within}
 
 -- ---- the block behind the interface descriptor at o
@@ -143,10 +143,10 @@ module _ (s : List ℕ) (o : ℕ) (h : o < length s) (b : Block) (p : b ≡ bloc
 
 -- ---- the whole
 module _ (s : List ℕ) where
-  pub laid-out : (v : Verdict) → v ≡ layoutOf s → (k o : ℕ) → v ≡ Refused k o → (x : Configuration) → x ≡ refusedBy k o → ConfigurationIs s x
+  pub laid-out : (v : Verdict) → v ≡ layoutVerdict s → (k o : ℕ) → v ≡ Refused k o → (x : Configuration) → x ≡ refusedBy k o → ConfigurationIs s x
   laid-out v e k o q x y = rw y (laid k o (sym e ∙ q))
 
-  module _ (w : Verdict) (e : w ≡ layoutOf s) (a : w ≡ Accepted) (at : ℕ) (p : at ≡ controlPlace s) (v : Verdict) (l : LateIs s at v) where
+  module _ (w : Verdict) (e : w ≡ layoutVerdict s) (a : w ≡ Accepted) (at : ℕ) (p : at ≡ controlPlace s) (v : Verdict) (l : LateIs s at v) where
     late-there : (u : Verdict) → v ≡ u → LateIs s (controlPlace s) u
     late-there u q = rw (← p, ← q) l
 

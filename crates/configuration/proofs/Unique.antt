@@ -6,8 +6,8 @@ use Rattle.rules.specs.declared.Verdict.{Verdict}
 use Rattle.rules.specs.declared.Verdict.the-variants.{Accepted, Refused}
 use Rattle.rules.proofs.Verdicts.{apart, clash, same-by}
 use Rattle.control.proofs.Unique as control
-use Rattle.interfaces.specs.Blocks.{blockOf}
-use Rattle.configuration.specs.Answer.{lateBy, LateIs, controlPlace, refusedBy, ConfigurationIs, laid, blocks, sound}
+use Rattle.interfaces.specs.Inner.{blockOf}
+use Rattle.configuration.specs.Inner.{lateBy, LateIs, controlPlace, refusedBy, ConfigurationIs, laid, blocks, sound}
 use Rattle.configuration.specs.declared.Configuration.{Configuration}
 
 pub late-unique : (s : List ℕ) (o : ℕ) (v w : Verdict) → LateIs s o v → LateIs s o w → v ≡ w

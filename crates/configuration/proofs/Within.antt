@@ -21,6 +21,7 @@ use Rattle.control.proofs.ExactlyWhen as control-exactly
 use Rattle.streaming_descriptors.specs.Descriptors as streaming-rules
 use Rattle.streaming_descriptors.specs.declared.Format.{Format}
 use Rattle.streaming.specs.Answer as streaming
+use Rattle.streaming.specs.Inner.{streamingOf}
 use Rattle.streaming.specs.Broken as streaming-broken
 use Rattle.streaming.proofs.ExactlyWhen as streaming-exactly
 
@@ -65,5 +66,5 @@ module _ (t : Table) (b : List ℕ) where
   broken-within (streaming-broken.by-37 a w c i l f) = omega (arith, formats-before (w .there) i l)
   broken-within (streaming-broken.by-38 a w c d e) = omega arith
 
-  pub streaming-within : (k o : ℕ) → streaming.streamingOf t b .verdict ≡ Refused k o → o ≤ length b
+  pub streaming-within : (k o : ℕ) → streamingOf t b .verdict ≡ Refused k o → o ≤ length b
   streaming-within k o e = broken-within (streaming-exactly.refused t b k o .0 e)

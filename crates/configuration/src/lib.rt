@@ -2,9 +2,10 @@
 ghost use mathlib.Core.Path.{_≡_};
 ghost use Prim.Native.Nat.{_+_, _≤_, _<_};
 ghost use lib.ListN.{length};
-ghost use Rattle.interfaces.specs.Blocks.{interfacesMost, listedIn};
-ghost use Rattle.streaming.specs.Answer.{streamingOf};
-ghost use Rattle.configuration.specs.Answer.{entriesNamed, streamsBy, blockVerdict, LateIs, refusedBy, ConfigurationIs};
+ghost use Rattle.interfaces.specs.Limits.{interfacesMost};
+ghost use Rattle.interfaces.specs.Inner.{listedIn};
+ghost use Rattle.streaming.specs.Inner.{streamingOf};
+ghost use Rattle.configuration.specs.Inner.{entriesNamed, streamsBy, blockVerdict, LateIs, refusedBy, ConfigurationIs};
 use configuration_rules::Sought;
 use entities::Table;
 use interfaces::Block;

@@ -11,7 +11,7 @@ use Rattle.text.specs.Put.{Put}
 use Rattle.text.specs.Text.{texts}
 use Rattle.text.proofs.Texts.{turn}
 use Rattle.text.specs.Text.{lineMost}
-use Rattle.settings.specs.Settings.{kthOf}
+use Rattle.settings.specs.Inner.{kthOf}
 use Rattle.settings.specs.Holding.{noSetting}
 use Rattle.settings.specs.declared.Setting.{Setting}
 use Rattle.settings.specs.declared.Choice.the-variants.{At, Nothing}

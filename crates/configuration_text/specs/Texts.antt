@@ -5,10 +5,10 @@ use lib.ListN.{take}
 use Rattle.text.specs.Text.{bytes, line, texts, lineMost}
 use Rattle.block_lines.specs.Lines.{acceptedLine}
 use Rattle.block_text.specs.Answers.{toldBy}
-use Rattle.interfaces.specs.Blocks.{settingsMost}
+use Rattle.interfaces.specs.Limits.{settingsMost}
 use Rattle.interfaces.specs.declared.Block.{Block}
 use Rattle.interfaces.specs.declared.Stream.{Stream}
-use Rattle.settings.specs.Settings.{settingsOf}
+use Rattle.settings.specs.Inner.{settingsOf}
 use Rattle.settings.specs.declared.Setting.{Setting}
 use Rattle.configuration.specs.declared.Configuration.{Configuration}
 use Rattle.picking.specs.declared.Picked.{Picked}

@@ -10,7 +10,7 @@ use Rattle.rules.proofs.Firsts.{lt-or-ge}
 use Rattle.configuration_rules.specs.Descriptors.{afterAt}
 use Rattle.configuration_rules.specs.declared.Sought.the-variants.{Outside}
 use Rattle.interfaces.specs.Line.{course}
-use Rattle.interfaces.specs.Blocks.{blockStart, blockEnd, blockOf}
+use Rattle.interfaces.specs.Inner.{blockStart, blockEnd, blockOf}
 use Rattle.interfaces.proofs.Lines.{after-on, after-whole, next-is}
 use Rattle.layout.specs.Words.{Starts, Run}
 use Rattle.layout.proofs.Walked.{run}

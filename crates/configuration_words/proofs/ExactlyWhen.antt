@@ -22,20 +22,21 @@ use Rattle.control.specs.Broken as control-broken
 use Rattle.control.specs.declared.Control.{Control}
 use Rattle.control.proofs.Walking as control-walking
 use Rattle.control.proofs.ExactlyWhen as control-exactly
-use Rattle.streaming.specs.Answer.{streamingOf}
+use Rattle.streaming.specs.Inner.{streamingOf}
 use Rattle.streaming.specs.Broken as streaming-broken
 use Rattle.streaming.proofs.ExactlyWhen as streaming-exactly
 use Rattle.configuration_rules.specs.declared.Sought.the-variants as sought
 use Rattle.configuration_rules.specs.Words.{ControlFirst}
 use Rattle.configuration_rules.proofs.Deciding as deciding
-use Rattle.interfaces.specs.Line.{found, headOr, nextOf}
-use Rattle.interfaces.specs.Blocks.{interfacesMost, blockStart, blockOf, noStream, listedIn, streamsOf}
-use Rattle.layout.specs.Answer.{layoutOf}
+use Rattle.interfaces.specs.Inner.{found, headOr, nextOf, blockStart, blockOf, listedIn, streamsOf}
+use Rattle.interfaces.specs.Limits.{interfacesMost, noStream}
+use Rattle.layout.specs.Inner.{layoutVerdict}
 use Rattle.layout.specs.Words.{Starts}
 use Rattle.layout.specs.Broken.{Laid}
 use Rattle.layout.proofs.Walked.{lists}
 use Rattle.layout.proofs.ExactlyWhen as layout
-use Rattle.configuration.specs.Answer.{moved, entryCount, entryAt, entriesNamed, verdict73, blockVerdict, streamsBy, lateBy, LateIs, controlPlace, noBlock, refusedBy, acceptedWith, ConfigurationIs, laid, blocks, sound}
+use Rattle.configuration.specs.Inner.{moved, entriesNamed, verdict73, blockVerdict, streamsBy, lateBy, LateIs, controlPlace, refusedBy, acceptedWith, ConfigurationIs, laid, blocks, sound}
+use Rattle.configuration.specs.Answer.{entryCount, entryAt, noBlock}
 use Rattle.configuration.specs.declared.Configuration.{Configuration}
 use Rattle.configuration.proofs.Unique.{read-unique}
 use Rattle.configuration_words.specs.Block.{startOf, BlockIs}
@@ -204,7 +205,7 @@ module _ (s : List ℕ) where
     late-found : (v : Verdict) → LateIs s (controlPlace s) v → LateIs s c v
     late-found v r = rw (place-is c l) at r
 
-    laid-out : layoutOf s ≡ Accepted
+    laid-out : layoutVerdict s ≡ Accepted
     laid-out = layout.laid s .1 (c, l)
 
     -- what is said of the control block in words is said of the one that is read

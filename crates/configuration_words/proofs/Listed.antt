@@ -19,16 +19,16 @@ use Rattle.configuration_rules.specs.Descriptors.{interfaceType, endpointType, 
 use Rattle.configuration_rules.specs.declared.Sought.the-variants as sought
 use Rattle.configuration_rules.specs.Words.{SettingOf, EndpointOf}
 use Rattle.configuration_rules.proofs.Deciding as deciding
-use Rattle.interfaces.specs.Line.{course, found, nextOf}
-use Rattle.interfaces.specs.Blocks.{blockStart, blockEnd, blockOf, blockAt, streamAt, listedIn}
+use Rattle.interfaces.specs.Line.{course}
+use Rattle.interfaces.specs.Inner.{found, nextOf, blockStart, blockEnd, blockOf, blockAt, streamAt, listedIn}
 use Rattle.interfaces.proofs.Lines.{after-on, next-is}
-use Rattle.settings.specs.Settings as settings
+use Rattle.settings.specs.Inner as settings
 use Rattle.settings.specs.Holding.{noSetting}
 use Rattle.layout.specs.Words.{Starts}
 use Rattle.layout.specs.Broken.{Laid}
 use Rattle.layout.proofs.Walked.{lists, not-before, stands-there, later-behind}
 use Rattle.layout.proofs.Few.{few}
-use Rattle.configuration.specs.Answer.{refusedBy, acceptedWith, ConfigurationIs, laid, blocks, sound}
+use Rattle.configuration.specs.Inner.{refusedBy, acceptedWith, ConfigurationIs, laid, blocks, sound}
 use Rattle.configuration.specs.declared.Configuration.{Configuration}
 use Rattle.configuration_words.specs.Broken.{ListedAt, Sound}
 use Rattle.configuration_words.specs.Listed.{StreamStands, Lists-all, Between, BytesAre, by-endpoint, no-endpoint, Settings-all}

@@ -22,17 +22,18 @@ use Rattle.streaming_rules.specs.Rules as streaming-rules
 use Rattle.streaming.specs.Answer.{endpointOf}
 use Rattle.streaming.specs.Broken as streaming-broken
 use Rattle.configuration_rules.specs.Descriptors.{numberAt}
-use Rattle.interfaces.specs.Blocks.{noStream, blockOf, listedIn, streamsOf, placeOf}
-use Rattle.settings.specs.Settings.{settingsOf, fewestOf}
+use Rattle.interfaces.specs.Limits.{noStream}
+use Rattle.interfaces.specs.Inner.{blockOf, listedIn, streamsOf, placeOf}
+use Rattle.settings.specs.Inner.{settingsOf, fewestOf}
 use Rattle.settings.specs.Holding.{noSetting, Holds, Fewest, NoneHolds}
 use Rattle.settings.specs.declared.Setting.{Setting}
 use Rattle.settings.specs.declared.Choice.{Choice}
 use Rattle.settings.specs.declared.Choice.the-variants.{At, Nothing}
 use Rattle.settings.proofs.Picking.{nothing-exactly, fewest-exactly}
 use Rattle.layout.specs.Broken as layout-broken
-use Rattle.configuration.specs.Answer.{ConfigurationIs}
+use Rattle.configuration.specs.Inner.{ConfigurationIs}
 use Rattle.configuration.specs.declared.Configuration.{Configuration}
-use Rattle.picking.specs.Answer.{settingsIn, settingsFor, refusedBy, answerOf, PickIs, own, picks}
+use Rattle.picking.specs.Inner.{settingsIn, settingsFor, refusedBy, answerOf, PickIs, own, picks}
 use Rattle.picking.specs.declared.Picked.{Picked}
 use Rattle.configuration_words.specs.Broken.{Sound, FirstBroken, by-layout, by-control, by-73, by-streaming}
 use Rattle.configuration_words.specs.Picked.{FirstOf, SettingsAre, HoldsIn, PickedIn, Picks}

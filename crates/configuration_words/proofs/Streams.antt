@@ -21,12 +21,14 @@ use Rattle.configuration_rules.specs.Descriptors.{numberAt}
 use Rattle.configuration_rules.specs.declared.Sought.the-variants.{Listed}
 use Rattle.configuration_rules.specs.Words.{StreamingFirst}
 use Rattle.configuration_rules.proofs.Deciding.{listed}
-use Rattle.interfaces.specs.Blocks.{interfacesMost, streamAt, noStream, listedIn, streamsOf, placeOf}
+use Rattle.interfaces.specs.Limits.{interfacesMost, noStream}
+use Rattle.interfaces.specs.Inner.{streamAt, listedIn, streamsOf, placeOf}
 use Rattle.layout.specs.Words.{Lists}
 use Rattle.layout.specs.Broken.{Laid}
 use Rattle.layout.proofs.Walked.{lists}
 use Rattle.layout.proofs.Few.{few}
-use Rattle.configuration.specs.Answer.{entryCount, entryAt, firstUnnamed, entriesNamed, blockVerdict, streamsBy}
+use Rattle.configuration.specs.Answer.{entryCount, entryAt}
+use Rattle.configuration.specs.Inner.{firstUnnamed, entriesNamed, blockVerdict, streamsBy}
 use Rattle.configuration_words.specs.Broken.{ListedAt, Named, AllNamed}
 
 pub getD-map : {A : Type 0} (f : ℕ → A) (l : List ℕ) (i : ℕ) (d : A) → i < length l → getD (map f l) i d ≡ f (getD l i 0)

@@ -6,7 +6,7 @@ use lib.ListN.{length, take, drop, getD}
 use Rattle.streaming.specs.Answer.{endpointOf}
 use Rattle.configuration_rules.specs.Descriptors.{interfaceType, typeAt, numberAt, settingAt, packetAt, packetBytes}
 use Rattle.configuration_rules.specs.Words.{StreamingFirst, SettingOf, EndpointOf}
-use Rattle.interfaces.specs.Blocks.{interfacesMost, settingsMost, noStream}
+use Rattle.interfaces.specs.Limits.{interfacesMost, settingsMost, noStream}
 use Rattle.interfaces.specs.declared.Stream.{Stream}
 use Rattle.settings.specs.Holding.{noSetting}
 use Rattle.settings.specs.declared.Setting.{Setting}

@@ -6,7 +6,7 @@ use Rattle.rules.specs.declared.Verdict.{Verdict}
 use Rattle.rules.specs.declared.Verdict.the-variants.{Accepted, Refused}
 use Rattle.entities.specs.declared.Table.{Table}
 use Rattle.streaming.specs.declared.Streaming.{Streaming}
-use Rattle.streaming.specs.Answer.{streamingOf}
+use Rattle.streaming.specs.Inner.{streamingOf}
 use Rattle.exports.specs.Numbers.{numberOf, numberUnder}
 
 pub accepted-is : (v : Verdict) → v ≡ Accepted → 0 ≡ numberOf v

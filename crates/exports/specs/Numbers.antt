@@ -7,7 +7,7 @@ use Rattle.rules.specs.declared.Verdict.the-variants.{Accepted, Refused}
 use Rattle.entities.specs.declared.Table.{Table}
 use Rattle.control.specs.declared.Control.{Control}
 use Rattle.control.specs.Answer.{ControlIs}
-use Rattle.streaming.specs.Answer.{streamingOf}
+use Rattle.streaming.specs.Inner.{streamingOf}
 
 unfoldable pub numberOf : Verdict → ℕ
 numberOf Accepted = 0

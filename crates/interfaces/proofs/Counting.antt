@@ -15,9 +15,9 @@ use Rattle.rules.proofs.Places as places
 use Rattle.configuration_rules.specs.Descriptors.{numberAt, afterAt, isSought}
 use Rattle.configuration_rules.specs.declared.Sought.the-variants.{Listed, Setting}
 use Rattle.configuration_rules.proofs.Deciding.{setting}
-use Rattle.interfaces.specs.Line.{line, those}
-use Rattle.interfaces.specs.Blocks.{interfacesMost, settingsMost}
-use Rattle.interfaces.specs.Limits.{listedAmong, settingsAmong, oneTooMany, tooManyAt, tooMany, noCounts}
+use Rattle.interfaces.specs.Inner.{line, oneTooMany, tooManyAt, tooMany, noCounts}
+use Rattle.interfaces.specs.Line.{those}
+use Rattle.interfaces.specs.Limits.{interfacesMost, settingsMost, listedAmong, settingsAmong}
 use Rattle.interfaces.proofs.Lines.{line-end, line-more, after-on}
 
 -- ---- one more of a list

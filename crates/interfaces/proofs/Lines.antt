@@ -13,7 +13,8 @@ use Rattle.blocks.specs.Blocks.{lenAt}
 use Rattle.configuration_rules.specs.Descriptors.{brokenAt, afterAt, isSought}
 use Rattle.configuration_rules.specs.declared.Sought.{Sought}
 use Rattle.configuration_rules.proofs.Deciding.{kept}
-use Rattle.interfaces.specs.Line.{lineFrom, line, those, found, nextOf}
+use Rattle.interfaces.specs.Inner.{lineFrom, line, found, nextOf}
+use Rattle.interfaces.specs.Line.{those}
 
 module _ (s : List ℕ) where
   -- ---- one step

@@ -10,8 +10,8 @@ use Rattle.rules.specs.Pad.{pad}
 use Rattle.rules.proofs.Padded.{pad-set}
 use Rattle.configuration_rules.specs.Descriptors.{afterAt, isSought}
 use Rattle.configuration_rules.specs.declared.Sought.the-variants.{Listed}
-use Rattle.interfaces.specs.Line.{found, nextOf}
-use Rattle.interfaces.specs.Blocks.{interfacesMost, streamAt, noStream, listedIn, streamsOf}
+use Rattle.interfaces.specs.Inner.{found, nextOf, streamAt, listedIn, streamsOf}
+use Rattle.interfaces.specs.Limits.{interfacesMost, noStream}
 use Rattle.interfaces.specs.declared.Stream.{Stream}
 use Rattle.interfaces.specs.declared.Streams.{Streams}
 use Rattle.interfaces.proofs.Lines.{found-end, found-here, after-on, next-is}

@@ -10,10 +10,8 @@ use Rattle.rules.specs.Pick.{pick}
 use Rattle.configuration_rules.specs.Descriptors.{numberAt, afterAt, isSought}
 use Rattle.configuration_rules.specs.declared.Sought.{Sought}
 use Rattle.configuration_rules.specs.declared.Sought.the-variants.{Listed, Setting, Outside}
-use Rattle.interfaces.specs.Line.{nextOf}
-use Rattle.interfaces.specs.Limits.{oneTooMany}
+use Rattle.interfaces.specs.Inner.{nextOf, oneTooMany, blockAt, streamAt}
 use Rattle.le.specs.Le.{byte}
-use Rattle.interfaces.specs.Blocks.{blockAt, streamAt}
 use Rattle.interfaces.specs.declared.Block.{Block}
 use Rattle.interfaces.proofs.Lines.{after-on, next-end, next-here, next-skip, next-is}
 

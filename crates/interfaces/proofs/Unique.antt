@@ -3,9 +3,8 @@ use Prim.Native.Nat.{ℕ}
 use mathlib.Core.Path.{_≡_, sym, _∙_}
 use mathlib.Core.List.{List}
 use Rattle.configuration_rules.specs.declared.Sought.{Sought}
-use Rattle.interfaces.specs.Line.{nextOf}
-use Rattle.interfaces.specs.Blocks.{blockAt, noStream, streamsOf, placeOf}
-use Rattle.interfaces.specs.Limits.{tooMany}
+use Rattle.interfaces.specs.Inner.{nextOf, blockAt, streamsOf, placeOf, tooMany}
+use Rattle.interfaces.specs.Limits.{noStream}
 use Rattle.interfaces.specs.declared.Block.{Block}
 use Rattle.interfaces.specs.declared.Stream.{Stream}
 use Rattle.interfaces.specs.declared.Streams.{Streams}

@@ -1,3 +1,3 @@
 pub mod Line
-pub mod Blocks
 pub mod Limits
+pub mod Inner

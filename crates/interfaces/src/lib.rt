@@ -5,9 +5,8 @@ ghost use mathlib.Core.Bool.{Bool};
 ghost use lib.ListN.{length};
 ghost use lib.Dec.{leb};
 ghost use Rattle.rules.specs.Pick.{pick};
-ghost use Rattle.interfaces.specs.Line.{nextOf};
-ghost use Rattle.interfaces.specs.Blocks.{interfacesMost, blockAt, streamAt, noStream, streamsOf, placeOf};
-ghost use Rattle.interfaces.specs.Limits.{oneTooMany, noCounts, tooMany};
+ghost use Rattle.interfaces.specs.Inner.{nextOf, blockAt, streamAt, streamsOf, placeOf, oneTooMany, noCounts, tooMany};
+ghost use Rattle.interfaces.specs.Limits.{interfacesMost, noStream};
 use configuration_rules::Sought;
 
 // The most streaming interfaces, and the most settings of each.

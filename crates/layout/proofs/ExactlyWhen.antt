@@ -23,11 +23,11 @@ use Rattle.configuration_rules.specs.Descriptors.{configurationType, typeAt}
 use Rattle.configuration_rules.specs.declared.Sought.the-variants.{Broken, Control}
 use Rattle.configuration_rules.specs.Words.{ControlFirst}
 use Rattle.configuration_rules.proofs.Deciding.{control}
-use Rattle.interfaces.specs.Line.{course, line, found, nextOf}
-use Rattle.interfaces.specs.Limits.{firstTooMany, tooMany}
-use Rattle.layout.specs.Answer.{bytesLeast, bytesMost, verdict70, verdict71, controlsVerdict, verdict72, verdict75, layoutOf}
+use Rattle.interfaces.specs.Line.{course}
+use Rattle.interfaces.specs.Inner.{line, found, nextOf, firstTooMany, tooMany}
+use Rattle.layout.specs.Broken.{bytesLeast, bytesMost, Whole, Kept-70-71, OneControl, SecondControl, Laid, FirstMislaid, by-70-whole, by-70, by-71, by-72-none, by-72-second, by-75}
+use Rattle.layout.specs.Inner.{verdict70, verdict71, controlsVerdict, verdict72, verdict75, layoutVerdict}
 use Rattle.layout.specs.Words.{Starts, Lists, FirstTooMany, NoneTooMany}
-use Rattle.layout.specs.Broken.{Whole, Kept, OneControl, SecondControl, Laid, FirstMislaid, by-70-whole, by-70, by-71, by-72-none, by-72-second, by-75}
 use Rattle.layout.proofs.Walked.{steady, walk-line, lists}
 use Rattle.layout.proofs.Few.{first-there, none-there, end-there, one-first}
 
@@ -189,7 +189,7 @@ module _ (s : List ℕ) where
     good : (o : ℕ) → Laid s o → Ends Accepted
     bad : (k o : ℕ) → FirstMislaid s k o → Ends (Refused k o)
 
-  after-72 : Kept s → (v : Verdict) → Controls v → (w : Verdict) → Ends75 w → Ends (v andThen w)
+  after-72 : Kept-70-71 s → (v : Verdict) → Controls v → (w : Verdict) → Ends75 w → Ends (v andThen w)
   after-72 k v (nobody n) w e = bad 72 0 (by-72-none k n)
   after-72 k v (second o c) w e = bad 72 o (by-72-second o k c)
   after-72 k v (only o c) w (few n) = good o (record { kept = k; one = c; few = n })
@@ -202,19 +202,19 @@ module _ (s : List ℕ) where
       ⊎-elim (λ t. rw (right-71 t) (after-72 (record { whole = w; each = c; total = t }) (verdict72 s) (controls-here c) (verdict75 s) (ends-75 c)))
       (λ n. rw (wrong-71 n) (bad 71 0 (by-71 w c n))) total-or
 
-  ends : Ends (layoutOf s)
-  unfolding layoutOf
+  ends : Ends (layoutVerdict s)
+  unfolding layoutVerdict
   ends = after-70 (verdict70 s) ends-70
 
-  kept-gives : Kept s → layoutOf s ≡ verdict72 s andThen verdict75 s
-  unfolding layoutOf
+  kept-gives : Kept-70-71 s → layoutVerdict s ≡ verdict72 s andThen verdict75 s
+  unfolding layoutVerdict
   kept-gives k = rw (right-70 (k .whole) (k .each), right-71 (k .total))
 
-  laid-gives : (o : ℕ) → Laid s o → layoutOf s ≡ Accepted
+  laid-gives : (o : ℕ) → Laid s o → layoutVerdict s ≡ Accepted
   laid-gives o l = kept-gives (l .kept) ∙ (rw (is-72 (l .kept .each) Accepted (only o (l .one)), is-75 (l .kept .each) Accepted (few (l .few))))
 
-  mislaid-gives : {k o : ℕ} → FirstMislaid s k o → layoutOf s ≡ Refused k o
-  unfolding layoutOf pick
+  mislaid-gives : {k o : ℕ} → FirstMislaid s k o → layoutVerdict s ≡ Refused k o
+  unfolding layoutVerdict pick
   mislaid-gives (by-70-whole n) = ⊎-elim (λ w. absurd (n w)) (λ w. rw (w .1)) whole-or
   mislaid-gives (by-70 o w f) = let e = break-is o f in rw (past-whole w, lt-ltb b (length s) (e .0), e .1)
   mislaid-gives (by-71 w c n) = rw (right-70 w c, wrong-71 n)
@@ -223,15 +223,15 @@ module _ (s : List ℕ) where
   mislaid-gives (by-75 o c k one f) = kept-gives k ∙ (rw (is-72 (k .each) Accepted (only c one), is-75 (k .each) (Refused 75 o) (many o f)))
 
   -- EXACTLY WHEN
-  pub laid : (layoutOf s ≡ Accepted) ↔ ((o : ℕ) × Laid s o)
-  laid = (to (layoutOf s) ends, λ p. laid-gives (p .0) (p .1))
+  pub laid : (layoutVerdict s ≡ Accepted) ↔ ((o : ℕ) × Laid s o)
+  laid = (to (layoutVerdict s) ends, λ p. laid-gives (p .0) (p .1))
     where
       to : (v : Verdict) → Ends v → v ≡ Accepted → (o : ℕ) × Laid s o
       to v (good o l) e = (o, l)
       to v (bad k o f) e = absurd (apart k o e)
 
-  pub mislaid : (k o : ℕ) → (layoutOf s ≡ Refused k o) ↔ FirstMislaid s k o
-  mislaid k o = (to (layoutOf s) ends, mislaid-gives)
+  pub mislaid : (k o : ℕ) → (layoutVerdict s ≡ Refused k o) ↔ FirstMislaid s k o
+  mislaid k o = (to (layoutVerdict s) ends, mislaid-gives)
     where
       to : (v : Verdict) → Ends v → v ≡ Refused k o → FirstMislaid s k o
       to v (good p l) e = absurd (apart k o (sym e))

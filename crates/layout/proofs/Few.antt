@@ -19,9 +19,9 @@ use Rattle.configuration_rules.specs.Descriptors.{streamingSubclass, numberAt, 
 use Rattle.configuration_rules.specs.declared.Sought.the-variants.{Listed, Setting}
 use Rattle.configuration_rules.specs.Words.{Video, StreamingFirst}
 use Rattle.configuration_rules.proofs.Deciding.{listed, setting}
-use Rattle.interfaces.specs.Line.{course, line, those, found}
-use Rattle.interfaces.specs.Blocks.{interfacesMost, settingsMost}
-use Rattle.interfaces.specs.Limits.{listedAmong, settingsAmong, oneTooMany, tooManyAt, firstTooMany, tooMany}
+use Rattle.interfaces.specs.Line.{course, those}
+use Rattle.interfaces.specs.Inner.{line, found, oneTooMany, tooManyAt, firstTooMany, tooMany}
+use Rattle.interfaces.specs.Limits.{interfacesMost, settingsMost, listedAmong, settingsAmong}
 use Rattle.interfaces.proofs.Counting.{those-more}
 use Rattle.layout.specs.Words.{OneTooMany, FirstTooMany, NoneTooMany}
 use Rattle.layout.proofs.Walked.{rises-order, line-rises, reached-line, reached-at, place-in}

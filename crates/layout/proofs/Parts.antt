@@ -11,16 +11,16 @@ use Rattle.rules.specs.declared.Verdict.the-variants.{Accepted, Refused}
 use Rattle.rules.proofs.Firsts.{lt-or-ge}
 use Rattle.rules.proofs.Verdicts.{apart}
 use Rattle.configuration_rules.specs.declared.Sought.the-variants.{Control}
-use Rattle.interfaces.specs.Line.{found, nextOf}
+use Rattle.interfaces.specs.Inner.{found, nextOf}
 use Rattle.interfaces.proofs.Lines.{found-end, next-is}
-use Rattle.layout.specs.Answer.{verdict70, verdict71, controlsVerdict, verdict72, verdict75, layoutOf}
+use Rattle.layout.specs.Inner.{verdict70, verdict71, controlsVerdict, verdict72, verdict75, layoutVerdict}
 
 pub both : (a b : Verdict) → a andThen b ≡ Accepted → (a ≡ Accepted) × (b ≡ Accepted)
 both Accepted b e = (refl, e)
 both (Refused k o) b e = absurd (apart k o e)
 
-pub all-four : (s : List ℕ) → layoutOf s ≡ Accepted → (verdict70 s ≡ Accepted) × (verdict71 s ≡ Accepted) × (verdict72 s ≡ Accepted) × (verdict75 s ≡ Accepted)
-unfolding layoutOf
+pub all-four : (s : List ℕ) → layoutVerdict s ≡ Accepted → (verdict70 s ≡ Accepted) × (verdict71 s ≡ Accepted) × (verdict72 s ≡ Accepted) × (verdict75 s ≡ Accepted)
+unfolding layoutVerdict
 all-four s e =
     let a = both (verdict70 s) (verdict71 s andThen (verdict72 s andThen verdict75 s)) e in
     let b = both (verdict71 s) (verdict72 s andThen verdict75 s) (a .1) in
@@ -28,7 +28,7 @@ all-four s e =
     (a .0, b .0, c .0, c .1)
 
 -- there is a control interface
-pub control-there : (s : List ℕ) → layoutOf s ≡ Accepted → (at : ℕ) → at ≡ nextOf Control s 0 → at < length s
+pub control-there : (s : List ℕ) → layoutVerdict s ≡ Accepted → (at : ℕ) → at ≡ nextOf Control s 0 → at < length s
 unfolding controlsVerdict
 control-there s e at q = rw q (⊎-elim (λ h. h) none (lt-or-ge (nextOf Control s 0) (length s)))
   where

@@ -12,10 +12,9 @@ use Rattle.rules.specs.declared.Verdict.{Verdict}
 use Rattle.rules.specs.declared.Verdict.the-variants.{Accepted, Refused}
 use Rattle.configuration_rules.specs.Descriptors.{typeAt, afterAt}
 use Rattle.configuration_rules.specs.declared.Sought.the-variants.{Broken, Control}
-use Rattle.interfaces.specs.Line.{found, nextOf}
-use Rattle.interfaces.specs.Limits.{tooMany}
+use Rattle.interfaces.specs.Inner.{found, nextOf, tooMany}
 use Rattle.interfaces.proofs.Lines.{found-end, found-here, next-is, after-on}
-use Rattle.layout.specs.Answer.{verdict70, verdict71, controlsVerdict, verdict72, verdict75}
+use Rattle.layout.specs.Inner.{verdict70, verdict71, controlsVerdict, verdict72, verdict75}
 
 -- ---- verdicts one after the other
 module _ (v a b x : Verdict) (e : v ≡ a) where

@@ -3,7 +3,7 @@ use Prim.Native.Nat.{ℕ}
 use mathlib.Core.Path.{_≡_, sym, _∙_}
 use mathlib.Core.List.{List}
 use Rattle.rules.specs.declared.Verdict.{Verdict}
-use Rattle.layout.specs.Answer.{layoutOf}
+use Rattle.layout.specs.Inner.{layoutVerdict}
 
-pub judge-unique : (s : List ℕ) (x y : Verdict) → x ≡ layoutOf s → y ≡ layoutOf s → x ≡ y
+pub judge-unique : (s : List ℕ) (x y : Verdict) → x ≡ layoutVerdict s → y ≡ layoutVerdict s → x ≡ y
 judge-unique s x y p q = p ∙ sym q

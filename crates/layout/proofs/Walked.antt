@@ -19,7 +19,8 @@ use Rattle.configuration_rules.specs.Descriptors.{brokenAt, afterAt, isSought}
 use Rattle.configuration_rules.specs.declared.Sought.{Sought}
 use Rattle.configuration_rules.specs.declared.Sought.the-variants.{Broken, Outside}
 use Rattle.configuration_rules.proofs.Deciding.{kept, outside}
-use Rattle.interfaces.specs.Line.{course, line, those, found, headOr, nextOf}
+use Rattle.interfaces.specs.Line.{course, those}
+use Rattle.interfaces.specs.Inner.{line, found, headOr, nextOf}
 use Rattle.interfaces.proofs.Lines.{Next, after-on, after-whole, line-end, line-more, next-end, next-here, next-skip, next-is, found-here}
 use Rattle.layout.specs.Words.{Starts, Lists, Run}
 

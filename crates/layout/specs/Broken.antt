@@ -8,8 +8,14 @@ use Rattle.rules.specs.Walk.{Clean, FirstBreak}
 use Rattle.configuration_rules.specs.Descriptors.{configurationType, typeAt}
 use Rattle.configuration_rules.specs.Words.{ControlFirst}
 use Rattle.interfaces.specs.Line.{course}
-use Rattle.layout.specs.Answer.{bytesLeast, bytesMost}
 use Rattle.layout.specs.Words.{Starts, FirstTooMany, NoneTooMany}
+
+-- the fewest bytes of a configuration, and the most
+abbrev pub bytesLeast : ℕ
+bytesLeast = 9
+
+abbrev pub bytesMost : ℕ
+bytesMost = 32768
 
 -- 70 of the whole: 9 to 32,768 bytes, a configuration descriptor first
 pub record Whole (s : List ℕ) : Type 0 where
@@ -18,7 +24,7 @@ pub record Whole (s : List ℕ) : Type 0 where
   pub first : typeAt s 0 ≡ configurationType
 
 -- 70 and 71 are kept
-pub record Kept (s : List ℕ) : Type 0 where
+pub record Kept-70-71 (s : List ℕ) : Type 0 where
   pub whole : Whole s
   pub each : Clean (course s)
   pub total : le16At s 2 ≡ length s
@@ -41,7 +47,7 @@ pub record SecondControl (s : List ℕ) (o : ℕ) : Type 0 where
 
 -- none of 70, 71, 72 and 75 is broken; the control interface stands at o
 pub record Laid (s : List ℕ) (o : ℕ) : Type 0 where
-  pub kept : Kept s
+  pub kept : Kept-70-71 s
   pub one : OneControl s o
   pub few : NoneTooMany s
 
@@ -50,6 +56,6 @@ pub data FirstMislaid (s : List ℕ) : ℕ → ℕ → Type 0 where
   by-70-whole : (Whole s → ⊥) → FirstMislaid s 70 0
   by-70 : (o : ℕ) → Whole s → FirstBreak (course s) 70 o → FirstMislaid s 70 o
   by-71 : Whole s → Clean (course s) → (le16At s 2 ≡ length s → ⊥) → FirstMislaid s 71 0
-  by-72-none : Kept s → ((o : ℕ) → Starts s o → ControlFirst s o → ⊥) → FirstMislaid s 72 0
-  by-72-second : (o : ℕ) → Kept s → SecondControl s o → FirstMislaid s 72 o
-  by-75 : (o c : ℕ) → Kept s → OneControl s c → FirstTooMany s o → FirstMislaid s 75 o
+  by-72-none : Kept-70-71 s → ((o : ℕ) → Starts s o → ControlFirst s o → ⊥) → FirstMislaid s 72 0
+  by-72-second : (o : ℕ) → Kept-70-71 s → SecondControl s o → FirstMislaid s 72 o
+  by-75 : (o c : ℕ) → Kept-70-71 s → OneControl s c → FirstTooMany s o → FirstMislaid s 75 o

@@ -1,3 +1,3 @@
-pub mod Answer
 pub mod Words
 pub mod Broken
+pub mod Inner

@@ -9,8 +9,7 @@ use Rattle.rules.specs.Walk as walk
 use Rattle.configuration_rules.specs.Descriptors.{streamingSubclass, numberAt}
 use Rattle.configuration_rules.specs.Words.{Video, StreamingFirst, ClassSpecific}
 use Rattle.interfaces.specs.Line.{course}
-use Rattle.interfaces.specs.Blocks.{interfacesMost, settingsMost}
-use Rattle.interfaces.specs.Limits.{listedAmong, settingsAmong}
+use Rattle.interfaces.specs.Limits.{interfacesMost, settingsMost, listedAmong, settingsAmong}
 
 -- a descriptor starts at o
 abbrev pub Starts : List ℕ → ℕ → Type 0

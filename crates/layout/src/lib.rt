@@ -1,6 +1,6 @@
 // How a configuration is laid out: 70, 71, 72 and 75, number by number over the whole.
 ghost use mathlib.Core.Path.{_≡_};
-ghost use Rattle.layout.specs.Answer.{verdict70, verdict71, verdict72, verdict75, layoutOf};
+ghost use Rattle.layout.specs.Inner.{verdict70, verdict71, verdict72, verdict75, layoutVerdict};
 use configuration_rules::CONFIGURATION;
 use configuration_rules::Sought;
 use rules::Verdict;
@@ -75,7 +75,7 @@ fn refused(number: u8, offset: usize) -> Verdict
 
 // The first of 70, 71, 72 and 75 that the configuration breaks, at its first place.
 pub fn judge(s: &[u8]) -> Verdict
-    ensures { λ r. ⌜ r ≡ layoutOf (now (s .entry)) ⌝ }
+    ensures { λ r. ⌜ r ≡ layoutVerdict (now (s .entry)) ⌝ }
 {
     if let Verdict::Refused { number, offset } = rule_70(s) {
         return refused(number, offset);

@@ -10,16 +10,17 @@ use Rattle.rules.specs.Pick.{pick}
 use Rattle.rules.specs.declared.Verdict.the-variants.{Accepted, Refused}
 use Rattle.rules.proofs.Places.{first-place}
 use Rattle.rules.proofs.Verdicts.{apart}
-use Rattle.interfaces.specs.Blocks.{noStream, streamsOf, placeOf}
+use Rattle.interfaces.specs.Limits.{noStream}
+use Rattle.interfaces.specs.Inner.{streamsOf, placeOf}
 use Rattle.interfaces.specs.declared.Stream.{Stream}
 use Rattle.interfaces.proofs.Listing.{streams-few}
-use Rattle.settings.specs.Settings.{settingsOf, fewestFrom, fewestOf}
+use Rattle.settings.specs.Inner.{settingsOf, fewestFrom, fewestOf}
 use Rattle.settings.specs.declared.Setting.{Setting}
 use Rattle.settings.specs.declared.Choice.{Choice}
 use Rattle.settings.specs.declared.Choice.the-variants.{At, Nothing}
-use Rattle.configuration.specs.Answer.{ConfigurationIs, laid, blocks, sound, refusedBy as refusedConfiguration, acceptedWith}
+use Rattle.configuration.specs.Inner.{ConfigurationIs, laid, blocks, sound, refusedBy as refusedConfiguration, acceptedWith}
 use Rattle.configuration.specs.declared.Configuration.{Configuration}
-use Rattle.picking.specs.Answer.{settingsIn, refusedBy, answerOf, PickIs, own, picks}
+use Rattle.picking.specs.Inner.{settingsIn, refusedBy, answerOf, PickIs, own, picks}
 use Rattle.picking.specs.declared.Picked.{Picked}
 
 pub place-in : (l : List Stream) (n i k : ℕ) → k ≡ placeOf l n i → (k ≡ n → ⊥) → n ≤ 8 → k < 8

@@ -3,10 +3,10 @@ use Prim.Native.Nat.{ℕ}
 use mathlib.Core.Path.{_≡_, refl, sym, ap, _∙_}
 use mathlib.Core.List.{List}
 use Rattle.rules.proofs.Verdicts.{clash, same-by}
-use Rattle.configuration.specs.Answer.{ConfigurationIs}
+use Rattle.configuration.specs.Inner.{ConfigurationIs}
 use Rattle.configuration.specs.declared.Configuration.{Configuration}
 use Rattle.configuration.proofs.Unique.{read-unique}
-use Rattle.picking.specs.Answer.{refusedBy, PickIs, own, picks}
+use Rattle.picking.specs.Inner.{refusedBy, PickIs, own, picks}
 use Rattle.picking.specs.declared.Picked.{Picked}
 
 module _ (s : List ℕ) (i p : ℕ) where

@@ -1,9 +1,9 @@
 // Picks the alternate setting for an isochronous camera at high speed: the fewest bytes per microframe that hold the payload (74 where none does).
 ghost use mathlib.Core.Path.{_≡_};
 ghost use Prim.Native.Nat.{_≤_};
-ghost use Rattle.settings.specs.Settings.{fewestOf};
-ghost use Rattle.interfaces.specs.Blocks.{interfacesMost};
-ghost use Rattle.picking.specs.Answer.{settingsIn, refusedBy, answerOf, PickIs};
+ghost use Rattle.settings.specs.Inner.{fewestOf};
+ghost use Rattle.interfaces.specs.Limits.{interfacesMost};
+ghost use Rattle.picking.specs.Inner.{settingsIn, refusedBy, answerOf, PickIs};
 use interfaces::INTERFACES_MOST;
 use interfaces::Stream;
 use rules::Verdict;

@@ -18,7 +18,7 @@ use Rattle.streaming_descriptors.specs.Descriptors.{kindAt, formatOf, frameLeng
 use Rattle.streaming_rules.specs.Rules.{offersAt}
 use Rattle.streaming_descriptors.specs.declared.Frame.{Frame}
 use Rattle.streaming_descriptors.proofs.Subtypes.{frame-long}
-use Rattle.streaming.specs.Answer.{streamingOf}
+use Rattle.streaming.specs.Inner.{streamingOf}
 use Rattle.streaming.specs.declared.Streaming.{Streaming}
 use Rattle.probe.specs.Fields.{probeSize, fieldsOf}
 use Rattle.probe_check.specs.Answer.{frameIn, formatMissing, hasNumber, framePlace, frameRows, checkRows, given, checkOf}

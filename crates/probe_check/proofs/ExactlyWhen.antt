@@ -29,7 +29,8 @@ use Rattle.sizes.proofs.Limits.{frame-sound, payload-sound}
 use Rattle.streaming_descriptors.specs.Descriptors.{noFrame, kindAt, formatOf, kAt, intervalsAt}
 use Rattle.streaming_rules.specs.Rules.{offersUnder, offersAt}
 use Rattle.streaming_descriptors.specs.declared.Frame.{Frame}
-use Rattle.streaming.specs.Answer.{Seen, acceptedWith, refusedBy, streamingOf}
+use Rattle.streaming.specs.Answer.{Seen, acceptedWith, refusedBy}
+use Rattle.streaming.specs.Inner.{streamingOf}
 use Rattle.streaming.specs.declared.Streaming.{Streaming}
 use Rattle.rules.proofs.Places.{Says, first-place}
 use Rattle.streaming.proofs.ExactlyWhen.{Ends, taken, given-back, reads, tables, all-zero}

@@ -17,7 +17,7 @@ use Rattle.streaming_descriptors.specs.Descriptors.{noFrame}
 use Rattle.streaming_rules.specs.Rules.{offersAt}
 use Rattle.streaming_descriptors.specs.declared.Frame.{Frame}
 use Rattle.rules.specs.Place.{firstPlace}
-use Rattle.streaming.specs.Answer.{streamingOf}
+use Rattle.streaming.specs.Inner.{streamingOf}
 use Rattle.streaming.specs.declared.Streaming.{Streaming}
 use Rattle.probe.specs.Fields.{probeSize, fieldsOf}
 use Rattle.probe.specs.declared.Probe.{Probe}

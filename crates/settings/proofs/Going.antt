@@ -12,9 +12,9 @@ use Rattle.rules.specs.Pick.{pick}
 use Rattle.configuration_rules.specs.Descriptors.{typeAt, settingAt as numberOf, afterAt, isSought, packetBytes}
 use Rattle.configuration_rules.specs.declared.Sought.{Sought}
 use Rattle.configuration_rules.specs.declared.Sought.the-variants as sought
-use Rattle.interfaces.specs.Line.{found, nextOf}
+use Rattle.interfaces.specs.Inner.{found, nextOf}
 use Rattle.interfaces.proofs.Lines.{after-on, next-is, found-here, found-end}
-use Rattle.settings.specs.Settings.{endpointPlace, bytesAt, settingAt, settingsOf, kthOf, isBetter, against, betterOf, fewestFrom, fewestOf}
+use Rattle.settings.specs.Inner.{endpointPlace, bytesAt, settingAt, settingsOf, kthOf, isBetter, against, betterOf, fewestFrom, fewestOf}
 use Rattle.settings.specs.declared.Setting.{Setting}
 use Rattle.settings.specs.declared.Choice.{Choice}
 use Rattle.settings.specs.declared.Choice.the-variants.{At, Nothing}

@@ -5,7 +5,7 @@ use mathlib.Core.List.{List, [], _∷_}
 use mathlib.Core.Logic.{_↔_}
 use lib.ListN.{length, getD}
 use native.Mathlib.Omega.{arith}
-use Rattle.settings.specs.Settings.{kthOf}
+use Rattle.settings.specs.Inner.{kthOf}
 use Rattle.settings.specs.Holding.{noSetting}
 use Rattle.settings.specs.declared.Setting.{Setting}
 use Rattle.settings.specs.declared.Choice.the-variants.{At, Nothing}

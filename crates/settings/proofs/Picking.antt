@@ -12,7 +12,7 @@ use native.Mathlib.Omega.{arith}
 use Rattle.rules.specs.Pick.{pick}
 use Rattle.rules.proofs.Firsts.{lt-or-ge}
 use Rattle.rules.proofs.Growing.{at-old, at-new}
-use Rattle.settings.specs.Settings.{isBetter, against, betterOf, fewestFrom, fewestOf}
+use Rattle.settings.specs.Inner.{isBetter, against, betterOf, fewestFrom, fewestOf}
 use Rattle.settings.specs.Holding.{noSetting, Holds, Fewest, NoneHolds}
 use Rattle.settings.specs.declared.Setting.{Setting}
 use Rattle.settings.specs.declared.Choice.{Choice}

@@ -2,7 +2,7 @@
 use Prim.Native.Nat.{ℕ}
 use mathlib.Core.Path.{_≡_, sym, _∙_}
 use mathlib.Core.List.{List}
-use Rattle.settings.specs.Settings.{settingsOf, kthOf, fewestOf}
+use Rattle.settings.specs.Inner.{settingsOf, kthOf, fewestOf}
 use Rattle.settings.specs.declared.Choice.{Choice}
 
 pub kth-unique : (s : List ℕ) (n a k : ℕ) (x y : Choice) → x ≡ kthOf (settingsOf s n a) k → y ≡ kthOf (settingsOf s n a) k → x ≡ y

@@ -1,2 +1,2 @@
-pub mod Settings
 pub mod Holding
+pub mod Inner

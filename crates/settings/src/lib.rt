@@ -2,7 +2,7 @@
 ghost use mathlib.Core.Path.{_≡_};
 ghost use Prim.Native.Nat.{_<_};
 ghost use lib.ListN.{length};
-ghost use Rattle.settings.specs.Settings.{bytesAt, settingAt, settingsOf, kthOf, isBetter, betterOf, fewestOf};
+ghost use Rattle.settings.specs.Inner.{bytesAt, settingAt, settingsOf, kthOf, isBetter, betterOf, fewestOf};
 use configuration_rules::ENDPOINT;
 use configuration_rules::Sought;
 

@@ -17,7 +17,8 @@ use Rattle.streaming_rules.specs.declared.Sofar.{Sofar}
 use Rattle.streaming_rules.proofs.Sizes.{row-39}
 use Rattle.streaming_rules.proofs.Flags.{row-40}
 use Rattle.streaming_rules.proofs.Order.{once}
-use Rattle.streaming.specs.Answer.{Seen, linkedTo, linkOf, sofar, streamingOf}
+use Rattle.streaming.specs.Answer.{Seen, linkedTo, linkOf, sofar}
+use Rattle.streaming.specs.Inner.{streamingOf}
 use Rattle.streaming.specs.Broken.{BlockRight, blockCourse, FirstBroken, by-block, by-descriptor, by-36, by-37, by-38}
 use Rattle.streaming.specs.Listed.{Untrue, Unsteady}
 use Rattle.streaming.proofs.ExactlyWhen.{refused}

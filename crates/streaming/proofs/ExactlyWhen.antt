@@ -23,7 +23,8 @@ use Rattle.streaming_rules.specs.Rules.{headRows}
 use Rattle.streaming_descriptors.specs.declared.Format.{Format}
 use Rattle.streaming_rules.proofs.Fine.{head-numbered}
 use Rattle.rules.specs.Place.{firstPlace}
-use Rattle.streaming.specs.Answer.{Seen, formatCount, countUnder, countBroken, defaultBroken, lateBy, late, refusedBy, acceptedWith, answer, afterWalk, walked, afterHead, streamingOf}
+use Rattle.streaming.specs.Answer.{Seen, formatCount, countUnder, refusedBy, acceptedWith}
+use Rattle.streaming.specs.Inner.{countBroken, defaultBroken, lateBy, late, answer, afterWalk, walked, afterHead, streamingOf}
 use Rattle.streaming.specs.Broken.{BlockRight, blockCourse, formatIn, CountWrong, DefaultWrong, Walked, Sound, FirstBroken, by-block, by-descriptor, by-36, by-37, by-38}
 use Rattle.streaming.specs.declared.Streaming.{Streaming}
 use Rattle.rules.proofs.Places.{Says, first-place}

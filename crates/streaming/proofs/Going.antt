@@ -26,7 +26,8 @@ use Rattle.streaming_descriptors.specs.declared.Format.{Format}
 use Rattle.streaming_descriptors.specs.declared.Frame.{Frame}
 use Rattle.streaming_rules.proofs.Fine.{Fine, fine, numbered, no-frame-format, format-inside, frame-inside}
 use Rattle.streaming_descriptors.proofs.Subtypes.{frame-long}
-use Rattle.streaming.specs.Answer.{Seen, countUnder, lastOf, noCounts, sofar, after, course, lateBy, late, acceptedWith, refusedBy, answer, afterWalk, walked}
+use Rattle.streaming.specs.Answer.{Seen, countUnder, lastOf, sofar, after, course, acceptedWith, refusedBy}
+use Rattle.streaming.specs.Inner.{noCounts, lateBy, late, answer, afterWalk, walked}
 use Rattle.streaming.specs.declared.Streaming.{Streaming}
 use Rattle.streaming.proofs.Late.{late-same}
 

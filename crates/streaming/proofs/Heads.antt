@@ -9,7 +9,8 @@ use Rattle.rules.proofs.Rows.{row-none}
 use Rattle.entities.specs.declared.Table.{Table}
 use Rattle.streaming_rules.specs.Rules.{headRows}
 use Rattle.streaming_rules.proofs.Fine.{head-numbered, head-sizes}
-use Rattle.streaming.specs.Answer.{linkedTo, linkOf, refusedBy, walked, afterHead, streamingOf}
+use Rattle.streaming.specs.Answer.{linkedTo, linkOf, refusedBy}
+use Rattle.streaming.specs.Inner.{walked, afterHead, streamingOf}
 use Rattle.streaming.specs.declared.Streaming.{Streaming}
 
 module _ (t : Table) (s : List ℕ) (r : ℕ) (e : r ≡ firstRow (headRows (t .count) s)) where

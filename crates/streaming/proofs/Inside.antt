@@ -15,7 +15,8 @@ use Rattle.streaming_descriptors.specs.Descriptors.{kindAt, isFrame, formatOf, 
 use Rattle.streaming_rules.specs.Rules.{framesMost}
 use Rattle.streaming_descriptors.specs.declared.Frame.{Frame}
 use Rattle.streaming_rules.proofs.Fine.{Fine, fine, frame-inside}
-use Rattle.streaming.specs.Answer.{Seen, sofar, after, course, acceptedWith, streamingOf}
+use Rattle.streaming.specs.Answer.{Seen, sofar, after, course, acceptedWith}
+use Rattle.streaming.specs.Inner.{streamingOf}
 use Rattle.streaming.specs.declared.Streaming.{Streaming}
 use Rattle.streaming.proofs.ExactlyWhen.{accepted, tables}
 

@@ -8,7 +8,7 @@ use Rattle.rules.specs.Pick.{pick}
 use Rattle.rules.specs.declared.Verdict.the-variants.{Accepted, Refused}
 use Rattle.streaming_descriptors.specs.declared.Format.{Format}
 use Rattle.rules.specs.Place.{firstPlace}
-use Rattle.streaming.specs.Answer.{countBroken, defaultBroken, lateBy}
+use Rattle.streaming.specs.Inner.{countBroken, defaultBroken, lateBy}
 use Rattle.rules.proofs.Places.{same-place}
 
 pub count-differs : (m n : ℕ) → (m ≡ n → ⊥) → not (eqb m n) ≡ true

@@ -28,7 +28,8 @@ use Rattle.streaming_descriptors.specs.declared.Frame.{Frame}
 use Rattle.streaming_rules.proofs.Fine.{Fine, fine, head-sizes, header-first, format-of, frame-of}
 use Rattle.streaming_rules.proofs.Sizes.{sizes-true}
 use Rattle.streaming_rules.proofs.Flags.{flag-right, line-right}
-use Rattle.streaming.specs.Answer.{Seen, linkedTo, endpointOf, linkOf, lastOf, sofar, after, acceptedWith, streamingOf}
+use Rattle.streaming.specs.Answer.{Seen, linkedTo, endpointOf, linkOf, lastOf, sofar, after, acceptedWith}
+use Rattle.streaming.specs.Inner.{streamingOf}
 use Rattle.streaming.specs.Broken.{blockCourse, formatIn, Sound}
 use Rattle.streaming.specs.Listed.{frameIn, Starts, FormatStands, numbered, FrameStands, Listed}
 use Rattle.streaming.specs.declared.Streaming.{Streaming}

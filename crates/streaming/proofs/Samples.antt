@@ -15,7 +15,8 @@ use Rattle.streaming_descriptors.specs.Descriptors.{kindOf, layoutOf, shape, gu
 use Rattle.blocks.specs.Blocks.{wholeRows, lengthBroken, typeBroken}
 use Rattle.streaming_rules.specs.Rules.{headRows, misplaced, offersUnder, untrueAt, flagWrong, lineWrong, kindRows, rows}
 use Rattle.rules.specs.Place.{placeFrom}
-use Rattle.streaming.specs.Answer.{isOutput, linkedAt, countUnder, after, defaultBroken, lateBy, refusedBy, acceptedWith, afterWalk, afterHead, streamingOf}
+use Rattle.streaming.specs.Answer.{isOutput, linkedAt, countUnder, after, refusedBy, acceptedWith}
+use Rattle.streaming.specs.Inner.{defaultBroken, lateBy, afterWalk, afterHead, streamingOf}
 
 -- one entity: the output terminal 3, of type 0x0101
 table : Table

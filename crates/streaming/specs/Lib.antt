@@ -1,3 +1,4 @@
 pub mod Answer
 pub mod Broken
 pub mod Listed
+pub mod Inner

@@ -1,5 +1,5 @@
 use Rattle.configuration.specs.Answer.{entryAt}
-use Rattle.interfaces.specs.Blocks.{placeOf}
+use Rattle.interfaces.specs.Inner.{placeOf}
 use mathlib.Core.Path.{_∙_}
 use Prim.Native.Nat.{_-_}
 use lib.Dec.{eqb}

@@ -1,4 +1,4 @@
-use Rattle.configuration.specs.Answer.{refusedBy}
+use Rattle.configuration.specs.Inner.{refusedBy}
 use borrow.Author.Needs.{needs}
 use Rattle.configuration.proofs.refused.Statement.{statement}
 use Rattle.configuration.proofs.refused.Tie as tie

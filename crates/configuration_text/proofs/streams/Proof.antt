@@ -2,7 +2,7 @@ use Rattle.text.proofs.Texts.{none}
 use native.Mathlib.Omega.{arith}
 use Prim.Native.Nat.{_-_}
 use Rattle.configuration_text.specs.Texts.{streamText, streamMost}
-use Rattle.interfaces.specs.Blocks.{noStream}
+use Rattle.interfaces.specs.Limits.{noStream}
 use Rattle.entities.proofs.Finding.{length-of}
 use Rattle.configuration_text.proofs.Lines.{Streamed, stream-more, all-used, all-places}
 use borrow.Author.Needs.{needs}

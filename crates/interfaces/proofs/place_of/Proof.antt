@@ -1,4 +1,4 @@
-use Rattle.interfaces.specs.Blocks.{noStream}
+use Rattle.interfaces.specs.Limits.{noStream}
 use borrow.Author.Tests.{eq-eqb, ne-eqb}
 use native.Mathlib.Omega.{arith}
 use Prim.Native.Nat.{_-_}

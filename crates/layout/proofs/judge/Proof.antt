@@ -1,4 +1,4 @@
-use Rattle.layout.specs.Answer.{layoutOf}
+use Rattle.layout.specs.Inner.{layoutVerdict}
 use Rattle.layout.proofs.Tests.{stops-there, goes-on}
 use borrow.Author.Needs.{needs}
 use Rattle.layout.proofs.judge.Statement.{statement}
@@ -14,7 +14,7 @@ refused-requires : tie.Need-refused-requires
 refused-requires c κs = search needs
 
 returns : tie.Need-returns
-unfolding layoutOf
+unfolding layoutVerdict
 returns c = search stops-there
 
 enum-told : tie.Need-enum-told
@@ -30,7 +30,7 @@ refused-requires-2 : tie.Need-refused-requires-2
 refused-requires-2 c κs = search needs
 
 returns-2 : tie.Need-returns-2
-unfolding layoutOf
+unfolding layoutVerdict
 returns-2 c = search (stops-there, goes-on) depth 8
 
 enum-told-2 : tie.Need-enum-told-2
@@ -46,7 +46,7 @@ refused-requires-3 : tie.Need-refused-requires-3
 refused-requires-3 c κs = search needs
 
 returns-3 : tie.Need-returns-3
-unfolding layoutOf
+unfolding layoutVerdict
 returns-3 c = search (stops-there, goes-on) depth 8
 
 enum-told-3 : tie.Need-enum-told-3
@@ -56,7 +56,7 @@ rule-75-requires : tie.Need-rule-75-requires
 rule-75-requires c κs = search needs
 
 returns-4 : tie.Need-returns-4
-unfolding layoutOf
+unfolding layoutVerdict
 returns-4 c = search goes-on depth 8
 
 pub judge-spec : {M : Type 1} → statement M

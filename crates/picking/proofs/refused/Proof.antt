@@ -1,5 +1,5 @@
 use mathlib.Core.Path.{refl}
-use Rattle.picking.specs.Answer.{refusedBy}
+use Rattle.picking.specs.Inner.{refusedBy}
 use Rattle.picking.proofs.refused.Statement.{statement}
 use Rattle.picking.proofs.refused.Tie as tie
 

@@ -1,5 +1,5 @@
 use Rattle.rules.proofs.Places.{Seeking, seek, found-here, not-here, none-here}
-use Rattle.streaming.specs.Answer.{defaultBroken}
+use Rattle.streaming.specs.Inner.{defaultBroken}
 use Rattle.streaming_descriptors.specs.Descriptors.{noFormat}
 use Prim.Native.Nat.{_-_}
 use lib.ListN.{getD}

@@ -1,4 +1,5 @@
--- The settings of a streaming interface, in order of appearance. `s` is the configuration.
+-- The settings of a streaming interface in order of appearance, and the one that is picked, computed. Nothing here needs to be believed: Holding and
+-- configuration_words/specs/Listed say it in words. `s` is the configuration.
 use Prim.Native.Nat.{ℕ, zero, suc}
 use mathlib.Core.List.{List, [], _∷_, map}
 use mathlib.Core.Bool.{Bool}
@@ -6,7 +7,7 @@ use lib.Dec.{ltb, eqb}
 use Rattle.rules.specs.Pick.{pick}
 use Rattle.configuration_rules.specs.Descriptors.{endpointType, typeAt, settingAt as numberOf, packetAt, afterAt, packetBytes}
 use Rattle.configuration_rules.specs.declared.Sought.the-variants as sought
-use Rattle.interfaces.specs.Line.{found, nextOf}
+use Rattle.interfaces.specs.Inner.{found, nextOf}
 use Rattle.settings.specs.declared.Setting.{Setting}
 use Rattle.settings.specs.declared.Choice.{Choice}
 use Rattle.settings.specs.declared.Choice.the-variants.{At, Nothing}

@@ -1,4 +1,4 @@
--- What is answered by 70, 71, 72 and 75: number by number over the whole configuration `s`.
+-- What is answered by 70, 71, 72 and 75, computed: number by number over the whole configuration `s`. Nothing here needs to be believed: Broken says it in words.
 use Prim.Native.Nat.{ℕ}
 use mathlib.Core.List.{List, [], _∷_}
 use lib.ListN.{length}
@@ -10,15 +10,8 @@ use Rattle.rules.specs.declared.Verdict.{Verdict}
 use Rattle.rules.specs.declared.Verdict.the-variants.{Accepted, Refused}
 use Rattle.configuration_rules.specs.Descriptors.{configurationType, typeAt}
 use Rattle.configuration_rules.specs.declared.Sought.the-variants.{Broken, Control}
-use Rattle.interfaces.specs.Line.{found, nextOf}
-use Rattle.interfaces.specs.Limits.{tooMany}
-
--- the fewest bytes of a configuration, and the most
-abbrev pub bytesLeast : ℕ
-bytesLeast = 9
-
-abbrev pub bytesMost : ℕ
-bytesMost = 32768
+use Rattle.interfaces.specs.Inner.{found, nextOf, tooMany}
+use Rattle.layout.specs.Broken.{bytesLeast, bytesMost}
 
 -- 70: under 9 or over 32,768 bytes, no configuration descriptor first; then the first descriptor that breaks it
 unfoldable pub verdict70 : List ℕ → Verdict
@@ -46,5 +39,5 @@ verdict72 s = controlsVerdict (found Control s 0)
 unfoldable pub verdict75 : List ℕ → Verdict
 verdict75 s = pick (ltb (tooMany s) (length s)) (Refused 75 (tooMany s)) Accepted
 
-unfoldable pub layoutOf : List ℕ → Verdict
-layoutOf s = verdict70 s andThen (verdict71 s andThen (verdict72 s andThen verdict75 s))
+unfoldable pub layoutVerdict : List ℕ → Verdict
+layoutVerdict s = verdict70 s andThen (verdict71 s andThen (verdict72 s andThen verdict75 s))

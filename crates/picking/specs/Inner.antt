@@ -1,4 +1,5 @@
--- What picking answers: the configuration's own refusals, then the setting with the fewest bytes that holds the payload size p, or 74. `s` is the configuration.
+-- What picking answers, computed: the configuration's own refusals, then the setting with the fewest bytes that holds the payload size p, or 74. Nothing here needs
+-- to be believed: configuration_words/specs/Picked says it in words. `s` is the configuration.
 use Prim.Native.Nat.{ℕ}
 use mathlib.Core.Path.{_≡_}
 use mathlib.Core.List.{List, []}
@@ -6,14 +7,15 @@ use lib.ListN.{getD}
 use lib.Dec.{eqb}
 use Rattle.rules.specs.Pick.{pick}
 use Rattle.rules.specs.declared.Verdict.the-variants.{Accepted, Refused}
-use Rattle.interfaces.specs.Blocks.{noStream, streamsOf, placeOf}
+use Rattle.interfaces.specs.Limits.{noStream}
+use Rattle.interfaces.specs.Inner.{streamsOf, placeOf}
 use Rattle.interfaces.specs.declared.Stream.{Stream}
-use Rattle.settings.specs.Settings.{settingsOf, fewestOf}
+use Rattle.settings.specs.Inner.{settingsOf, fewestOf}
 use Rattle.settings.specs.Holding.{noSetting}
 use Rattle.settings.specs.declared.Setting.{Setting}
 use Rattle.settings.specs.declared.Choice.{Choice}
 use Rattle.settings.specs.declared.Choice.the-variants.{At, Nothing}
-use Rattle.configuration.specs.Answer.{ConfigurationIs}
+use Rattle.configuration.specs.Inner.{ConfigurationIs}
 use Rattle.configuration.specs.declared.Configuration.{Configuration}
 use Rattle.picking.specs.declared.Picked.{Picked}
 
