@@ -1,0 +1,7 @@
+-- The laws that belong to no one function.
+pub mod Writing
+pub mod Refused
+pub mod Unique
+pub mod ReadsBack
+pub mod Cut
+pub mod Sends

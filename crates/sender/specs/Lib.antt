@@ -1,0 +1,4 @@
+pub mod Header
+pub mod Transfers
+pub mod Send
+pub mod Inner
