@@ -1,7 +1,7 @@
 -- The transfers of a frame: their data is the frame, every one but the last is full, and there is one.
-use Prim.Native.Nat.{ℕ, zero, suc, _+_, _-_, _≤_, _<_, min}
-use mathlib.Core.Path.{_≡_, refl, sym, ap, _∙_}
-use mathlib.Core.Bool.{Bool, true, false}
+use Prim.Native.Nat.{ℕ, zero, suc, _+_, _-_, _≤_, min}
+use mathlib.Core.Path.{_≡_, refl, ap, _∙_}
+use mathlib.Core.Bool.{Bool}
 use mathlib.Core.List.{List, [], _∷_, _++_}
 use native.Mathlib.Omega.{arith}
 use lib.ListN.{length, take, drop, length-append, length-take, length-drop, take-append-drop}
@@ -27,7 +27,7 @@ cut-data (suc k) p fid s (x ∷ l) h g =
     ∙ ap (λ (m : List ℕ). take p (x ∷ l) ++ m) (cut-data k p fid s (drop p (x ∷ l)) (omega arith) g)
     ∙ take-append-drop p (x ∷ l)
 
-part-length : (fid eof : Bool) (s : Stamp) (p : ℕ) (l : List ℕ) → length (written fid eof s ++ take p l) ≡ sizeOf s + length (take p l)
+pub part-length : (fid eof : Bool) (s : Stamp) (p : ℕ) (l : List ℕ) → length (written fid eof s ++ take p l) ≡ sizeOf s + length (take p l)
 part-length fid eof s p l = length-append (written fid eof s) (take p l) ∙ ap (λ (n : ℕ). n + length (take p l)) (header-length fid eof s)
 
 -- every transfer but the last is full

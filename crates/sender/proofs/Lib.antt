@@ -5,3 +5,7 @@ pub mod Unique
 pub mod ReadsBack
 pub mod Cut
 pub mod Sends
+pub mod Frames
+pub mod Arrival
+pub mod Claim
+pub mod Samples

@@ -1,6 +1,6 @@
 -- EXACTLY WHEN a call is refused, by which number; when it says that there is no more; and that neither changes anything.
 use Prim.Native.Nat.{ℕ, zero, suc, _≤_, _<_}
-use mathlib.Core.Path.{_≡_, refl, sym, _∙_}
+use mathlib.Core.Path.{_≡_, refl, sym}
 use mathlib.Core.Bool.{Bool, true, false}
 use mathlib.Core.List.{List}
 use mathlib.Core.Logic.{_↔_}
@@ -12,7 +12,6 @@ use Rattle.rules.specs.Numbered.{Row, firstRow, Given, here, later, NoneOf}
 use Rattle.rules.proofs.Rows.{Numbered, given-row, row-first, none-row, row-none}
 use Rattle.payload.specs.declared.Stamp.{Stamp}
 use Rattle.sender.specs.declared.Sender.{Sender}
-use Rattle.sender.specs.declared.Sending.{Sending}
 use Rattle.sender.specs.declared.Sending.the-variants.{Refused, Done, Wrote}
 use Rattle.sender.specs.declared.Sent.{Sent}
 use Rattle.sender.specs.Send.{transferAt, transferSize, frameRows, sendRows, sentBy, sendOf, roomBy, roomOf}

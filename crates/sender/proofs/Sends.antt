@@ -1,18 +1,18 @@
 -- CALL AFTER CALL a sender writes the transfers of the frame's cut, and then says that there is no more; frame after frame, from one sender.
-use Prim.Native.Nat.{ℕ, zero, suc, _+_, _-_, _≤_, _<_, min}
+use Prim.Native.Nat.{ℕ, zero, suc, _+_, _-_, _≤_, _<_}
 use mathlib.Core.Path.{_≡_, refl, sym, ap, subst, _∙_}
 use mathlib.Core.Bool.{Bool, true, false, not}
 use mathlib.Core.List.{List, [], _∷_, _++_}
 use native.Mathlib.Omega.{arith}
 use lib.ListN.{length, take, drop, length-drop, drop-of-length-le}
 use lib.Seq.{drop-drop}
-use lib.Dec.{ltb, leb}
+use lib.Dec.{leb}
 use borrow.Author.Tests.{lt-ltb, le-ltb, le-leb, lt-leb, leb-true, leb-false}
-use Rattle.rules.specs.Numbered.{firstRow, NoneOf}
+use Rattle.rules.specs.Numbered.{NoneOf}
 use Rattle.rules.proofs.Rows.{none-row}
 use Rattle.payload.specs.declared.Stamp.{Stamp}
 use Rattle.sender.specs.declared.Sender.{Sender}
-use Rattle.sender.specs.declared.Sending.the-variants.{Refused, Done, Wrote}
+use Rattle.sender.specs.declared.Sending.the-variants.{Done, Wrote}
 use Rattle.sender.specs.declared.Sent.{Sent}
 use Rattle.sender.specs.Header.{sizeOf, written}
 use Rattle.sender.specs.Transfers.{Frame, dataMost, isNil, cutBy, cut}

@@ -1,16 +1,16 @@
 -- What the tests of a call decide, and what it writes.
 use Prim.Native.Nat.{ℕ, zero, suc, _+_, _-_, _/_, _%_, _≤_, _<_, min}
 use mathlib.Core.Path.{_≡_, refl, sym, ap, _∙_}
-use mathlib.Core.Bool.{Bool, true, false, _&&_, _||_}
-use mathlib.Core.List.{List, [], _∷_, _++_, append-assoc}
+use mathlib.Core.Bool.{Bool, true, false}
+use mathlib.Core.List.{List, [], _∷_, _++_}
 use native.Mathlib.Omega.{arith}
 use lib.ListN.{length, take, drop, length-append, length-take, length-drop}
 use lib.Seq.{paste, take-at, drop-at, take-length, drop-drop, length-take-le, take-all}
 use lib.Dec.{ltb, leb, eqb}
 use borrow.Author.Tests.{lt-ltb, le-ltb, lt-leb, le-leb, eq-eqb, ne-eqb, ltb-false, leb-true, leb-false}
-use Rattle.rules.specs.Numbered.{firstRow, NoneOf}
+use Rattle.rules.specs.Numbered.{firstRow}
 use Rattle.rules.proofs.Rows.{or-first, or-second, row-none}
-use Rattle.sizes.specs.Sizes.{frameMost, payloadMost, frameSizeBroken}
+use Rattle.sizes.specs.Sizes.{payloadMost}
 use Rattle.sizes.proofs.Limits.{frame-sound}
 use Rattle.payload.specs.declared.Stamp.{Stamp}
 use Rattle.payload.specs.declared.Stamp.the-variants.{Absent, At}

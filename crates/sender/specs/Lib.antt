@@ -1,4 +1,5 @@
 pub mod Header
 pub mod Transfers
 pub mod Send
+pub mod Claim
 pub mod Inner
