@@ -1,16 +1,24 @@
 -- A sample of the claim, computed: three frames, one of them with a stamp, cut to a payload size of 8.
+use Prim.Native.Nat.{ℕ}
 use native.Mathlib.Omega.{arith}
 use mathlib.Core.Path.{_≡_, refl}
 use mathlib.Core.Bool.{false}
-use mathlib.Core.List.{List, [], _∷_}
+use mathlib.Core.List.{List, [], _∷_, _++_, map}
 use lib.ListN.{replicate}
 use Rattle.sizes.specs.Sizes.{frameSizeBroken, payloadSizeBroken, sizesBroken}
+use Rattle.rules.specs.Pick.{pick}
+use Rattle.rules.specs.Numbered.{firstFrom}
 use Rattle.sizes.specs.declared.Opening.{Opening}
 use Rattle.sizes.specs.declared.HeaderKind.the-variants.{Old}
 use Rattle.sizes.specs.Framing.{byEof}
 use Rattle.payload.specs.declared.Stamp.{Stamp}
+use Rattle.payload.specs.Layouts.{layoutOf}
+use Rattle.payload.specs.Transfer.{flagOf, layerPlace, needOf, flagsBy, stampOf, layerOf, headerBy, readingOf}
+use Rattle.ledger.specs.Entry.{Entry}
+use Rattle.session.specs.Call.{Call}
+use Rattle.books.specs.Rule.{framesBy}
 use Rattle.sender.specs.Transfers.{Frame, sentOf}
-use Rattle.sender.specs.Claim.{Receives}
+use Rattle.sender.specs.Claim.{delivered, Receives}
 
 abbrev opening : Opening
 opening = record { frame = 16; payload = 8; framing = 3; kind = Old }
@@ -21,6 +29,12 @@ film =
     ∷ record { load = 8 ∷ 9 ∷ 10 ∷ 11 ∷ []; stamp = Stamp.At 4_294_967_280 }
     ∷ record { load = 12 ∷ []; stamp = Stamp.Absent }
     ∷ []
+
+abbrev frameOf : ℕ → Frame
+frameOf x = record { load = x ∷ []; stamp = Stamp.Absent }
+
+abbrev one : ℕ → List Frame
+one x = frameOf x ∷ []
 
 pub sample-sent : sentOf 8 false film ≡
     (2 ∷ 128 ∷ 1 ∷ 2 ∷ 3 ∷ 4 ∷ 5 ∷ 6 ∷ []) ∷ (2 ∷ 130 ∷ 7 ∷ []) ∷ (6 ∷ 133 ∷ 240 ∷ 255 ∷ 255 ∷ 255 ∷ 8 ∷ 9 ∷ []) ∷ (6 ∷ 135 ∷ 240 ∷ 255 ∷ 255 ∷ 255 ∷ 10 ∷ 11 ∷ []) ∷ (2 ∷ 130 ∷ 12 ∷ []) ∷ []
@@ -43,3 +57,8 @@ sample-receives = record {
   );
   limit = omega arith;
 }
+
+-- two fresh senders: the second frame has the FID of the first, and is stray
+pub two-senders : framesBy opening (map Call.transfer (sentOf 8 false (one 170) ++ sentOf 8 false (one 187))) ≡ delivered (frameOf 170) ∷ record { entry = Entry.Stray 1; load = 187 ∷ [] } ∷ []
+unfolding pick firstFrom byEof layoutOf flagOf layerPlace needOf flagsBy stampOf layerOf headerBy readingOf
+two-senders = refl
