@@ -40,6 +40,11 @@ pub sample-sent : sentOf 8 false film ≡
     (2 ∷ 128 ∷ 1 ∷ 2 ∷ 3 ∷ 4 ∷ 5 ∷ 6 ∷ []) ∷ (2 ∷ 130 ∷ 7 ∷ []) ∷ (6 ∷ 133 ∷ 240 ∷ 255 ∷ 255 ∷ 255 ∷ 8 ∷ 9 ∷ []) ∷ (6 ∷ 135 ∷ 240 ∷ 255 ∷ 255 ∷ 255 ∷ 10 ∷ 11 ∷ []) ∷ (2 ∷ 130 ∷ 12 ∷ []) ∷ []
 sample-sent = refl
 
+-- the frames of that list, by the rule
+pub sample-frames : framesBy opening (map Call.transfer (sentOf 8 false film)) ≡ map delivered film
+unfolding pick firstFrom byEof layoutOf flagOf layerPlace needOf flagsBy stampOf layerOf headerBy readingOf
+sample-frames = refl
+
 -- the premises of the claim hold of it
 pub sample-receives : Receives opening (replicate 16 0) film
 unfolding byEof sizesBroken frameSizeBroken payloadSizeBroken
