@@ -72,18 +72,8 @@ fn spelt(buf: &mut [u8], name: &[u8], n: u64) -> usize
     ensures { λ r. ⌜ Put (now (buf .entry)) 0 (now (name .entry) ++ (decimal n ++ (10 ∷ []))) r (now (buf .exit)) ⌝ }
 {
     let named = text::put(buf, 0, name);
-    let told = digits(buf, named, n);
+    let told = text::digits(buf, named, n);
     text::put(buf, told, b"\n")
-}
-
-fn digits(buf: &mut [u8], at: usize, n: u64) -> usize
-    requires { ⌜ at + 20 ≤ length (now buf) ⌝ }
-    ensures { λ r. ⌜ Put (now (buf .entry)) at (decimal n) r (now (buf .exit)) ⌝ }
-    ensures { λ r. ⌜ r ≤ at + 20 ⌝ }
-{
-    let mut digits = [0u8; 20];
-    let k = io::decimal(n, &mut digits);
-    text::put(buf, at, &digits[..k])
 }
 
 fn setting_name(buf: &mut [u8], at: usize, setting: Setting) -> usize

@@ -1,6 +1,7 @@
 // Lines of text in a lent buffer: names, decimal numbers and line ends, one piece after the other. Each function answers the index after what it put.
 ghost use Prim.Native.Nat.{_+_, _*_, _≤_};
 ghost use lib.ListN.{length};
+ghost use Rattle.text.specs.Decimal.{decimal};
 ghost use Rattle.text.specs.Put.{Put};
 ghost use Rattle.text.specs.Text.{number as Text·number, numbers as Text·numbers, line as Text·line};
 
@@ -16,16 +17,25 @@ pub fn put(buf: &mut [u8], at: usize, src: &[u8]) -> usize
     at + src.len()
 }
 
+// Inner: the digits of a number: at most 20.
+pub fn digits(buf: &mut [u8], at: usize, n: u64) -> usize
+    requires { ⌜ at + 20 ≤ length (now buf) ⌝ }
+    ensures { λ r. ⌜ Put (now (buf .entry)) at (decimal n) r (now (buf .exit)) ⌝ }
+    ensures { λ r. ⌜ r ≤ at + 20 ⌝ }
+{
+    let mut digits = [0u8; 20];
+    let k = io::decimal(n, &mut digits);
+    put(buf, at, &digits[..k])
+}
+
 // Inner: a space and a number: at most 21 bytes.
 pub fn number(buf: &mut [u8], at: usize, n: u64) -> usize
     requires { ⌜ at + 21 ≤ length (now buf) ⌝ }
     ensures { λ r. ⌜ Put (now (buf .entry)) at (Text·number n) r (now (buf .exit)) ⌝ }
     ensures { λ r. ⌜ r ≤ at + 21 ⌝ }
 {
-    let mut digits = [0u8; 20];
-    let k = io::decimal(n, &mut digits);
     let next = put(buf, at, b" ");
-    put(buf, next, &digits[..k])
+    digits(buf, next, n)
 }
 
 // Inner: numbers, each after a space.

@@ -1,9 +1,9 @@
 use native.Mathlib.Omega.{arith}
 use mathlib.Core.Path.{_∙_}
 use Rattle.text.proofs.Decimals.{spelled, at-most-20}
 use borrow.Author.Needs.{needs}
-use Rattle.setup_lines.proofs.digits.Statement.{statement}
-use Rattle.setup_lines.proofs.digits.Tie as tie
+use Rattle.text.proofs.digits.Statement.{statement}
+use Rattle.text.proofs.digits.Tie as tie
 
 decimal-requires : tie.Need-decimal-requires
 decimal-requires c κs = search needs
