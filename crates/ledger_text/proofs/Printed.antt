@@ -7,6 +7,7 @@ use mathlib.Core.Logic.{_⊎_, inl, inr}
 use native.Mathlib.Omega.{arith}
 use lib.ListN.{length, take, replicate, length-replicate}
 use lib.Seq.{take-length}
+use Rattle.records.specs.declared.Form.the-variants.{Short}
 use Rattle.records.specs.Record.{recordsOf}
 use Rattle.trace.specs.declared.State.{State}
 use Rattle.trace.specs.declared.Trace.{Trace}
@@ -38,25 +39,25 @@ module _ (file : List ℕ) (u : Run file) where
   so-far = fed-on (u .reads) (u .frame₀) [] newReader (u .frame₀) (u .piece₀) (u .reader) (u .frame) (u .piece) (read-new (u .frame₀) (u .piece₀)) (u .fed)
 
   -- the trace at the end is that of the whole file
-  whole : (u .unread ≡ []) ⊎ (isDecided (u .reader .trace .state) ≡ true) → u .trace ≡ traced newTrace (u .frame₀) (recordsOf file)
+  whole : (u .unread ≡ []) ⊎ (isDecided (u .reader .trace .state) ≡ true) → u .trace ≡ traced newTrace (u .frame₀) (recordsOf Short file)
   whole (inl none) =
       read-last (u .frame₀) (bytesIn (u .reads)) (u .reader) (u .frame) (u .piece) so-far (u .trace) (u .last)
-      ∙ ap (λ (l : List ℕ). traced newTrace (u .frame₀) (recordsOf l)) (sym (u .all ∙ ap (bytesIn (u .reads) ++_) none ∙ append-nil (bytesIn (u .reads))))
+      ∙ ap (λ (l : List ℕ). traced newTrace (u .frame₀) (recordsOf Short l)) (sym (u .all ∙ ap (bytesIn (u .reads) ++_) none ∙ append-nil (bytesIn (u .reads))))
   whole (inr decided) =
       u .last
       ∙ sym (run-stays (u .reader .trace) (u .frame) (take (u .reader .have) (u .piece)) true (sym decided) refl .0)
       ∙ sym (read-decided (u .frame₀) (bytesIn (u .reads)) (u .reader) (u .frame) (u .piece) so-far decided (u .unread))
-      ∙ ap (λ (l : List ℕ). traced newTrace (u .frame₀) (recordsOf l)) (sym (u .all))
+      ∙ ap (λ (l : List ℕ). traced newTrace (u .frame₀) (recordsOf Short l)) (sym (u .all))
 
   -- THE BYTES that are printed
   pub prints : take (u .count) (u .buffer) ≡ printOf file
   prints =
-      let r = print-right (u .frame₀) (u .sized) (recordsOf file) in
-      let e : u .printed ≡ reportOf (traced newTrace (u .frame₀) (recordsOf file)) = u .finish ∙ ap reportOf (whole (u .enough)) in
+      let r = print-right (u .frame₀) (u .sized) (recordsOf Short file) in
+      let e : u .printed ≡ reportOf (traced newTrace (u .frame₀) (recordsOf Short file)) = u .finish ∙ ap reportOf (whole (u .enough)) in
       front-of room (textOf (u .printed .state) (u .printed .ledger .numbers)) (u .buffer₀) (u .count) (u .buffer) (u .roomy) (u .answer) (u .text) .text
       ∙ ap (λ (p : Printed). textOf (p .state) (p .ledger .numbers)) e
-      ∙ ap (λ (s : State). textOf s (reportOf (traced newTrace (u .frame₀) (recordsOf file)) .ledger .numbers)) (r .0)
-      ∙ ap (textOf (stateOf (recordsOf file))) (r .1)
+      ∙ ap (λ (s : State). textOf s (reportOf (traced newTrace (u .frame₀) (recordsOf Short file)) .ledger .numbers)) (r .0)
+      ∙ ap (textOf (stateOf (recordsOf Short file))) (r .1)
 
 -- and there is a run on every file: as one that reads it in one go
 module _ (file : List ℕ) where
@@ -64,10 +65,10 @@ module _ (file : List ℕ) where
   zeros n = replicate n 0
 
   abbrev frame : List ℕ
-  frame = tracedBuffer newTrace (zeros 256) (recordsOf (wholeIn file))
+  frame = tracedBuffer newTrace (zeros 256) (recordsOf Short (wholeIn file))
 
   abbrev reader : Reader
-  reader = record { trace = traced newTrace (zeros 256) (recordsOf (wholeIn file)); have = length file % 64 }
+  reader = record { trace = traced newTrace (zeros 256) (recordsOf Short (wholeIn file)); have = length file % 64 }
 
   after : After newTrace (zeros 256) file reader frame (overIn file)
   after = record {
@@ -78,7 +79,7 @@ module _ (file : List ℕ) where
   }
 
   abbrev trace : Trace
-  trace = traced (reader .trace) frame (recordsOf (take (reader .have) (overIn file)))
+  trace = traced (reader .trace) frame (recordsOf Short (take (reader .have) (overIn file)))
 
   abbrev text : List ℕ
   text = textOf (reportOf trace .state) (reportOf trace .ledger .numbers)

@@ -5,6 +5,7 @@ use mathlib.Core.Bool.{true}
 use mathlib.Core.List.{List, [], _∷_, _++_}
 use mathlib.Core.Logic.{_⊎_}
 use lib.ListN.{length, take}
+use Rattle.records.specs.declared.Form.the-variants.{Short}
 use Rattle.records.specs.Record.{recordsOf}
 use Rattle.trace.specs.declared.Trace.{Trace}
 use Rattle.trace.specs.declared.Printed.{Printed}
@@ -22,7 +23,7 @@ printRecords rs = textOf (stateOf rs) (printedBy (stateOf rs) rs)
 
 -- WHAT IS PRINTED of a trace file
 abbrev pub printOf : List ℕ → List ℕ
-printOf file = printRecords (recordsOf file)
+printOf file = printRecords (recordsOf Short file)
 
 -- the bytes of some reads, one after the other
 abbrev pub bytesIn : List (List ℕ) → List ℕ
@@ -50,7 +51,7 @@ pub record Run (file : List ℕ) : Type 0 where
   pub fed : Fed reads newReader frame₀ piece₀ reader frame piece
   pub enough : (unread ≡ []) ⊎ (isDecided (reader .trace .state) ≡ true)
   pub trace : Trace
-  pub last : trace ≡ traced (reader .trace) frame (recordsOf (take (reader .have) piece))
+  pub last : trace ≡ traced (reader .trace) frame (recordsOf Short (take (reader .have) piece))
   pub printed : Printed
   pub finish : printed ≡ reportOf trace
   pub buffer₀ : List ℕ

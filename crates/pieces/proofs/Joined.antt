@@ -6,6 +6,7 @@ use native.Mathlib.Omega.{arith}
 use lib.ListN.{length, take, drop, length-append, length-drop, take-append-drop}
 use lib.Seq.{length-take-le, take-at, drop-at}
 use Rattle.trace.specs.declared.Trace.{Trace}
+use Rattle.records.specs.declared.Form.the-variants.{Short}
 use Rattle.records.specs.Record.{recordsOf}
 use Rattle.trace.specs.Trace.{traced, tracedBuffer}
 use Rattle.trace.proofs.Pieces.{in-pieces}
@@ -43,12 +44,12 @@ module _ (bytes : List ℕ) (k : ℕ) (xs ys : List ℕ) (c : Cut bytes k xs ys)
   cut-have = omega (arith, many, c .whole, c .over)
 
   pub after-cut : (t : Trace) (b : List ℕ) (r : Reader) (frame piece : List ℕ)
-      → r .trace ≡ traced t b (recordsOf xs) → frame ≡ tracedBuffer t b (recordsOf xs) → r .have ≡ length ys → take (r .have) piece ≡ ys
+      → r .trace ≡ traced t b (recordsOf Short xs) → frame ≡ tracedBuffer t b (recordsOf Short xs) → r .have ≡ length ys → take (r .have) piece ≡ ys
       → After t b bytes r frame piece
   after-cut t b r frame piece e f h q =
       record {
-        trace = e ∙ ap (λ (l : List ℕ). traced t b (recordsOf l)) (sym cut-whole);
-        buffer = f ∙ ap (λ (l : List ℕ). tracedBuffer t b (recordsOf l)) (sym cut-whole);
+        trace = e ∙ ap (λ (l : List ℕ). traced t b (recordsOf Short l)) (sym cut-whole);
+        buffer = f ∙ ap (λ (l : List ℕ). tracedBuffer t b (recordsOf Short l)) (sym cut-whole);
         have = h ∙ sym cut-have;
         kept = q ∙ sym cut-over;
       }
@@ -87,9 +88,9 @@ module _ (t : Trace) (b bytes : List ℕ) (r : Reader) (frame piece : List ℕ) 
   after-more =
       let p = in-pieces k₁ t b (wholeIn bytes) (wholeIn next) (cut-of bytes .whole) in
       after-cut (bytes ++ more) (k₁ + k₂) (wholeIn bytes ++ wholeIn next) (overIn next) cut-more t b x frame' piece'
-      (v .trace ∙ ap (λ (y : Trace). traced y frame (recordsOf (wholeIn next))) (u .trace)
-      ∙ ap (λ (y : List ℕ). traced (traced t b (recordsOf (wholeIn bytes))) y (recordsOf (wholeIn next))) (u .buffer) ∙ sym (p .0))
-      (v .buffer ∙ ap (λ (y : Trace). tracedBuffer y frame (recordsOf (wholeIn next))) (u .trace)
-      ∙ ap (λ (y : List ℕ). tracedBuffer (traced t b (recordsOf (wholeIn bytes))) y (recordsOf (wholeIn next))) (u .buffer) ∙ sym (p .1))
+      (v .trace ∙ ap (λ (y : Trace). traced y frame (recordsOf Short (wholeIn next))) (u .trace)
+      ∙ ap (λ (y : List ℕ). traced (traced t b (recordsOf Short (wholeIn bytes))) y (recordsOf Short (wholeIn next))) (u .buffer) ∙ sym (p .0))
+      (v .buffer ∙ ap (λ (y : Trace). tracedBuffer y frame (recordsOf Short (wholeIn next))) (u .trace)
+      ∙ ap (λ (y : List ℕ). tracedBuffer (traced t b (recordsOf Short (wholeIn bytes))) y (recordsOf Short (wholeIn next))) (u .buffer) ∙ sym (p .1))
       (v .have ∙ cut-have next k₂ (wholeIn next) (overIn next) (cut-of next))
       (v .kept)

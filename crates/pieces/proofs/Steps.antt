@@ -6,6 +6,7 @@ use native.Mathlib.Omega.{arith}
 use lib.ListN.{length, take, drop, set, getD, length-append, length-drop, length-set}
 use lib.Seq.{length-take-le, take-suc, take-suc-set, take-all, take-add}
 use Rattle.trace.specs.declared.Trace.{Trace}
+use Rattle.records.specs.declared.Form.the-variants.{Short}
 use Rattle.records.specs.Record.{recordsOf}
 use Rattle.trace.specs.Trace.{traced, tracedBuffer}
 use Rattle.pieces.specs.Pieces.{After}
@@ -26,7 +27,7 @@ module _ (t : Trace) (at : ℕ) (frame piece : List ℕ) (n : length piece ≡ 6
       one = omega arith
 
   -- the last byte of a record
-  pub push-whole : (b : ℕ) (x : Trace) (frame' : List ℕ) → at < 64 → 63 ≤ at → x ≡ traced t frame (recordsOf (set piece at b)) → frame' ≡ tracedBuffer t frame (recordsOf (set piece at b))
+  pub push-whole : (b : ℕ) (x : Trace) (frame' : List ℕ) → at < 64 → 63 ≤ at → x ≡ traced t frame (recordsOf Short (set piece at b)) → frame' ≡ tracedBuffer t frame (recordsOf Short (set piece at b))
       → After t frame (take at piece ++ (b ∷ [])) (record { trace = x; have = 0 }) frame' (set piece at b)
   push-whole b x frame' h g e f =
       after-cut (take at piece ++ (b ∷ [])) 1 (set piece at b) [] (record { all = full ∙ sym (append-nil (set piece at b)); whole = length-set piece at b ∙ n; over = omega arith })
@@ -92,7 +93,7 @@ module _ (r : Reader) (frame₀ piece₀ input : List ℕ) where
           let z = length-take-le (end - at) (drop at input) (omega (arith, length-drop at input, w)) in
           omega (arith, z, on .within, w)
 
-      pub feed-whole : (x : Trace) (frame' : List ℕ) → reader .have ≡ 0 → x ≡ traced (reader .trace) frame (recordsOf part) → frame' ≡ tracedBuffer (reader .trace) frame (recordsOf part)
+      pub feed-whole : (x : Trace) (frame' : List ℕ) → reader .have ≡ 0 → x ≡ traced (reader .trace) frame (recordsOf Short part) → frame' ≡ tracedBuffer (reader .trace) frame (recordsOf Short part)
           → Feeding r frame₀ piece₀ input (record { trace = x; have = 0 }) frame' piece end
       feed-whole x frame' h e f =
           feed-on end part (record { trace = x; have = 0 }) frame' piece joins (omega (arith, w)) (on .room)
@@ -104,9 +105,9 @@ module _ (r : Reader) (frame₀ piece₀ input : List ℕ) where
 
 -- ---- the end
 module _ (t : Trace) (have : ℕ) (frame piece : List ℕ) where
-  pub last-part : (x : Trace) (frame' : List ℕ) → x ≡ traced t frame (recordsOf (take (have - 0) piece)) → frame' ≡ tracedBuffer t frame (recordsOf (take (have - 0) piece))
-      → (x ≡ traced t frame (recordsOf (take have piece))) × (frame' ≡ tracedBuffer t frame (recordsOf (take have piece)))
-  last-part x frame' e f = (e ∙ ap (λ (j : ℕ). traced t frame (recordsOf (take j piece))) all, f ∙ ap (λ (j : ℕ). tracedBuffer t frame (recordsOf (take j piece))) all)
+  pub last-part : (x : Trace) (frame' : List ℕ) → x ≡ traced t frame (recordsOf Short (take (have - 0) piece)) → frame' ≡ tracedBuffer t frame (recordsOf Short (take (have - 0) piece))
+      → (x ≡ traced t frame (recordsOf Short (take have piece))) × (frame' ≡ tracedBuffer t frame (recordsOf Short (take have piece)))
+  last-part x frame' e f = (e ∙ ap (λ (j : ℕ). traced t frame (recordsOf Short (take j piece))) all, f ∙ ap (λ (j : ℕ). tracedBuffer t frame (recordsOf Short (take j piece))) all)
     where
       all : have - 0 ≡ have
       all = omega arith

@@ -4,6 +4,7 @@ use mathlib.Core.Path.{_≡_}
 use mathlib.Core.List.{List}
 use lib.ListN.{length, take, drop}
 use Rattle.trace.specs.declared.Trace.{Trace}
+use Rattle.records.specs.declared.Form.the-variants.{Short}
 use Rattle.records.specs.Record.{recordsOf}
 use Rattle.trace.specs.Trace.{newTrace, traced, tracedBuffer}
 use Rattle.pieces.specs.declared.Reader.{Reader}
@@ -17,8 +18,8 @@ overIn bytes = drop (64 * (length bytes / 64)) bytes
 
 -- AFTER THESE BYTES, from a trace t with the frame buffer b: every whole record is read, and the bytes after them are kept at the front of the piece
 pub record After (t : Trace) (b bytes : List ℕ) (r : Reader) (frame piece : List ℕ) : Type 0 where
-  pub trace : r .trace ≡ traced t b (recordsOf (wholeIn bytes))
-  pub buffer : frame ≡ tracedBuffer t b (recordsOf (wholeIn bytes))
+  pub trace : r .trace ≡ traced t b (recordsOf Short (wholeIn bytes))
+  pub buffer : frame ≡ tracedBuffer t b (recordsOf Short (wholeIn bytes))
   pub have : r .have ≡ length bytes % 64
   pub kept : take (r .have) piece ≡ overIn bytes
 

@@ -3,6 +3,7 @@ ghost use mathlib.Core.Path.{_≡_};
 ghost use Prim.Native.Nat.{_<_};
 ghost use mathlib.Core.List.{[], _∷_, _++_};
 ghost use lib.ListN.{length, take};
+ghost use Rattle.records.specs.declared.Form.the-variants.{Short};
 ghost use Rattle.records.specs.Record.{recordsOf};
 ghost use Rattle.trace.specs.Trace.{traced, tracedBuffer};
 ghost use Rattle.pieces.specs.Pieces.{newReader, After};
@@ -74,8 +75,8 @@ pub fn feed(r: Reader, frame: &mut [u8], piece: &mut [u8], input: &[u8]) -> Read
 // Inner: the end of the input. What is left over is a partial record.
 pub fn last(r: Reader, frame: &mut [u8], piece: &[u8]) -> Trace
     requires { ⌜ (r .have < 64) × (length (now piece) ≡ 64) ⌝ }
-    ensures { λ x. ⌜ x ≡ traced (r .trace) (now (frame .entry)) (recordsOf (take (r .have) (now (piece .entry)))) ⌝ }
-    ensures { λ _. ⌜ now (frame .exit) ≡ tracedBuffer (r .trace) (now (frame .entry)) (recordsOf (take (r .have) (now (piece .entry)))) ⌝ }
+    ensures { λ x. ⌜ x ≡ traced (r .trace) (now (frame .entry)) (recordsOf Short (take (r .have) (now (piece .entry)))) ⌝ }
+    ensures { λ _. ⌜ now (frame .exit) ≡ tracedBuffer (r .trace) (now (frame .entry)) (recordsOf Short (take (r .have) (now (piece .entry)))) ⌝ }
 {
     let have = r.have;
     let t = r.trace;

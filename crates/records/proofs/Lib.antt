@@ -1,4 +1,6 @@
 pub mod Steps
 pub mod Fine
+pub mod Records
+pub mod Short
 pub mod Unique
 pub mod Samples

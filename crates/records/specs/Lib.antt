@@ -1,1 +1,3 @@
+pub mod Form
 pub mod Record
+pub mod Short

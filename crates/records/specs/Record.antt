@@ -1,35 +1,46 @@
--- Document 01, "The ledger program": one record of a trace. `r` is the record's bytes.
-use Prim.Native.Nat.{ℕ, zero, suc, _+_}
+-- Document 01, "The ledger program", and document 02, Thirteen: one record of a trace. `r` is the record's bytes.
+use Prim.Native.Nat.{ℕ, zero, suc, _+_, _*_}
 use mathlib.Core.List.{List, [], _∷_}
-use mathlib.Core.Bool.{Bool, _||_, not, _&&_}
+use mathlib.Core.Bool.{Bool, false, _||_, not, _&&_}
 use lib.ListN.{length, getD, take, drop}
 use lib.Dec.{ltb, eqb}
 use Rattle.fill.specs.Fill.{anySet}
+use Rattle.records.specs.declared.Form.{Form}
+use Rattle.records.specs.declared.Form.the-variants.{Short, Long}
+use Rattle.records.specs.Form.{sizeOf, headOf, mostOf}
 
--- kind (0 transfer, 1 lost, 2 close), length 0 to 62, the bytes, zero fill
+-- kind (0 transfer, 1 lost, 2 close), length, the bytes, zero fill
 abbrev pub kindAt : List ℕ → ℕ
 kindAt r = getD r 0 0
 
-abbrev pub lengthAt : List ℕ → ℕ
-lengthAt r = getD r 1 0
+-- the length: the second byte of a short record; of a long one the third and the fourth, the low one first
+abbrev pub lengthAt : Form → List ℕ → ℕ
+lengthAt Short r = getD r 1 0
+lengthAt Long r = getD r 2 0 + getD r 3 0 * 256
 
-abbrev pub bytesAt : List ℕ → List ℕ
-bytesAt r = take (lengthAt r) (drop 2 r)
+-- the second byte of a long record is not 0
+abbrev pub secondSet : Form → List ℕ → Bool
+secondSet Short r = false
+secondSet Long r = not (eqb (getD r 1 0) 0)
 
--- a partial record, kind over 2, length over 62, a length with kind 1 or 2, nonzero fill
-unfoldable pub recordBad : List ℕ → Bool
-recordBad r =
-    not (eqb (length r) 64)
+abbrev pub bytesAt : Form → List ℕ → List ℕ
+bytesAt f r = take (lengthAt f r) (drop (headOf f) r)
+
+-- a partial record, kind over 2, the second byte not 0, length over the most, a length with kind 1 or 2, nonzero fill
+unfoldable pub recordBad : Form → List ℕ → Bool
+recordBad f r =
+    not (eqb (length r) (sizeOf f))
     || (ltb 2 (kindAt r)
-    || (ltb 62 (lengthAt r)
-    || ((not (eqb (kindAt r) 0) && not (eqb (lengthAt r) 0))
-    || anySet (drop (2 + lengthAt r) r))))
+    || (secondSet f r
+    || (ltb (mostOf f) (lengthAt f r)
+    || ((not (eqb (kindAt r) 0) && not (eqb (lengthAt f r) 0))
+    || anySet (drop (headOf f + lengthAt f r) r)))))
 
--- THE RECORDS of a trace: 64 bytes each, and the last one what is left
-abbrev pub recordsBy : ℕ → List ℕ → List (List ℕ)
-recordsBy zero l = []
-recordsBy (suc k) [] = []
-recordsBy (suc k) (b ∷ bs) = take 64 (b ∷ bs) ∷ recordsBy k (drop 64 (b ∷ bs))
+-- THE RECORDS of a trace: each of the form's size, and the last one what is left
+abbrev pub recordsBy : Form → ℕ → List ℕ → List (List ℕ)
+recordsBy f zero l = []
+recordsBy f (suc k) [] = []
+recordsBy f (suc k) (b ∷ bs) = take (sizeOf f) (b ∷ bs) ∷ recordsBy f k (drop (sizeOf f) (b ∷ bs))
 
-unfoldable pub recordsOf : List ℕ → List (List ℕ)
-recordsOf l = recordsBy (length l) l
+unfoldable pub recordsOf : Form → List ℕ → List (List ℕ)
+recordsOf f l = recordsBy f (length l) l

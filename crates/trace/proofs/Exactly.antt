@@ -10,6 +10,7 @@ use borrow.Author.Tests.{le-ltb, ltb-false}
 use Rattle.rules.proofs.Rows.{or-first, or-second}
 use Rattle.refusals.specs.Refusals.{takenMost}
 use Rattle.session.specs.declared.Session.{Session}
+use Rattle.records.specs.declared.Form.the-variants.{Short}
 use Rattle.records.specs.Record.{recordBad}
 use Rattle.trace.specs.Trace.{newTrace, traced, printBy, reportOf}
 use Rattle.trace.specs.Standing.{closedIn, countIn, badAfter, pastAfter, stateAfter, stateOf, printedBy, AllGood, IsBad, IsPast, Stands}
@@ -52,12 +53,12 @@ good-and rs r g e f = record {
   few = ltb-false takenMost (countIn (and rs r)) f;
 }
   where
-    bad : (before : List (List ℕ)) (x : List ℕ) → AtLast rs r before x ⊎ ((more : List (List ℕ)) × (rs ≡ before ++ (x ∷ more))) → recordBad x ≡ false
-    bad before x (inl w) = ap recordBad (w .this) ∙ or-second (closedIn rs) (recordBad r) e
+    bad : (before : List (List ℕ)) (x : List ℕ) → AtLast rs r before x ⊎ ((more : List (List ℕ)) × (rs ≡ before ++ (x ∷ more))) → recordBad Short x ≡ false
+    bad before x (inl w) = ap (recordBad Short) (w .this) ∙ or-second (closedIn rs) (recordBad Short r) e
     bad before x (inr w) = g .none-bad before x (w .0) (w .1)
 
     close : (before : List (List ℕ)) (x : List ℕ) → AtLast rs r before x ⊎ ((more : List (List ℕ)) × (rs ≡ before ++ (x ∷ more))) → closedIn before ≡ false
-    close before x (inl w) = ap closedIn (w .all) ∙ or-first (closedIn rs) (recordBad r) e
+    close before x (inl w) = ap closedIn (w .all) ∙ or-first (closedIn rs) (recordBad Short r) e
     close before x (inr w) = g .none-after before x (w .0) (w .1)
 
 good-none : AllGood []
@@ -70,7 +71,7 @@ count-grows (r ∷ rs) qs = omega (arith, count-grows rs qs)
 
 module _ (rs : List (List ℕ)) (r : List ℕ) (rest : List (List ℕ)) (g : AllGood (rs ++ (r ∷ rest))) where
   not-bad : badAfter rs r ≡ false
-  not-bad = ap (_|| recordBad r) (g .none-after rs r rest refl) ∙ g .none-bad rs r rest refl
+  not-bad = ap (_|| recordBad Short r) (g .none-after rs r rest refl) ∙ g .none-bad rs r rest refl
 
   not-past : pastAfter rs r ≡ false
   not-past = le-ltb takenMost (countIn (and rs r)) (omega (arith, g .few, count-grows (and rs r) rest, ap countIn (append-assoc rs (r ∷ []) rest)))

@@ -12,6 +12,7 @@ use Rattle.books.specs.Rule.{entries, numbersOf}
 use Rattle.books.proofs.Histories.{numbers-taken}
 use Rattle.books.proofs.HandedOut.{asked-listed, asked-next}
 use Rattle.books.proofs.History.{next-opening}
+use Rattle.records.specs.declared.Form.the-variants.{Short}
 use Rattle.records.specs.Record.{recordBad}
 use Rattle.trace.specs.Record.{recordAsk, recordCall}
 use Rattle.trace.specs.Trace.{sizes, newTrace, numberOf, offered, readBy, stepOf, keptBy, stepBuffer, traced}
@@ -50,11 +51,11 @@ good s = record { session = s; state = Good }
 
 -- ---- one record
 module _ (s : Session) (b r : List ℕ) where
-  pub step-bad : (s .rest .closed || recordBad r) ≡ true → stepOf (good s) b r ≡ record { session = s; state = Bad (numberOf s) }
+  pub step-bad : (s .rest .closed || recordBad Short r) ≡ true → stepOf (good s) b r ≡ record { session = s; state = Bad (numberOf s) }
   unfolding stepOf
   step-bad e = ap (λ (x : Bool). readBy x s b (recordAsk r)) e
 
-  module _ (e : (s .rest .closed || recordBad r) ≡ false) where
+  module _ (e : (s .rest .closed || recordBad Short r) ≡ false) where
     pub step-refused : (k : ℕ) → refusal s (offerWith b (recordAsk r)) ≡ suc k → stepOf (good s) b r ≡ record { session = s; state = Refused (suc k) (numberOf s) }
     unfolding stepOf
     step-refused k q = ap (λ (x : Bool). readBy x s b (recordAsk r)) e ∙ ap (λ (n : ℕ). offered n s (next s (offerWith b (recordAsk r)))) q
@@ -74,19 +75,19 @@ module _ (s : Session) (b r : List ℕ) where
     pub on-refused : (k : ℕ) → refusal s (offerWith b (recordAsk r)) ≡ suc k → (rs : List (List ℕ)) → traced (good s) b (r ∷ rs) ≡ record { session = s; state = Refused (suc k) (numberOf s) }
     on-refused k q rs = ap (λ (t : Trace). traced t (stepBuffer (good s) b r) rs) (step-refused k q) ∙ stays-refused rs s (suc k) (numberOf s) (stepBuffer (good s) b r)
 
-  pub on-bad : (s .rest .closed || recordBad r) ≡ true → (rs : List (List ℕ)) → traced (good s) b (r ∷ rs) ≡ record { session = s; state = Bad (numberOf s) }
+  pub on-bad : (s .rest .closed || recordBad Short r) ≡ true → (rs : List (List ℕ)) → traced (good s) b (r ∷ rs) ≡ record { session = s; state = Bad (numberOf s) }
   on-bad e rs = ap (λ (t : Trace). traced t (stepBuffer (good s) b r) rs) (step-bad e) ∙ stays-bad rs s (numberOf s) (stepBuffer (good s) b r)
 
 pub good-taken : (rs : List (List ℕ)) (s : Session) (b : List ℕ) → byEof (s .rest .opening) ≡ true → traced (good s) b rs .state ≡ Good → Taken s b rs
 good-taken [] s b d e = record { session = refl; calls = refl }
 good-taken (r ∷ rs) s b d e =
-    go (s .rest .closed || recordBad r) refl (refusal s (offerWith b (recordAsk r))) refl (λ z. good-taken rs (next s (offerWith b (recordAsk r))) (bufferNext s b (recordAsk r)) (eof-next z))
+    go (s .rest .closed || recordBad Short r) refl (refusal s (offerWith b (recordAsk r))) refl (λ z. good-taken rs (next s (offerWith b (recordAsk r))) (bufferNext s b (recordAsk r)) (eof-next z))
   where
     -- the framing stays
     eof-next : refusal s (offerWith b (recordAsk r)) ≡ 0 → byEof (next s (offerWith b (recordAsk r)) .rest .opening) ≡ true
     eof-next z = ap (λ (x : Session). byEof (x .rest .opening)) (asked-next s b (recordAsk r) d z) ∙ ap byEof (next-opening s (recordCall r)) ∙ d
 
-    go : (x : Bool) → (s .rest .closed || recordBad r) ≡ x → (k : ℕ) → refusal s (offerWith b (recordAsk r)) ≡ k
+    go : (x : Bool) → (s .rest .closed || recordBad Short r) ≡ x → (k : ℕ) → refusal s (offerWith b (recordAsk r)) ≡ k
         → (refusal s (offerWith b (recordAsk r)) ≡ 0 → traced (good (next s (offerWith b (recordAsk r)))) (bufferNext s b (recordAsk r)) rs .state ≡ Good → Taken (next s (offerWith b (recordAsk r))) (bufferNext s b (recordAsk r)) rs)
         → Taken s b (r ∷ rs)
     go true q k z rec = absurd (good-bad (numberOf s) (sym (state-of (on-bad s b r q rs)) ∙ e))

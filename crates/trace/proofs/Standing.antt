@@ -24,6 +24,7 @@ use Rattle.books.proofs.HandedOut.{asked-next}
 use Rattle.books.proofs.Whole.{kept-all}
 use Rattle.books.proofs.Sound.{took-taken, after-opening}
 use Rattle.books.proofs.Theorems.{never-stuck}
+use Rattle.records.specs.declared.Form.the-variants.{Short}
 use Rattle.records.specs.Record.{kindAt, lengthAt, bytesAt, recordBad}
 use Rattle.trace.specs.Record.{askBy, recordAsk, recordCall}
 use Rattle.trace.specs.Trace.{sizes, newTrace, numberOf, traced}
@@ -48,13 +49,13 @@ closed-more [] r e = or-false (eqb (kindAt r) 2)
 closed-more (q ∷ rs) r e = rw (or-first (eqb (kindAt q) 2) (closedIn rs) e) (closed-more rs r (or-second (eqb (kindAt q) 2) (closedIn rs) e))
 
 -- ---- a good record: its kind is 0, 1 or 2, and its transfer is short
-kind-small : (r : List ℕ) → recordBad r ≡ false → kindAt r ≤ 2
+kind-small : (r : List ℕ) → recordBad Short r ≡ false → kindAt r ≤ 2
 unfolding recordBad
 kind-small r e = let k : ltb 2 (kindAt r) ≡ false = search (or-first, or-second) in ltb-false 2 (kindAt r) k
 
-short : (r : List ℕ) → recordBad r ≡ false → length (bytesAt r) ≤ 65536
+short : (r : List ℕ) → recordBad Short r ≡ false → length (bytesAt Short r) ≤ 65536
 unfolding recordBad
-short r e = let k : ltb 62 (lengthAt r) ≡ false = search (or-first, or-second) in simp length-take (omega (arith, ltb-false 62 (lengthAt r) k))
+short r e = let k : ltb 62 (lengthAt Short r) ≡ false = search (or-first, or-second) in simp length-take (omega (arith, ltb-false 62 (lengthAt Short r) k))
 
 -- ---- the call of a record of kind n, of an open session
 one-more : (n : ℕ) → n ≤ takenMost → eqb n takenMost ≡ ltb takenMost (n + 1)
@@ -74,21 +75,21 @@ took-closed s t (Unreadable k) = refl
 took-closed s t (Readable h) = refl
 
 module _ (s : Session) (b r : List ℕ) (open₀ : s .rest .closed ≡ false) where
-  call-refusal : (n : ℕ) → recordBroken s ≡ false → s .rest .opening .frame ≤ length b → length (bytesAt r) ≤ 65536 → s .rest .taken ≤ takenMost
+  call-refusal : (n : ℕ) → recordBroken s ≡ false → s .rest .opening .frame ≤ length b → length (bytesAt Short r) ≤ 65536 → s .rest .taken ≤ takenMost
       → refusal s (offerWith b (askBy n r)) ≡ orElse (ltb takenMost (s .rest .taken + cond (ltb n 2) 1 0)) 52 0
-  call-refusal zero a m l k = rw (a, open₀, le-ltb (length b) (s .rest .opening .frame) m, le-ltb 65536 (length (bytesAt r)) l) (ap (λ (c : Bool). orElse c 52 0) (one-more (s .rest .taken) k))
+  call-refusal zero a m l k = rw (a, open₀, le-ltb (length b) (s .rest .opening .frame) m, le-ltb 65536 (length (bytesAt Short r)) l) (ap (λ (c : Bool). orElse c 52 0) (one-more (s .rest .taken) k))
   call-refusal (suc zero) a m l k = rw (a, open₀) (ap (λ (c : Bool). orElse c 52 0) (one-more (s .rest .taken) k))
   call-refusal (suc (suc n)) a m l k = rw (a, open₀, le-ltb (suc (suc n)) 2 (omega arith), le-ltb takenMost (s .rest .taken + 0) (omega arith))
 
   call-closed : (n : ℕ) → n ≤ 2 → nextCall s (heardOf (askBy n r)) .rest .closed ≡ eqb n 2
   unfolding tookOf
-  call-closed zero e = took-closed s (bytesAt r) (readingOf (s .rest .opening) (bytesAt r)) ∙ open₀
+  call-closed zero e = took-closed s (bytesAt Short r) (readingOf (s .rest .opening) (bytesAt Short r)) ∙ open₀
   call-closed (suc zero) e = open₀
   call-closed (suc (suc n)) e = sym (eq-eqb (suc (suc n)) 2 (omega arith))
 
   call-taken : (n : ℕ) → nextCall s (heardOf (askBy n r)) .rest .taken ≡ s .rest .taken + cond (ltb n 2) 1 0
   unfolding tookOf
-  call-taken zero = took-taken s (bytesAt r) (readingOf (s .rest .opening) (bytesAt r))
+  call-taken zero = took-taken s (bytesAt Short r) (readingOf (s .rest .opening) (bytesAt Short r))
   call-taken (suc zero) = refl
   call-taken (suc (suc n)) = rw (le-ltb (suc (suc n)) 2 (omega arith)) (omega arith)
 
@@ -139,10 +140,10 @@ module _ (b₀ : List ℕ) (room : 256 ≤ length b₀) where
 
   module _ (rs : List (List ℕ)) (s : Session) (b r : List ℕ) (w : Holds rs s b) (fine : badAfter rs r ≡ false) where
     still-open : s .rest .closed ≡ false
-    still-open = w .closed₀ ∙ or-first (closedIn rs) (recordBad r) fine
+    still-open = w .closed₀ ∙ or-first (closedIn rs) (recordBad Short r) fine
 
-    good₀ : recordBad r ≡ false
-    good₀ = or-second (closedIn rs) (recordBad r) fine
+    good₀ : recordBad Short r ≡ false
+    good₀ = or-second (closedIn rs) (recordBad Short r) fine
 
     refuses : refusal s (offerWith b (recordAsk r)) ≡ orElse (pastAfter rs r) 52 0
     refuses =
@@ -154,7 +155,7 @@ module _ (b₀ : List ℕ) (room : 256 ≤ length b₀) where
         let q : next s (offerWith b (recordAsk r)) ≡ nextCall s (recordCall r) = asked-next s b (recordAsk r) (framed s b (w .along)) (refuses ∙ ap (λ (c : Bool). orElse c 52 0) e) in
         record {
           along = along-next s b (recordAsk r) (w .along);
-          closed₀ = ap (λ (x : Session). x .rest .closed) q ∙ call-closed s b r still-open (kindAt r) (kind-small r good₀) ∙ sym (closed-more rs r (or-first (closedIn rs) (recordBad r) fine));
+          closed₀ = ap (λ (x : Session). x .rest .closed) q ∙ call-closed s b r still-open (kindAt r) (kind-small r good₀) ∙ sym (closed-more rs r (or-first (closedIn rs) (recordBad Short r) fine));
           taken₀ = ap (λ (x : Session). x .rest .taken) q ∙ call-taken s b r still-open (kindAt r) ∙ ap (_+ cond (ltb (kindAt r) 2) 1 0) (w .taken₀) ∙ sym (count-more rs r);
           few = ltb-false takenMost (countIn (and rs r)) e;
           number = ap numberOf q ∙ call-number s b r still-open (recordAsk r) ∙ omega (arith, w .number, length-append rs (r ∷ []));
@@ -168,11 +169,11 @@ module _ (b₀ : List ℕ) (room : 256 ≤ length b₀) where
       go : (x : Bool) → badAfter rs r ≡ x → (y : Bool) → pastAfter rs r ≡ y
           → (Holds (and rs r) (next s (offerWith b (recordAsk r))) (bufferNext s b (recordAsk r)) → traced (good (next s (offerWith b (recordAsk r)))) (bufferNext s b (recordAsk r)) more .state ≡ stateAfter (and rs r) more)
           → traced (good s) b (r ∷ more) .state ≡ cond x (Bad (length rs + 1)) (cond y (Refused 52 (length rs + 1)) (stateAfter (and rs r) more))
-      go true e y f rec = state-of (on-bad s b r (ap (_|| recordBad r) (w .closed₀) ∙ e) more) ∙ ap Bad (w .number)
+      go true e y f rec = state-of (on-bad s b r (ap (_|| recordBad Short r) (w .closed₀) ∙ e) more) ∙ ap Bad (w .number)
       go false e true f rec =
-          state-of (on-refused s b r (ap (_|| recordBad r) (w .closed₀) ∙ e) 51 (refuses rs s b r w e ∙ ap (λ (c : Bool). orElse c 52 0) f) more) ∙ ap (Refused 52) (w .number)
+          state-of (on-refused s b r (ap (_|| recordBad Short r) (w .closed₀) ∙ e) 51 (refuses rs s b r w e ∙ ap (λ (c : Bool). orElse c 52 0) f) more) ∙ ap (Refused 52) (w .number)
       go false e false f rec =
-          state-of (on-good s b r (ap (_|| recordBad r) (w .closed₀) ∙ e) (refuses rs s b r w e ∙ ap (λ (c : Bool). orElse c 52 0) f) more) ∙ rec (goes-on rs s b r w e f)
+          state-of (on-good s b r (ap (_|| recordBad Short r) (w .closed₀) ∙ e) (refuses rs s b r w e ∙ ap (λ (c : Bool). orElse c 52 0) f) more) ∙ rec (goes-on rs s b r w e f)
 
   -- HOW A TRACE STANDS
   pub state-right : (rs : List (List ℕ)) → traced newTrace b₀ rs .state ≡ stateOf rs

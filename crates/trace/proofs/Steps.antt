@@ -28,6 +28,7 @@ use Rattle.refusals.specs.Refusals.{openingFlags}
 use Rattle.session.specs.Refusals.{takeRows, lostRows, closeRows, ledgerOf}
 use Rattle.session.specs.Session.{fresh, openOf, takeBy, takeOf, lostBy, lostOf, closeBy, closeOf}
 use Rattle.session.proofs.Refused.{Met, met, not-both}
+use Rattle.records.specs.declared.Form.the-variants.{Short}
 use Rattle.records.specs.Record.{kindAt, lengthAt, recordBad}
 use Rattle.trace.specs.Record.{askBy, recordAsk}
 use Rattle.trace.specs.Trace.{sizes, newTrace, numberOf, offered, readCall, readBy, keptBy, stepBy, stepBufferBy, stepOf, stepBuffer, printBy, reportOf}
@@ -169,7 +170,7 @@ module _ (s : Session) (b r : List ℕ) where
   as-call : (c : Ask) (x : Trace) (y : List ℕ) → recordAsk r ≡ c → x ≡ readCall s b c → y ≡ bufferNext s b c → Called s b r x y
   as-call c x y e u v = (u ∙ sym (ap (readCall s b) e), v ∙ sym (ap (bufferNext s b) e))
 
-  pub call-transfer : (n m : ℕ) (x : Trace) (y : List ℕ) → kindAt r ≡ 0 → n ≡ lengthAt r → m ≡ n → x ≡ readCall s b (Ask.transfer (take m (drop 2 r))) → y ≡ bufferNext s b (Ask.transfer (take m (drop 2 r))) → Called s b r x y
+  pub call-transfer : (n m : ℕ) (x : Trace) (y : List ℕ) → kindAt r ≡ 0 → n ≡ lengthAt Short r → m ≡ n → x ≡ readCall s b (Ask.transfer (take m (drop 2 r))) → y ≡ bufferNext s b (Ask.transfer (take m (drop 2 r))) → Called s b r x y
   call-transfer n m x y k e f u v =
       as-call (Ask.transfer (take m (drop 2 r))) x y (ap (λ (i : ℕ). askBy i r) k ∙ ap (λ (i : ℕ). Ask.transfer (take i (drop 2 r))) (sym (f ∙ e))) u v
 
@@ -190,26 +191,26 @@ Stepped t b r x y = (x ≡ stepOf t b r) × (y ≡ stepBuffer t b r)
 
 module _ (t : Trace) (b r : List ℕ) where
   module _ (e : t .state ≡ Good) where
-    read-law : (x : Bool) → (t .session .rest .closed || recordBad r) ≡ x → stepOf t b r ≡ readBy x (t .session) b (recordAsk r)
+    read-law : (x : Bool) → (t .session .rest .closed || recordBad Short r) ≡ x → stepOf t b r ≡ readBy x (t .session) b (recordAsk r)
     unfolding stepOf
     read-law x q = ap (λ (z : State). stepBy z (t .session) b r) e ∙ ap (λ (z : Bool). readBy z (t .session) b (recordAsk r)) q
 
-    kept-law : (x : Bool) → (t .session .rest .closed || recordBad r) ≡ x → stepBuffer t b r ≡ keptBy x (t .session) b (recordAsk r)
+    kept-law : (x : Bool) → (t .session .rest .closed || recordBad Short r) ≡ x → stepBuffer t b r ≡ keptBy x (t .session) b (recordAsk r)
     unfolding stepBuffer
     kept-law x q = ap (λ (z : State). stepBufferBy z (t .session) b r) e ∙ ap (λ (z : Bool). keptBy z (t .session) b (recordAsk r)) q
 
-    worst : (n : ℕ) → (t .session .rest .closed || recordBad r) ≡ true → n ≡ numberOf (t .session) → Stepped t b r (record { session = t .session; state = Bad n }) b
+    worst : (n : ℕ) → (t .session .rest .closed || recordBad Short r) ≡ true → n ≡ numberOf (t .session) → Stepped t b r (record { session = t .session; state = Bad n }) b
     worst n q m = (ap (λ (k : ℕ). record { session = t .session; state = Bad k }) m ∙ sym (read-law true q), sym (kept-law true q))
 
     pub step-closed : (n : ℕ) → t .session .rest .closed ≡ true → n ≡ numberOf (t .session) → Stepped t b r (record { session = t .session; state = Bad n }) b
-    step-closed n c m = worst n (ap (λ (z : Bool). z || recordBad r) c) m
+    step-closed n c m = worst n (ap (λ (z : Bool). z || recordBad Short r) c) m
 
-    pub step-worst : (n : ℕ) (x : Bool) → t .session .rest .closed ≡ false → x ≡ recordBad r → x ≡ true → n ≡ numberOf (t .session) → Stepped t b r (record { session = t .session; state = Bad n }) b
-    step-worst n x c f g m = worst n (ap (λ (z : Bool). z || recordBad r) c ∙ (sym f ∙ g)) m
+    pub step-worst : (n : ℕ) (x : Bool) → t .session .rest .closed ≡ false → x ≡ recordBad Short r → x ≡ true → n ≡ numberOf (t .session) → Stepped t b r (record { session = t .session; state = Bad n }) b
+    step-worst n x c f g m = worst n (ap (λ (z : Bool). z || recordBad Short r) c ∙ (sym f ∙ g)) m
 
-    pub step-called : (x : Bool) (y : Trace) (z : List ℕ) → t .session .rest .closed ≡ false → x ≡ recordBad r → x ≡ false → y ≡ readCall (t .session) b (recordAsk r) → z ≡ bufferNext (t .session) b (recordAsk r) → Stepped t b r y z
+    pub step-called : (x : Bool) (y : Trace) (z : List ℕ) → t .session .rest .closed ≡ false → x ≡ recordBad Short r → x ≡ false → y ≡ readCall (t .session) b (recordAsk r) → z ≡ bufferNext (t .session) b (recordAsk r) → Stepped t b r y z
     step-called x y z c f g u v =
-        let q : (t .session .rest .closed || recordBad r) ≡ false = ap (λ (w : Bool). w || recordBad r) c ∙ (sym f ∙ g) in
+        let q : (t .session .rest .closed || recordBad Short r) ≡ false = ap (λ (w : Bool). w || recordBad Short r) c ∙ (sym f ∙ g) in
         (u ∙ sym (read-law false q), v ∙ sym (kept-law false q))
 
 -- ---- the end

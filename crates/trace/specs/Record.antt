@@ -2,11 +2,12 @@
 use Prim.Native.Nat.{ℕ, zero, suc}
 use mathlib.Core.List.{List}
 use Rattle.session.specs.Call.{Ask, Call, heardOf}
+use Rattle.records.specs.declared.Form.the-variants.{Short}
 use Rattle.records.specs.Record.{kindAt, bytesAt}
 
 -- the call that a good record stands for, and how it stands in the list
 abbrev pub askBy : ℕ → List ℕ → Ask
-askBy zero r = Ask.transfer (bytesAt r)
+askBy zero r = Ask.transfer (bytesAt Short r)
 askBy (suc zero) r = Ask.lost
 askBy (suc (suc k)) r = Ask.close
 

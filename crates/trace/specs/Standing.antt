@@ -8,6 +8,7 @@ use lib.Dec.{ltb, eqb}
 use Rattle.ledger.specs.Ledger.{noLedger}
 use Rattle.refusals.specs.Refusals.{takenMost}
 use Rattle.books.specs.Rule.{entries, numbersOf}
+use Rattle.records.specs.declared.Form.the-variants.{Short}
 use Rattle.records.specs.Record.{kindAt, recordBad}
 use Rattle.trace.specs.Record.{recordCall}
 use Rattle.trace.specs.Trace.{sizes}
@@ -26,7 +27,7 @@ countIn (r ∷ rs) = cond (ltb (kindAt r) 2) 1 0 + countIn rs
 
 -- the record r after the records rs: bad in itself, or because anything after close is
 abbrev pub badAfter : List (List ℕ) → List ℕ → Bool
-badAfter rs r = closedIn rs || recordBad r
+badAfter rs r = closedIn rs || recordBad Short r
 
 -- or past the limit of 4,294,967,295 transfers and reports
 abbrev pub pastAfter : List (List ℕ) → List ℕ → Bool
@@ -49,7 +50,7 @@ printedBy (Refused k n) rs = noLedger .numbers
 
 -- THE SAME, CASE BY CASE. Good: no record is bad, nothing comes after close, and no more than 4,294,967,295 records are of kind 0 or 1.
 pub record AllGood (rs : List (List ℕ)) : Type 0 where
-  pub none-bad : (before : List (List ℕ)) (r : List ℕ) (rest : List (List ℕ)) → rs ≡ before ++ (r ∷ rest) → recordBad r ≡ false
+  pub none-bad : (before : List (List ℕ)) (r : List ℕ) (rest : List (List ℕ)) → rs ≡ before ++ (r ∷ rest) → recordBad Short r ≡ false
   pub none-after : (before : List (List ℕ)) (r : List ℕ) (rest : List (List ℕ)) → rs ≡ before ++ (r ∷ rest) → closedIn before ≡ false
   pub few : countIn rs ≤ takenMost
 

@@ -10,6 +10,7 @@ use Rattle.ledger.specs.Ledger.{noLedger}
 use Rattle.session.specs.declared.Session.{Session}
 use Rattle.session.specs.Refusals.{ledgerOf}
 use Rattle.session.specs.Session.{fresh}
+use Rattle.records.specs.declared.Form.the-variants.{Short}
 use Rattle.records.specs.Record.{recordBad}
 use Rattle.trace.specs.Record.{recordAsk}
 use Rattle.trace.specs.declared.State.{State}
@@ -48,7 +49,7 @@ readBy true s buffer c = record { session = s; state = Bad (numberOf s) }
 readBy false s buffer c = readCall s buffer c
 
 abbrev pub stepBy : State → Session → List ℕ → List ℕ → Trace
-stepBy Good s buffer r = readBy (s .rest .closed || recordBad r) s buffer (recordAsk r)
+stepBy Good s buffer r = readBy (s .rest .closed || recordBad Short r) s buffer (recordAsk r)
 stepBy (Bad n) s buffer r = record { session = s; state = Bad n }
 stepBy (Refused k n) s buffer r = record { session = s; state = Refused k n }
 
@@ -62,7 +63,7 @@ keptBy true s buffer c = buffer
 keptBy false s buffer c = bufferNext s buffer c
 
 abbrev pub stepBufferBy : State → Session → List ℕ → List ℕ → List ℕ
-stepBufferBy Good s buffer r = keptBy (s .rest .closed || recordBad r) s buffer (recordAsk r)
+stepBufferBy Good s buffer r = keptBy (s .rest .closed || recordBad Short r) s buffer (recordAsk r)
 stepBufferBy (Bad n) s buffer r = buffer
 stepBufferBy (Refused k n) s buffer r = buffer
 
@@ -99,5 +100,5 @@ pub record BadFrom (s : Session) (b : List ℕ) (rs : List (List ℕ)) (n : ℕ)
   pub rest : List (List ℕ)
   pub split : rs ≡ before ++ (worst ∷ rest)
   pub fine : traced (goodOf s) b before .state ≡ Good
-  pub broken : (traced (goodOf s) b before .session .rest .closed || recordBad worst) ≡ true
+  pub broken : (traced (goodOf s) b before .session .rest .closed || recordBad Short worst) ≡ true
   pub number : n ≡ numberOf s + length before

@@ -4,6 +4,7 @@ ghost use Prim.Native.Nat.{_≤_};
 ghost use mathlib.Core.List.{[]};
 ghost use lib.ListN.{length};
 ghost use Rattle.ledger.specs.Accounts.{numberCount};
+ghost use Rattle.records.specs.declared.Form.the-variants.{Short};
 ghost use Rattle.records.specs.Record.{lengthAt, recordsOf};
 ghost use Rattle.trace.specs.Record.{recordAsk};
 ghost use Rattle.trace.specs.Trace.{newTrace, readCall, stepOf, stepBuffer, traced, tracedBuffer, goodOf, reportOf};
@@ -13,6 +14,7 @@ ghost use Rattle.session.specs.Calls.{bufferNext};
 ghost use Rattle.trace.specs.Inner.{endOf, goingWith, goodWith, numberRest, answeredBy, isDecided};
 use ledger::Ledger;
 use ledger::Numbers;
+use records::Form;
 use session::Closing;
 use session::Outcome;
 use session::Report;
@@ -127,7 +129,7 @@ fn close(s: Rest, m: &mut Numbers) -> Going
 
 // The call of a good record.
 fn call(s: Rest, m: &mut Numbers, buffer: &mut [u8], r: &[u8]) -> Going
-    requires { ⌜ (length (now r) ≡ 64) × (lengthAt (now r) ≤ 62) × (length (now m) ≡ numberCount) ⌝ }
+    requires { ⌜ (length (now r) ≡ 64) × (lengthAt Short (now r) ≤ 62) × (length (now m) ≡ numberCount) ⌝ }
     ensures { λ x. ⌜ goingWith x (now (m .exit)) ≡ readCall (wholeOf s (now (m .entry))) (now (buffer .entry)) (recordAsk (now (r .entry))) ⌝ }
     ensures { λ _. ⌜ now (buffer .exit) ≡ bufferNext (wholeOf s (now (m .entry))) (now (buffer .entry)) (recordAsk (now (r .entry))) ⌝ }
 {
@@ -154,7 +156,7 @@ fn step(s: Rest, m: &mut Numbers, buffer: &mut [u8], r: &[u8]) -> Going
             state: State::Bad(number(s)),
         };
     }
-    if records::bad(r) {
+    if records::bad(Form::Short, r) {
         return Going {
             rest: s,
             state: State::Bad(number(s)),
@@ -168,10 +170,12 @@ fn end_of(at: usize, len: usize) -> usize
     requires { ⌜ at ≤ len ⌝ }
     ensures { λ r. ⌜ r ≡ endOf at len ⌝ }
 {
-    if len - at < records::SIZE {
+    let form = Form::Short;
+    let size = form.size();
+    if len - at < size {
         return len;
     }
-    at + records::SIZE
+    at + size
 }
 
 // A bad or refused record decides a trace.
@@ -187,8 +191,8 @@ fn decided(state: State) -> bool
 
 // A good trace goes on. Its ledger's numbers are taken out once, for all the records.
 fn follow(s: Session, buffer: &mut [u8], records: &[u8]) -> Trace
-    ensures { λ x. ⌜ x ≡ traced (goodOf s) (now (buffer .entry)) (recordsOf (now (records .entry))) ⌝ }
-    ensures { λ _. ⌜ now (buffer .exit) ≡ tracedBuffer (goodOf s) (now (buffer .entry)) (recordsOf (now (records .entry))) ⌝ }
+    ensures { λ x. ⌜ x ≡ traced (goodOf s) (now (buffer .entry)) (recordsOf Short (now (records .entry))) ⌝ }
+    ensures { λ _. ⌜ now (buffer .exit) ≡ tracedBuffer (goodOf s) (now (buffer .entry)) (recordsOf Short (now (records .entry))) ⌝ }
 {
     let mut numbers = s.numbers;
     let mut rest = s.rest;
@@ -228,8 +232,8 @@ impl Trace {
 
     // So many records more, the last of which may be partial. The first bad record decides, and nothing is read after it.
     pub fn run(self, buffer: &mut [u8], records: &[u8]) -> Self
-        ensures { λ x. ⌜ x ≡ traced self (now (buffer .entry)) (recordsOf (now (records .entry))) ⌝ }
-        ensures { λ _. ⌜ now (buffer .exit) ≡ tracedBuffer self (now (buffer .entry)) (recordsOf (now (records .entry))) ⌝ }
+        ensures { λ x. ⌜ x ≡ traced self (now (buffer .entry)) (recordsOf Short (now (records .entry))) ⌝ }
+        ensures { λ _. ⌜ now (buffer .exit) ≡ tracedBuffer self (now (buffer .entry)) (recordsOf Short (now (records .entry))) ⌝ }
     {
         let state = self.state;
         if decided(state) {

@@ -3,17 +3,25 @@ use borrow.Author.Needs.{needs}
 use Rattle.trace.proofs.end_of.Statement.{statement}
 use Rattle.trace.proofs.end_of.Tie as tie
 
+-- src/lib.rt:174:9
+size-requires : tie.Need-size-requires
+size-requires c κs = search needs
+
+-- src/lib.rt:175:8
 sub-if1 : tie.Need-sub-if1
 sub-if1 c = search needs
 
+-- src/lib.rt:176:9
 returns : tie.Need-returns
 returns c = search end-short
 
+-- src/lib.rt:178:5
 add-result : tie.Need-add-result
 add-result c = search needs
 
+-- src/lib.rt:169:1
 returns-2 : tie.Need-returns-2
 returns-2 c = search end-whole
 
 pub end-of-spec : {M : Type 1} → statement M
-end-of-spec = tie.close (tie.spec sub-if1 returns add-result returns-2)
+end-of-spec = tie.close (tie.spec size-requires sub-if1 returns add-result returns-2)

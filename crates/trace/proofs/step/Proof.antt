@@ -1,5 +1,6 @@
 use mathlib.Core.Path.{refl, sym, _∙_}
 use denote.Ref.{now}
+use Rattle.records.specs.declared.Form.the-variants.{Short}
 use Rattle.records.proofs.Fine.{fine}
 use Rattle.trace.proofs.Steps.{step-closed, step-worst, step-called}
 use borrow.Author.Needs.{needs}
@@ -30,7 +31,7 @@ returns-2 c =
 call-requires : tie.Need-call-requires
 call-requires c κs =
     let s = c .before .before .before .before .before .before .before in
-    let f = fine (now (s .args .r)) (sym (c .before .before .before .bad .ensures) ∙ c .before .before .if2 .left) in (f .size, f .short, s .pre)
+    let f = fine Short (now (s .args .r)) (sym (c .before .before .before .bad .ensures) ∙ c .before .before .if2 .left) in (f .size, f .short, s .pre)
 
 same-length : tie.Need-same-length
 same-length c = search needs
