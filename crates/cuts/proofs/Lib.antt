@@ -2,3 +2,4 @@ pub mod Steps
 pub mod Cut
 pub mod Goes
 pub mod Feed
+pub mod Walk

@@ -1,5 +1,5 @@
 -- A stream that comes in reads of any size, cut into records of n bytes each.
-use Prim.Native.Nat.{ℕ, zero, suc, _*_, _<_}
+use Prim.Native.Nat.{ℕ, zero, suc, _+_, _-_, _*_, _<_}
 use mathlib.Core.Path.{_≡_}
 use mathlib.Core.List.{List, [], _∷_, _++_}
 use lib.ListN.{length, take, drop}
@@ -34,3 +34,7 @@ Folds {A} over = (a : A) (xs ys : List (List ℕ)) → over a (xs ++ ys) ≡ ove
 -- the lesser of two
 abbrev pub leastOf : ℕ → ℕ → ℕ
 leastOf a b = pick (ltb a b) a b
+
+-- where the record ends that begins at `at`, of so many bytes
+abbrev pub nextOf : ℕ → ℕ → ℕ → ℕ
+nextOf n at len = pick (ltb (len - at) n) len (at + n)

@@ -3,7 +3,7 @@ ghost use mathlib.Core.Path.{_≡_};
 ghost use Prim.Native.Nat.{_-_, _%_, _≤_, _<_};
 ghost use lib.ListN.{length, take};
 ghost use lib.Seq.{paste};
-ghost use Rattle.cuts.specs.Cuts.{leastOf};
+ghost use Rattle.cuts.specs.Cuts.{leastOf, nextOf};
 
 // The lesser of two.
 fn least(a: usize, b: usize) -> usize
@@ -33,4 +33,15 @@ pub fn end(size: usize, from: usize, len: usize) -> usize
     ensures { λ r. ⌜ r ≡ len - (len - from) % size ⌝ }
 {
     len - (len - from) % size
+}
+
+// Inner: where the record ends that begins at `at`.
+pub fn next(size: usize, at: usize, len: usize) -> usize
+    requires { ⌜ at ≤ len ⌝ }
+    ensures { λ r. ⌜ r ≡ nextOf size at len ⌝ }
+{
+    if len - at < size {
+        return len;
+    }
+    at + size
 }
