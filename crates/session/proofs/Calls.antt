@@ -6,7 +6,7 @@ use mathlib.Core.Bool.{Bool, true, false, _||_}
 use native.Mathlib.Omega.{arith}
 use native.Mathlib.Nat.{add-sub-cancel-left}
 use lib.ListN.{length, take, drop, length-drop}
-use lib.Seq.{paste, length-take-le, take-length}
+use lib.Seq.{paste, paste-zero, length-take-le, take-length}
 use borrow.Author.Tests.{ltb-false, eqb-false}
 use Rattle.rules.specs.Numbered.{firstFrom, firstRow, NoneOf}
 use Rattle.rules.proofs.Rows.{row-none}
@@ -24,6 +24,7 @@ use Rattle.frames.specs.declared.Fate.{Fate}
 use Rattle.frames.specs.declared.Out.{Out}
 use Rattle.frames.specs.Track.{handing}
 use Rattle.frames.specs.Inner.{plainTurn, turnOf, handsOf, outOf, spoiltOf, closedOf}
+use Rattle.frames.proofs.Bounds.{Sits}
 use Rattle.ledger.specs.declared.Account.{Account}
 use Rattle.ledger.specs.declared.Ledger.{Ledger}
 use Rattle.ledger.specs.Accounts.{lostAt, numberCount}
@@ -39,6 +40,7 @@ use Rattle.session.specs.declared.Start.{Start}
 use Rattle.session.specs.declared.Outcome.{Outcome}
 use Rattle.session.specs.declared.Taken.{Taken}
 use Rattle.session.specs.declared.RestTaken.{RestTaken}
+use Rattle.session.specs.declared.Posted.{Posted}
 use Rattle.session.specs.declared.Report.{Report}
 use Rattle.session.specs.declared.Reported.{Reported}
 use Rattle.session.specs.declared.RestReported.{RestReported}
@@ -48,7 +50,7 @@ use Rattle.session.specs.declared.RestClosed.{RestClosed}
 use Rattle.refusals.specs.Refusals.{takenMost, openingFlags, closeRowsBy, lostRowsBy, takeRowsBy}
 use Rattle.session.specs.Refusals.{recordBroken, closeRows, lostRows, takeRows}
 use Rattle.session.specs.Session.{fresh, noSession, openBy, openOf, countedOf, takenBy, readOf, readBuffer, plainly, tookOf, tookBuffer, handsOut, passedOf, handedOf, metOf, metBuffer, takeBy, takeOf, bufferBy, bufferOf, lostBy, lostOf, closeBy, closeOf}
-use Rattle.session.specs.Inner.{wholeOf, countedRest, takenWith, reportedWith, closedWith, Ready}
+use Rattle.session.specs.Inner.{wholeOf, countedRest, takenWith, reportedWith, closedWith, Ready, bufferFor, unwrittenOf, Goes}
 
 -- ---- what the code finds of the record's parts, it finds of the record
 module _ (r : Rest) (l : List ℕ) (places : length l ≡ numberCount) (posted : Bool) (e : posted ≡ postedBroken l (r .taken)) (n : ℕ) where
@@ -125,16 +127,28 @@ part-fits buffer t at from k h g =
     let m = length-take-le (length buffer - at) (drop at buffer) (rw length-drop (omega arith)) in
     (omega (arith, n), omega (arith, n, m))
 
-pub put-buffer :
-    (x y : Turn) (from : ℕ) (buffer t : List ℕ) → x ≡ y → from + x .len ≤ length t →
-    paste buffer (x .at) (take (from + x .len - from) (drop from t)) (length (take (from + x .len - from) (drop from t))) ≡ paste buffer (y .at)
-    (drop from t) (y .len)
-put-buffer x y from buffer t e k = let q = part-length t from (x .len) k in rw (← e, take-length, q, add-sub-cancel-left)
+pub put-buffer : (buffer t : List ℕ) (at from k : ℕ) → from + k ≤ length t →
+    paste buffer at (take (from + k - from) (drop from t)) (length (take (from + k - from) (drop from t))) ≡ paste buffer at (drop from t) k
+put-buffer buffer t at from k h = let q = part-length t from k h in rw (take-length, q, add-sub-cancel-left)
+
+-- what is left to be written: nothing
+goes-nowhere : (made : List ℕ → List ℕ) (room : ℕ) (t : List ℕ) (x : RestTaken) (y : Posted) → y ≡ unwrittenOf x →
+    ((b : List ℕ) → made b ≡ b) → Goes made room t y
+goes-nowhere made room t x y e h =
+    rw e (record { inside = omega arith; enough = omega arith; writes = λ b. h b ∙ paste-zero b 0 (drop 0 t) })
+
+-- or the same as elsewhere
+goes-as : (made other : List ℕ → List ℕ) (room more : ℕ) (t : List ℕ) (y : Posted) → Goes made room t y → room ≤ more →
+    ((b : List ℕ) → other b ≡ made b) → Goes other more t y
+goes-as made other room more t y g h q =
+    record { inside = omega (arith, g .inside); enough = g .enough; writes = λ b. q b ∙ g .writes b }
 
 -- a transfer that hands nothing out is taken
-as-taken : (s : Session) (buffer t : List ℕ) → handsOut s t ≡ false → (x : Taken) (b : List ℕ) → x ≡ tookOf s t → b ≡ tookBuffer s buffer t →
-    (x ≡ metOf s t) × (b ≡ metBuffer s buffer t)
-as-taken s buffer t e x b p q = (rw e p, rw e q)
+as-taken : (s : Session) (t : List ℕ) → handsOut s t ≡ false → (x : Taken) → x ≡ tookOf s t → x ≡ metOf s t
+as-taken s t e x p = rw e p
+
+as-written : (s : Session) (t : List ℕ) → handsOut s t ≡ false → (b : List ℕ) → metBuffer s b t ≡ tookBuffer s b t
+as-written s t e b = rw e
 
 abbrev pub Unread : Reading → Type 0
 Unread Idle = Unit {0}
@@ -160,9 +174,30 @@ read-done r l k m h n x last y e p q v =
     ∙ ap (λ (z : Ledger). record { session = countedOf (wholeOf r l) (x .track) z; outcome = Outcome.Taken (x .answer) }) q
     ∙ rw (p, e, with-headers l (r .last) (h .len))
 
-module _ (r : Rest) (l buffer t : List ℕ) where
+-- its data is left to be written
+pub read-goes : (s : Session) (h : Header) (t : List ℕ) (x : Turn) (y : RestTaken) →
+    x ≡ turnOf (s .rest .opening) (s .rest .track) h (length t - h .len) →
+    Sits (s .rest .opening) (s .rest .track .phase) (length t - h .len) x → h .len ≤ length t →
+    Goes (λ b. readBuffer s h b t) (s .rest .opening .frame) t (record { taken = y; at = x .at; from = h .len; len = x .len })
+read-goes s h t x y e q f =
+    record {
+      inside = omega (arith, q .inside);
+      enough = omega (arith, q .short);
+      writes = λ b. ap (λ (z : Turn). paste b (z .at) (drop (h .len) t) (z .len)) (sym e);
+    }
+
+module _ (r : Rest) (l t : List ℕ) where
   abbrev s : Session
   s = wholeOf r l
+
+  -- the answer, and what is left to be written
+  abbrev pub Meets : Posted → List ℕ → Type 0
+  Meets y m = (takenWith (y .taken) m ≡ metOf s t) × Goes (λ b. metBuffer s b t) (r .opening .frame) t y
+
+  unwritten : (x : RestTaken) (y : Posted) (m : List ℕ) → y ≡ unwrittenOf x → takenWith x m ≡ metOf s t →
+      ((b : List ℕ) → metBuffer s b t ≡ b) → Meets y m
+  unwritten x y m e p q =
+      (ap (λ (z : Posted). takenWith (z .taken) m) e ∙ p, goes-nowhere (λ b. metBuffer s b t) (r .opening .frame) t x y e q)
 
   -- a transfer that is no part of a frame, once its fate is entered
   fated-done : (f : Fate) (n : ℕ) (m : List ℕ) (last : Stamp) (w : Track) (y : Rest) →
@@ -172,32 +207,40 @@ module _ (r : Rest) (l buffer t : List ℕ) where
       ap (λ (z : Rest). takenWith (record { rest = z; outcome = Outcome.Taken (plainly f) }) m) q
       ∙ ap (λ (z : Ledger). record { session = countedOf s w z; outcome = Outcome.Taken (plainly f) }) p
 
-  pub took-idle : (x : Reading) (m : List ℕ) (last : Stamp) (y : Rest) → x ≡ readingOf (r .opening) t → x ≡ Idle →
+  pub took-idle : (x : Reading) (m : List ℕ) (last : Stamp) (y : Rest) (z : Posted) → x ≡ readingOf (r .opening) t → x ≡ Idle →
       ledgerWith m last ≡ fatedOf (ledgerWith l (r .last)) Fate.Idle 0 → y ≡ countedRest r (r .track) last →
-      (takenWith (record { rest = y; outcome = Outcome.Taken (plainly Fate.Idle) }) m ≡ metOf s t) × (buffer ≡ metBuffer s buffer t)
+      z ≡ unwrittenOf (record { rest = y; outcome = Outcome.Taken (plainly Fate.Idle) }) → Meets z m
   unfolding tookOf tookBuffer
-  took-idle x m last y e i p q =
-      as-taken s buffer t (not-handed s t x e (rw i tt)) _ _ (rw (← e, i) (fated-done Fate.Idle 0 m last (r .track) y p q)) (rw (← e, i))
+  took-idle x m last y z e i p q v =
+      let h = not-handed s t x e (rw i tt) in
+      unwritten _ z m v (as-taken s t h _ (rw (← e, i) (fated-done Fate.Idle 0 m last (r .track) y p q)))
+      (λ b. as-written s t h b ∙ rw (← e, i))
 
-  pub took-unreadable : (x : Reading) (k : ℕ) (m : List ℕ) (last : Stamp) (w : Track) (y : Rest) → x ≡ readingOf (r .opening) t →
-      x ≡ Unreadable k → ledgerWith m last ≡ fatedOf (ledgerWith l (r .last)) (Fate.Unreadable k) (length t) → w ≡ spoiltOf (r .track) →
-      y ≡ countedRest r w last →
-      (takenWith (record { rest = y; outcome = Outcome.Taken (plainly (Fate.Unreadable k)) }) m ≡ metOf s t) × (buffer ≡ metBuffer s buffer t)
+  pub took-unreadable : (x : Reading) (k : ℕ) (m : List ℕ) (last : Stamp) (w : Track) (y : Rest) (z : Posted) →
+      x ≡ readingOf (r .opening) t → x ≡ Unreadable k →
+      ledgerWith m last ≡ fatedOf (ledgerWith l (r .last)) (Fate.Unreadable k) (length t) → w ≡ spoiltOf (r .track) →
+      y ≡ countedRest r w last → z ≡ unwrittenOf (record { rest = y; outcome = Outcome.Taken (plainly (Fate.Unreadable k)) }) → Meets z m
   unfolding tookOf tookBuffer
-  took-unreadable x k m last w y e i p v q =
-      as-taken s buffer t (not-handed s t x e (rw i tt)) _ _ (rw (← e, i, ← v) (fated-done (Fate.Unreadable k) (length t) m last w y p q)) (rw (← e, i))
+  took-unreadable x k m last w y z e i p u q v =
+      let h = not-handed s t x e (rw i tt) in
+      unwritten _ z m v (as-taken s t h _ (rw (← e, i, ← u) (fated-done (Fate.Unreadable k) (length t) m last w y p q)))
+      (λ b. as-written s t h b ∙ rw (← e, i))
 
-  pub took-readable : (x : Reading) (h : Header) (g : Bool) (y : Taken) (b : List ℕ) → x ≡ readingOf (r .opening) t → x ≡ Readable h →
-      g ≡ handsOf (r .opening) (r .track) h → g ≡ false → y ≡ readOf s h (length t - h .len) → b ≡ readBuffer s h buffer t →
-      (y ≡ metOf s t) × (b ≡ metBuffer s buffer t)
+  pub took-readable : (x : Reading) (h : Header) (g : Bool) (z : Posted) (m : List ℕ) → x ≡ readingOf (r .opening) t → x ≡ Readable h →
+      g ≡ handsOf (r .opening) (r .track) h → g ≡ false → takenWith (z .taken) m ≡ readOf s h (length t - h .len) →
+      Goes (λ b. readBuffer s h b t) (r .opening .frame) t z → Meets z m
   unfolding tookOf tookBuffer handsOut
-  took-readable x h g y b e i f n p q = as-taken s buffer t (rw (← e, i, ← f, n) refl) y b (rw (← e, i) p) (rw (← e, i) q)
+  took-readable x h g z m e i f n p q =
+      let k : handsOut s t ≡ false = rw (← e, i, ← f, n) refl in (
+        as-taken s t k _ (rw (← e, i) p),
+        goes-as (λ b. readBuffer s h b t) (λ b. metBuffer s b t) _ _ t z q (omega arith) (λ b. as-written s t k b ∙ rw (← e, i)),
+      )
 
   -- a frame handed out in its place
-  pub handed-out : (x : Reading) (h : Header) (g : Bool) (y : Taken) → x ≡ readingOf (r .opening) t → x ≡ Readable h →
-      g ≡ handsOf (r .opening) (r .track) h → g ≡ true → y ≡ handedOf s → (y ≡ metOf s t) × (buffer ≡ metBuffer s buffer t)
+  pub handed-out : (x : Reading) (h : Header) (g : Bool) (y : RestTaken) (z : Posted) (m : List ℕ) → x ≡ readingOf (r .opening) t →
+      x ≡ Readable h → g ≡ handsOf (r .opening) (r .track) h → g ≡ true → takenWith y m ≡ handedOf s → z ≡ unwrittenOf y → Meets z m
   unfolding handsOut
-  handed-out x h g y e i f n p = (rw (← e, i, ← f, n) p, rw (← e, i, ← f, n) refl)
+  handed-out x h g y z m e i f n p v = unwritten y z m v (rw (← e, i, ← f, n) p) (λ b. rw (← e, i, ← f, n) refl)
 
   pub handed-done : (x : Out) (f : Fate) (m : List ℕ) (last : Stamp) → x ≡ outOf (r .track) → f ≡ handing (x .frame .still) (x .frame .delivery) →
       ledgerWith m last ≡ fatedOf (ledgerWith l (r .last)) f (x .frame .delivery .len) →
@@ -212,20 +255,35 @@ module _ (r : Rest) (l buffer t : List ℕ) where
   pub header-within : (x : Reading) (h : Header) → x ≡ readingOf (r .opening) t → x ≡ Readable h → h .len ≤ length t
   header-within x h e i = readable-fits (r .opening) t h (sym e ∙ i) .inside
 
-  module _ (n : ℕ) (e : n ≡ firstRow (takeRows s (length buffer) (length t))) where
-    pub take-refused : (n ≡ 0 → ⊥) → (takenWith (record { rest = r; outcome = Outcome.Refused n }) l ≡ takeOf s (length buffer) t) ×
-        (buffer ≡ bufferOf s buffer t)
-    unfolding takeOf bufferOf
-    take-refused h = rw (← e) (go n h)
-      where
-        go : (m : ℕ) → (m ≡ 0 → ⊥) → (record { session = s; outcome = Outcome.Refused m } ≡ takeBy m s t) × (buffer ≡ bufferBy m s buffer t)
-        go zero h = absurd (h refl)
-        go (suc m) h = (refl, refl)
+  module _ (room n : ℕ) (e : n ≡ firstRow (takeRows s room (length t))) where
+    abbrev pub Posts : Posted → List ℕ → Type 0
+    Posts y m = (takenWith (y .taken) m ≡ takeOf s room t) × Goes (λ b. bufferFor s room b t) room t y
 
-    pub take-met : (x : Taken) (b : List ℕ) → n ≡ 0 → x ≡ metOf s t → b ≡ metBuffer s buffer t →
-        (x ≡ takeOf s (length buffer) t) × (b ≡ bufferOf s buffer t)
-    unfolding takeOf bufferOf
-    take-met x b z p q = (rw (← e, z) p, rw (← e, z) q)
+    pub post-refused : (n ≡ 0 → ⊥) → (y : Posted) → y ≡ unwrittenOf (record { rest = r; outcome = Outcome.Refused n }) → Posts y l
+    unfolding takeOf
+    post-refused h y v = (
+      ap (λ (z : Posted). takenWith (z .taken) l) v ∙ rw (← e) (go n h .0),
+      goes-nowhere (λ b. bufferFor s room b t) room t _ y v (λ b. rw (← e) (go n h .1 b)),
+    )
+      where
+        go : (m : ℕ) → (m ≡ 0 → ⊥) →
+            (record { session = s; outcome = Outcome.Refused m } ≡ takeBy m s t) × ((b : List ℕ) → bufferBy m s b t ≡ b)
+        go zero h = absurd (h refl)
+        go (suc m) h = (refl, λ b. refl)
+
+    pub post-met : (y : Posted) (m : List ℕ) → n ≡ 0 → r .opening .frame ≤ room → Meets y m → Posts y m
+    unfolding takeOf
+    post-met y m z f p = (
+      rw (← e, z) (p .0),
+      goes-as (λ b. metBuffer s b t) (λ b. bufferFor s room b t) _ _ t y (p .1) f (λ b. rw (← e, z) refl),
+    )
+
+-- once that is written
+pub take-put : (s : Session) (buffer t : List ℕ) (x : Posted) → Goes (λ b. bufferFor s (length buffer) b t) (length buffer) t x →
+    paste buffer (x .at) (take (x .from + x .len - x .from) (drop (x .from) t)) (length (take (x .from + x .len - x .from) (drop (x .from) t)))
+    ≡ bufferOf s buffer t
+unfolding bufferOf
+take-put s buffer t x g = put-buffer buffer t (x .at) (x .from) (x .len) (g .enough) ∙ sym (g .writes buffer)
 
 -- ---- lost
 module _ (r : Rest) (l : List ℕ) (n : ℕ) (e : n ≡ firstRow (lostRows (wholeOf r l))) where

@@ -16,16 +16,20 @@ use Rattle.session.specs.declared.Closing.{Closing}
 use Rattle.session.specs.declared.Closed.{Closed}
 use Rattle.session.specs.Session.{takeOf, lostOf, closeOf}
 use Rattle.session.specs.Inner.{wholeOf, takenWith, reportedWith, closedWith}
-use Rattle.session.proofs.Refused.{take-as-it-was, lost-as-it-was, close-as-it-was}
+use Rattle.session.proofs.Refused.{count-as-it-was, lost-as-it-was, close-as-it-was}
 
 -- r and m are the rest and the numbers before the call; n are the numbers after it
 module _ (r : Rest) (m n : List ℕ) (k : ℕ) where
   parts : (q : Rest) → wholeOf q n ≡ wholeOf r m → (q ≡ r) × (n ≡ m)
   parts q e = (ap (λ (s : Session). s .rest) e, ap (λ (s : Session). s .numbers) e)
 
+  pub rest-count-as-it-was : (room : ℕ) (t : List ℕ) (x : RestTaken) → takenWith x n ≡ takeOf (wholeOf r m) room t → x .outcome ≡ Outcome.Refused k →
+      (x .rest ≡ r) × (n ≡ m)
+  rest-count-as-it-was room t x e f =
+      parts (x .rest) (ap (λ (y : Taken). y .session) e ∙ count-as-it-was (wholeOf r m) t room k (sym (ap (λ (y : Taken). y .outcome) e) ∙ f))
+
   pub rest-take-as-it-was : (buffer t : List ℕ) (x : RestTaken) → takenWith x n ≡ takeOf (wholeOf r m) (length buffer) t → x .outcome ≡ Outcome.Refused k → (x .rest ≡ r) × (n ≡ m)
-  rest-take-as-it-was buffer t x e f =
-      parts (x .rest) (ap (λ (y : Taken). y .session) e ∙ take-as-it-was (wholeOf r m) t buffer k (sym (ap (λ (y : Taken). y .outcome) e) ∙ f) .0)
+  rest-take-as-it-was buffer t = rest-count-as-it-was (length buffer) t
 
   pub rest-lost-as-it-was : (x : RestReported) → reportedWith x n ≡ lostOf (wholeOf r m) → x .report ≡ Report.Refused k → (x .rest ≡ r) × (n ≡ m)
   rest-lost-as-it-was x e f =

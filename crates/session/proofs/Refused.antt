@@ -102,15 +102,24 @@ module _ (s : Session) (t : List ℕ) where
     λ n. rw (none-row (takeRows s room (length t)) n) (met s t),
   )
 
-  -- a refused call gives the session back as it was, and no byte of the buffer changes
+  -- a refused call gives the session back as it was
+  pub count-as-it-was : (room k : ℕ) → takeOf s room t .outcome ≡ Outcome.Refused k → takeOf s room t .session ≡ s
+  unfolding takeOf
+  count-as-it-was room k e = go (firstRow (takeRows s room (length t))) e
+    where
+      go : (n : ℕ) → takeBy n s t .outcome ≡ Outcome.Refused k → takeBy n s t .session ≡ s
+      go zero e = absurd (not-both _ k (met s t) e)
+      go (suc n) e = refl
+
+  -- and no byte of the buffer changes
   pub take-as-it-was : (buffer : List ℕ) (k : ℕ) → takeOf s (length buffer) t .outcome ≡ Outcome.Refused k →
       (takeOf s (length buffer) t .session ≡ s) × (bufferOf s buffer t ≡ buffer)
   unfolding takeOf bufferOf
-  take-as-it-was buffer k e = go (firstRow (takeRows s (length buffer) (length t))) e
+  take-as-it-was buffer k e = (count-as-it-was (length buffer) k e, go (firstRow (takeRows s (length buffer) (length t))) e)
     where
-      go : (n : ℕ) → takeBy n s t .outcome ≡ Outcome.Refused k → (takeBy n s t .session ≡ s) × (bufferBy n s buffer t ≡ buffer)
+      go : (n : ℕ) → takeBy n s t .outcome ≡ Outcome.Refused k → bufferBy n s buffer t ≡ buffer
       go zero e = absurd (not-both _ k (met s t) e)
-      go (suc n) e = (refl, refl)
+      go (suc n) e = refl
 
 -- ---- lost
 module _ (s : Session) where

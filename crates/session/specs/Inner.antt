@@ -1,22 +1,26 @@
 -- What the inner contracts cite: the calls on the record's two parts, of which the numbers are lent. Nothing here needs to be believed.
-use Prim.Native.Nat.{ℕ, _+_, _<_}
+use Prim.Native.Nat.{ℕ, _+_, _≤_, _<_}
 use mathlib.Core.Path.{_≡_}
 use mathlib.Core.Bool.{false}
 use mathlib.Core.List.{List}
-use lib.ListN.{length}
+use lib.ListN.{length, drop}
+use lib.Seq.{paste}
+use Rattle.rules.specs.Numbered.{firstRow}
 use Rattle.payload.specs.declared.Stamp.{Stamp}
 use Rattle.frames.specs.declared.Track.{Track}
 use Rattle.ledger.specs.Accounts.{numberCount}
 use Rattle.session.specs.declared.Session.{Session}
 use Rattle.session.specs.declared.Rest.{Rest}
 use Rattle.session.specs.declared.RestTaken.{RestTaken}
+use Rattle.session.specs.declared.Posted.{Posted}
 use Rattle.session.specs.declared.RestReported.{RestReported}
 use Rattle.session.specs.declared.RestClosed.{RestClosed}
 use Rattle.session.specs.declared.Taken.{Taken}
 use Rattle.session.specs.declared.Reported.{Reported}
 use Rattle.session.specs.declared.Closed.{Closed}
 use Rattle.refusals.specs.Refusals.{takenMost}
-use Rattle.session.specs.Refusals.{recordBroken}
+use Rattle.session.specs.Refusals.{recordBroken, takeRows}
+use Rattle.session.specs.Session.{bufferBy}
 
 abbrev pub wholeOf : Rest → List ℕ → Session
 wholeOf r numbers = record { rest = r; numbers = numbers }
@@ -38,3 +42,16 @@ pub record Ready (s : Session) : Type 0 where
   pub sound : recordBroken s ≡ false
   pub more : s .rest .taken < takenMost
   pub places : length (s .numbers) ≡ numberCount
+
+-- what a call with that room makes of a buffer
+abbrev pub bufferFor : Session → ℕ → List ℕ → List ℕ → List ℕ
+bufferFor s room buffer t = bufferBy (firstRow (takeRows s room (length t))) s buffer t
+
+abbrev pub unwrittenOf : RestTaken → Posted
+unwrittenOf x = record { taken = x; at = 0; from = 0; len = 0 }
+
+-- what is made of any buffer is to write what x says of the transfer t, within the room; and x says no more than t has
+pub record Goes (made : List ℕ → List ℕ) (room : ℕ) (t : List ℕ) (x : Posted) : Type 0 where
+  pub inside : x .at + x .len ≤ room
+  pub enough : x .from + x .len ≤ length t
+  pub writes : (buffer : List ℕ) → made buffer ≡ paste buffer (x .at) (drop (x .from) t) (x .len)

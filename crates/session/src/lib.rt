@@ -8,7 +8,7 @@ ghost use Rattle.rule_50.specs.Rule50.{transferMost};
 ghost use Rattle.refusals.specs.Refusals.{takenMost};
 ghost use Rattle.session.specs.Refusals.{ledgerOf};
 ghost use Rattle.session.specs.Session.{openOf, newSession, readOf, readBuffer, handedOf, metOf, metBuffer, takeOf, bufferOf, lostOf, closeOf};
-ghost use Rattle.session.specs.Inner.{wholeOf, countedRest, takenWith, reportedWith, closedWith, Ready};
+ghost use Rattle.session.specs.Inner.{wholeOf, countedRest, takenWith, reportedWith, closedWith, Ready, unwrittenOf, bufferFor, Goes};
 use frames::Answer;
 use frames::Ended;
 use frames::Fate;
@@ -71,6 +71,14 @@ pub struct RestTaken {
     pub outcome: Outcome,
 }
 
+// A transfer that is posted, and what of it is still to be written: `len` bytes, those from `from` on, at `at` of the buffer.
+struct Posted {
+    taken: RestTaken,
+    at: usize,
+    from: usize,
+    len: usize,
+}
+
 pub enum Report {
     // 50, 53 or 52.
     Refused(u8),
@@ -125,13 +133,32 @@ fn with(opening: Opening, closed: bool) -> Session
     }
 }
 
+// Nothing is to be written.
+fn unwritten(taken: RestTaken) -> Posted
+    ensures { λ r. ⌜ r ≡ unwrittenOf taken ⌝ }
+{
+    Posted {
+        taken,
+        at: 0,
+        from: 0,
+        len: 0,
+    }
+}
+
 impl Session {
     // Opens a session on the negotiated sizes and framing byte and on the header kind, with the buffer that frames will be written to.
     // A refused opening gives a closed session with no sizes, which every call refuses by 50.
     pub fn open(o: Opening, buffer: &[u8]) -> Opened
         ensures { λ r. ⌜ r ≡ openOf o (length (now (buffer .entry))) ⌝ }
     {
-        let number = refusals::opening_refusal(o, buffer.len());
+        Session::open_for(o, buffer.len())
+    }
+
+    // The same with the buffer's length as a number, for who counts and keeps no frame.
+    pub fn open_for(o: Opening, room: usize) -> Opened
+        ensures { λ r. ⌜ r ≡ openOf o room ⌝ }
+    {
+        let number = refusals::opening_refusal(o, room);
         if number != 0 {
             let session = with(
                 Opening {
@@ -175,6 +202,21 @@ impl Session {
         let rest = self.rest;
         let mut numbers = self.numbers;
         let taken = rest.take(&mut numbers, buffer, t);
+        let next = taken.rest;
+        let outcome = taken.outcome;
+        Taken {
+            session: next.whole(numbers),
+            outcome,
+        }
+    }
+
+    // The same with the buffer's length as a number, for who counts and keeps no frame: it writes nothing.
+    pub fn count(self, room: usize, t: &[u8]) -> Taken
+        ensures { λ r. ⌜ r ≡ takeOf self room (now (t .entry)) ⌝ }
+    {
+        let rest = self.rest;
+        let mut numbers = self.numbers;
+        let taken = rest.count(&mut numbers, room, t);
         let next = taken.rest;
         let outcome = taken.outcome;
         Taken {
@@ -250,27 +292,29 @@ impl Rest {
     }
 
     // A readable transfer: its data goes straight after the frame's earlier data.
-    fn read(self, m: &mut Numbers, buffer: &mut [u8], t: &[u8], h: Header) -> RestTaken
-        requires { ⌜ (Ready (wholeOf self (now m))) × (self .opening .frame ≤ length (now buffer)) × (length (now t) ≤ transferMost) × (h .len ≤ length (now t)) ⌝ }
-        ensures { λ r. ⌜ takenWith r (now (m .exit)) ≡ readOf (wholeOf self (now (m .entry))) h (length (now (t .entry)) - h .len) ⌝ }
-        ensures { λ _. ⌜ now (buffer .exit) ≡ readBuffer (wholeOf self (now (m .entry))) h (now (buffer .entry)) (now (t .entry)) ⌝ }
+    fn read(self, m: &mut Numbers, t: &[u8], h: Header) -> Posted
+        requires { ⌜ (Ready (wholeOf self (now m))) × (length (now t) ≤ transferMost) × (h .len ≤ length (now t)) ⌝ }
+        ensures { λ r. ⌜ takenWith (r .taken) (now (m .exit)) ≡ readOf (wholeOf self (now (m .entry))) h (length (now (t .entry)) - h .len) ⌝ }
+        ensures { λ r. ⌜ Goes (λ b. readBuffer (wholeOf self (now (m .entry))) h b (now (t .entry))) (self .opening .frame) (now (t .entry)) r ⌝ }
     {
         let from = h.len;
         let n = t.len() - from;
         let o = self.opening;
         let track = self.track;
         let turn = track.turn(o, h, n);
-        let at = turn.at;
-        let k = turn.len;
-        copier::lay(&mut buffer[at..], at, &t[from..from + k]);
         let answer = turn.answer;
         let was = self.last;
         Ledger::entered(m, Account::Headers, from as u64);
         let last = Ledger::answered(m, was, answer, turn.gone, turn.bytes);
         let next = turn.track;
-        RestTaken {
-            rest: self.counted(next, last),
-            outcome: Outcome::Taken(answer),
+        Posted {
+            taken: RestTaken {
+                rest: self.counted(next, last),
+                outcome: Outcome::Taken(answer),
+            },
+            at: turn.at,
+            from,
+            len: turn.len,
         }
     }
 
@@ -301,10 +345,10 @@ impl Rest {
     }
 
     // A transfer that nothing refuses.
-    fn met(self, m: &mut Numbers, buffer: &mut [u8], t: &[u8]) -> RestTaken
-        requires { ⌜ (Ready (wholeOf self (now m))) × (self .opening .frame ≤ length (now buffer)) × (length (now t) ≤ transferMost) ⌝ }
-        ensures { λ r. ⌜ takenWith r (now (m .exit)) ≡ metOf (wholeOf self (now (m .entry))) (now (t .entry)) ⌝ }
-        ensures { λ _. ⌜ now (buffer .exit) ≡ metBuffer (wholeOf self (now (m .entry))) (now (buffer .entry)) (now (t .entry)) ⌝ }
+    fn met(self, m: &mut Numbers, t: &[u8]) -> Posted
+        requires { ⌜ (Ready (wholeOf self (now m))) × (length (now t) ≤ transferMost) ⌝ }
+        ensures { λ r. ⌜ takenWith (r .taken) (now (m .exit)) ≡ metOf (wholeOf self (now (m .entry))) (now (t .entry)) ⌝ }
+        ensures { λ r. ⌜ Goes (λ b. metBuffer (wholeOf self (now (m .entry))) b (now (t .entry))) (self .opening .frame) (now (t .entry)) r ⌝ }
     {
         let o = self.opening;
         let track = self.track;
@@ -313,39 +357,38 @@ impl Rest {
         match reading {
             Reading::Idle => {
                 let last = Ledger::fated(m, was, Fate::Idle, 0);
-                RestTaken {
+                unwritten(RestTaken {
                     rest: self.counted(track, last),
                     outcome: Outcome::Taken(Answer {
                         ended: Ended::Nothing,
                         fate: Fate::Idle,
                     }),
-                }
+                })
             }
             Reading::Unreadable(number) => {
                 let last = Ledger::fated(m, was, Fate::Unreadable(number), t.len() as u64);
-                RestTaken {
+                unwritten(RestTaken {
                     rest: self.counted(track.spoilt(), last),
                     outcome: Outcome::Taken(Answer {
                         ended: Ended::Nothing,
                         fate: Fate::Unreadable(number),
                     }),
-                }
+                })
             }
             Reading::Readable(h) => {
                 if track.hands(o, h) {
-                    return self.handed(m);
+                    return unwritten(self.handed(m));
                 }
-                self.read(m, buffer, t, h)
+                self.read(m, t, h)
             }
         }
     }
 
-    // Inner: takes one transfer. A refused call changes no byte of the buffer and no number, and gives the rest back as it was.
-    // What is required, here and below, the type of the numbers says.
-    pub fn take(self, m: &mut Numbers, buffer: &mut [u8], t: &[u8]) -> RestTaken
+    // A transfer that is refused, taken, or not taken because a frame is handed out; but for the writing.
+    fn post(self, m: &mut Numbers, room: usize, t: &[u8]) -> Posted
         requires { ⌜ length (now m) ≡ numberCount ⌝ }
-        ensures { λ r. ⌜ takenWith r (now (m .exit)) ≡ takeOf (wholeOf self (now (m .entry))) (length (now (buffer .entry))) (now (t .entry)) ⌝ }
-        ensures { λ _. ⌜ now (buffer .exit) ≡ bufferOf (wholeOf self (now (m .entry))) (now (buffer .entry)) (now (t .entry)) ⌝ }
+        ensures { λ r. ⌜ takenWith (r .taken) (now (m .exit)) ≡ takeOf (wholeOf self (now (m .entry))) room (now (t .entry)) ⌝ }
+        ensures { λ r. ⌜ Goes (λ b. bufferFor (wholeOf self (now (m .entry))) room b (now (t .entry))) room (now (t .entry)) r ⌝ }
     {
         let posted = rule_50::posted_broken(m, self.taken);
         let opening = self.opening;
@@ -357,16 +400,40 @@ impl Rest {
             phase,
             self.closed,
             self.taken,
-            buffer.len(),
+            room,
             t.len(),
         );
         if number != 0 {
-            return RestTaken {
+            return unwritten(RestTaken {
                 rest: self,
                 outcome: Outcome::Refused(number),
-            };
+            });
         }
-        self.met(m, buffer, t)
+        self.met(m, t)
+    }
+
+    // Inner: takes one transfer. A refused call changes no byte of the buffer and no number, and gives the rest back as it was.
+    // What is required, here and below, the type of the numbers says.
+    pub fn take(self, m: &mut Numbers, buffer: &mut [u8], t: &[u8]) -> RestTaken
+        requires { ⌜ length (now m) ≡ numberCount ⌝ }
+        ensures { λ r. ⌜ takenWith r (now (m .exit)) ≡ takeOf (wholeOf self (now (m .entry))) (length (now (buffer .entry))) (now (t .entry)) ⌝ }
+        ensures { λ _. ⌜ now (buffer .exit) ≡ bufferOf (wholeOf self (now (m .entry))) (now (buffer .entry)) (now (t .entry)) ⌝ }
+    {
+        let posted = self.post(m, buffer.len(), t);
+        let at = posted.at;
+        let from = posted.from;
+        let end = from + posted.len;
+        copier::lay(&mut buffer[at..], at, &t[from..end]);
+        posted.taken
+    }
+
+    // Inner: the same with the buffer's length as a number: it writes nothing.
+    pub fn count(self, m: &mut Numbers, room: usize, t: &[u8]) -> RestTaken
+        requires { ⌜ length (now m) ≡ numberCount ⌝ }
+        ensures { λ r. ⌜ takenWith r (now (m .exit)) ≡ takeOf (wholeOf self (now (m .entry))) room (now (t .entry)) ⌝ }
+    {
+        let posted = self.post(m, room, t);
+        posted.taken
     }
 
     // Inner: the host reports a lost transfer.

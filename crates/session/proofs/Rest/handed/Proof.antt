@@ -25,7 +25,7 @@ fated-requires c κs =
 returns : tie.Need-returns
 returns c =
     let s = c .before .before .before .before .before .before .before .before .before in
-    handed-done (s .args .self) (now (s .args .m)) [] [] _ _ _ _ (c .before .before .before .before .before .before .before .hand-out .ensures)
+    handed-done (s .args .self) (now (s .args .m)) [] _ _ _ _ (c .before .before .before .before .before .before .before .hand-out .ensures)
     (c .before .before .before .before .before .fate-for .ensures) (c .before .before .fated .ensures)
 
 pub handed-spec : {M : Type 1} → statement M

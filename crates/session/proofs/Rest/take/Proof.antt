@@ -1,41 +1,79 @@
+use mathlib.Core.Path.{_∙_}
 use denote.Ref.{now}
-use lib.ListN.{length}
+use lib.ListN.{take, drop}
 use native.Mathlib.Omega.{arith}
+use Prim.Native.Nat.{_+_, _-_}
+use Rattle.copier.proofs.Laws.{laid}
 use Rattle.session.specs.Inner.{wholeOf}
-use Rattle.session.proofs.Calls.{take-found, take-ready, take-refused, take-met}
+use Rattle.session.proofs.Calls.{part-fits, take-put}
 use borrow.Author.Needs.{needs}
 use Rattle.session.proofs.Rest.take.Statement.{statement}
 use Rattle.session.proofs.Rest.take.Tie as tie
 
-posted-broken-requires : tie.Need-posted-broken-requires
-posted-broken-requires c κs = search needs
+post-requires : tie.Need-post-requires
+post-requires c κs = search needs
 
-take-refusal-requires : tie.Need-take-refusal-requires
-take-refusal-requires c κs = search needs
+add-end : tie.Need-add-end
+add-end c =
+    let g = c .before .post .ensures .1 in
+    omega (arith, g .enough)
 
-returns : tie.Need-returns
-returns c =
-    let s = c .before .before .before .before .before .before .before .before in
-    let e = take-found (s .args .self) (now (s .args .m)) (search needs) _ (c .before .before .before .before .posted-broken .ensures) _ (length (now (s .args .buffer))) (length (now (s .args .t))) (c .before .take-refusal .ensures) in
-    take-refused (s .args .self) (now (s .args .m)) (now (s .args .buffer)) (now (s .args .t)) _ e (c .if1 .taken)
+sub-lay : tie.Need-sub-lay
+sub-lay c =
+    let g = c .before .post .ensures .1 in
+    omega (arith, g .inside)
 
-met-requires : tie.Need-met-requires
-met-requires c κs =
-    let s = c .before .before .before .before .before .before .before .before .before .before in
-    let e = take-found (s .args .self) (now (s .args .m)) (search needs) _ (c .before .before .before .before .before .before .posted-broken .ensures) _ (length (now (s .args .buffer))) (length (now (s .args .t))) (c .before .before .before .take-refusal .ensures) in
-    let f = take-ready (wholeOf (s .args .self) (now (s .args .m))) (search needs) (search needs) _ _ _ e (omega arith) in
-    (f .ready, f .whole, f .short)
+part-lay-start : tie.Need-part-lay-start
+part-lay-start c =
+    let g = c .before .post .ensures .1 in
+    omega (arith, g .inside)
+
+part-lay-end : tie.Need-part-lay-end
+part-lay-end c = search needs
+
+sub-lay-2 : tie.Need-sub-lay-2
+sub-lay-2 c = search needs
+
+part-lay-start-2 : tie.Need-part-lay-start-2
+part-lay-start-2 c = search needs
+
+part-lay-end-2 : tie.Need-part-lay-end-2
+part-lay-end-2 c =
+    let g = c .before .before .post .ensures .1 in
+    omega (arith, g .enough)
+
+lay-requires : tie.Need-lay-requires
+lay-requires c κs =
+    let s = c .before .before .before .before .before .before .before in
+    let x = c .before .before .before .post in
+    part-fits (now (s .args .buffer)) (now (s .args .t)) (x .result .at) (x .result .from) (x .result .len) (x .ensures .1 .inside) (x .ensures .1 .enough) .1
 
 same-length : tie.Need-same-length
 same-length c = search needs
 
-returns-2 : tie.Need-returns-2
-returns-2 c =
-    let s = c .before .before .before .before .before .before .before .before .before .before .before .before .before in
-    let e = take-found (s .args .self) (now (s .args .m)) (search needs) _ (c .before .before .before .before .before .before .before .before .before .posted-broken .ensures) _ (length (now (s .args .buffer))) (length (now (s .args .t))) (c .before .before .before .before .before .before .take-refusal .ensures) in
-    take-met (s .args .self) (now (s .args .m)) (now (s .args .buffer)) (now (s .args .t)) _ e _ _ (omega arith) (c .before .before .met .ensures .0) (c .before .before .met .ensures .1)
+returns : tie.Need-returns
+returns c =
+    let s = c .before .before .before .before .before .before .before .before .before .before .before in
+    let x = c .before .before .before .before .before .before .before .post in
+    let y = x .result in
+    let f = part-fits (now (s .args .buffer)) (now (s .args .t)) (y .at) (y .from) (y .len) (x .ensures .1 .inside) (x .ensures .1 .enough) in (
+      x .ensures .0,
+      laid (now (s .args .buffer)) (take (y .from + y .len - y .from) (drop (y .from) (now (s .args .t)))) _ (y .at) (f .0) (c .before .before .before .lay .ensures)
+          ∙ take-put (wholeOf (s .args .self) (now (s .args .m))) (now (s .args .buffer)) (now (s .args .t)) y (x .ensures .1),
+    )
 
 pub take-spec : {M : Type 1} → statement M
 take-spec =
     tie.close
-    (tie.spec posted-broken-requires take-refusal-requires returns met-requires same-length returns-2)
+    (tie.spec
+    post-requires
+    add-end
+    sub-lay
+    part-lay-start
+    part-lay-end
+    sub-lay-2
+    part-lay-start-2
+    part-lay-end-2
+    lay-requires
+    same-length
+    returns)
