@@ -1,6 +1,6 @@
 -- What each `return` asks: the laws of what is told of a call, one for each way through the code.
 use Prim.Native.Nat.{ℕ, _+_, _-_, _%_, _^_, _≤_}
-use mathlib.Core.Path.{_≡_, refl, sym, _∙_, ap}
+use mathlib.Core.Path.{_≡_, refl, sym, _∙_}
 use mathlib.Core.Bool.{Bool, true, false}
 use mathlib.Core.List.{List}
 use lib.ListN.{length}
@@ -27,9 +27,8 @@ use Rattle.session.specs.declared.Outcome.{Outcome}
 use Rattle.session.specs.declared.Closing.{Closing}
 use Rattle.endings.specs.declared.How.{How}
 use Rattle.endings.specs.declared.Told.{Told}
-use Rattle.endings.specs.declared.Endings.{Endings}
 use Rattle.endings.specs.Endings.{endingAs}
-use Rattle.endings.specs.Inner.{tellEnded, bytesBefore, stampBefore, droppedAs, tellDropped, outAs, howOut, tellFate, noneTold, tellTaken, tellClosed}
+use Rattle.endings.specs.Inner.{tellEnded, bytesBefore, stampBefore, droppedAs, tellDropped, howOut, tellFate, noneTold, tellTaken, tellClosed}
 
 -- ---- a frame under way that was ended
 pub ended-under : (ph : Phase) (e : Ended) (w : Reason) (r : Run) → e ≡ Ended.Frame w → ph ≡ Under r

@@ -1,7 +1,7 @@
 -- THE FRAMES THAT ENDED, from the list alone: document 01, "The frame rule, from the list alone", with how each ended, the bytes of its data and its first stamp.
 -- Nothing of the session.
 use Prim.Native.Nat.{ℕ}
-use mathlib.Core.Bool.{Bool, true, false}
+use mathlib.Core.Bool.{Bool, false}
 use mathlib.Core.List.{List, [], _∷_, _++_}
 use lib.ListN.{length}
 use Rattle.sizes.specs.declared.Opening.{Opening}

@@ -22,7 +22,7 @@ use Rattle.session.specs.declared.Rest.{Rest}
 use Rattle.session.specs.declared.Outcome.{Outcome}
 use Rattle.session.specs.declared.Closing.{Closing}
 use Rattle.session.specs.Session.{takeOf, closeOf}
-use Rattle.session.specs.Calls.{Offer}
+use Rattle.session.specs.Calls.{Offer, next}
 use Rattle.endings.specs.declared.How.{How}
 use Rattle.endings.specs.declared.Ending.{Ending}
 use Rattle.endings.specs.declared.Told.{Told}
@@ -109,3 +109,8 @@ abbrev pub toldBy : Session → Offer → Endings
 toldBy s (Offer.take buffer t) = tellTaken (s .rest) t (takeOf s (length buffer) t .outcome)
 toldBy s Offer.lost = noneTold
 toldBy s Offer.close = tellClosed (s .rest) (closeOf s .closing)
+
+-- and of offers one after the other
+abbrev pub allTold : Session → List Offer → List Ending
+allTold s [] = []
+allTold s (x ∷ xs) = listIn (toldBy s x) ++ allTold (next s x) xs

@@ -1,10 +1,9 @@
 // Which frames a call ended, with their length and their first stamp: what the programs print a line for.
 ghost use mathlib.Core.Path.{_≡_};
-ghost use Prim.Native.Nat.{_-_, _≤_};
 ghost use lib.ListN.{length};
 ghost use Rattle.payload.specs.Transfer.{readingOf};
 ghost use Rattle.frames.specs.Inner.{sameOf, earlierOf};
-ghost use Rattle.endings.specs.Inner.{droppedAs, howOut, bytesBefore, stampBefore, bytesWith, tellEnded, tellDropped, tellFate, tellTaken, tellClosed};
+ghost use Rattle.endings.specs.Inner.{droppedAs, howOut, bytesBefore, stampBefore, tellEnded, tellDropped, tellFate, tellTaken, tellClosed};
 use frames::Delivery;
 use frames::Ended;
 use frames::Fate;

@@ -1,0 +1,105 @@
+-- The frames that ended of short lists, by the list alone and as the session tells them, as computed equalities.
+use Prim.Native.Nat.{ℕ}
+use mathlib.Core.Path.{_≡_, refl}
+use mathlib.Core.List.{List, [], _∷_}
+use lib.ListN.{replicate}
+use Rattle.rules.specs.Pick.{pick}
+use Rattle.rules.specs.Numbered.{firstFrom, anyBelow}
+use Rattle.sizes.specs.declared.Opening.{Opening}
+use Rattle.sizes.specs.declared.HeaderKind.the-variants.{Old}
+use Rattle.sizes.specs.Framing.{byEof}
+use Rattle.sizes.specs.Sizes.{frameSizeBroken, payloadSizeBroken, sizesBroken}
+use Rattle.payload.specs.declared.Stamp.{Stamp}
+use Rattle.payload.specs.Layouts.{layoutOf}
+use Rattle.payload.specs.Transfer.{flagOf, layerPlace, needOf, flagsBy, stampOf, layerOf, headerBy, readingOf}
+use Rattle.frames.specs.declared.Reason.{Reason}
+use Rattle.frames.specs.Inner.{turnOf, handsOf, outOf, spoiltOf, closedOf}
+use Rattle.ledger.specs.Ledger.{plusOf, timedOf, postOf, shownOf}
+use Rattle.rule_50.specs.Rule50.{rule50, fillBroken, accountsBroken, countsBroken}
+use Rattle.session.specs.Session.{fresh, readOf, tookOf, handsOut, handedOf, takeOf, lostOf, closeOf}
+use Rattle.session.specs.Call.{Call}
+use Rattle.session.specs.Calls.{Offer}
+use Rattle.endings.specs.declared.How.{How}
+use Rattle.endings.specs.declared.Ending.{Ending}
+use Rattle.endings.specs.Endings.{endingAs, endingsOf}
+use Rattle.endings.specs.Inner.{allTold}
+
+-- frame size 256, payload size 62: EOF framing, and with D1 clear
+abbrev eof : Opening
+eof = record { frame = 256; payload = 62; framing = 3; kind = Old }
+
+abbrev no-eof : Opening
+no-eof = record { frame = 256; payload = 62; framing = 1; kind = Old }
+
+-- headers of FID 0 or 1, with a stamp (7) or none, with EOF or not; each with its data
+abbrev stamped : List ℕ → List ℕ
+stamped d = 0x06 ∷ 0x84 ∷ 7 ∷ 0 ∷ 0 ∷ 0 ∷ d
+
+abbrev stamped-end : List ℕ → List ℕ
+stamped-end d = 0x06 ∷ 0x86 ∷ 7 ∷ 0 ∷ 0 ∷ 0 ∷ d
+
+abbrev plain : List ℕ → List ℕ
+plain d = 0x02 ∷ 0x80 ∷ d
+
+abbrev plain-end : List ℕ → List ℕ
+plain-end d = 0x02 ∷ 0x82 ∷ d
+
+abbrev other : List ℕ → List ℕ
+other d = 0x02 ∷ 0x81 ∷ d
+
+abbrev two : List ℕ
+two = 1 ∷ 2 ∷ []
+
+abbrev three : List ℕ
+three = 3 ∷ 4 ∷ 5 ∷ []
+
+abbrev take : List ℕ → Offer
+take t = Offer.take (replicate 256 0) t
+
+-- DELIVERED: of two transfers, five bytes, and the stamp is the second's, which is the frame's first
+abbrev delivered : List Ending
+delivered = endingAs How.Delivered 5 (Stamp.At 7) ∷ []
+
+pub delivered-list : endingsOf eof (Call.transfer (plain two) ∷ Call.transfer (stamped-end three) ∷ []) ≡ delivered
+unfolding pick firstFrom byEof layoutOf flagOf layerPlace needOf flagsBy stampOf layerOf headerBy readingOf
+delivered-list = refl
+
+pub delivered-told : allTold (fresh eof) (take (plain two) ∷ take (stamped-end three) ∷ []) ≡ delivered
+unfolding pick firstFrom anyBelow frameSizeBroken payloadSizeBroken byEof layoutOf flagOf layerPlace needOf flagsBy stampOf layerOf headerBy readingOf turnOf spoiltOf closedOf plusOf timedOf postOf shownOf sizesBroken fillBroken accountsBroken countsBroken rule50 readOf tookOf handsOut handsOf takeOf
+delivered-told = refl
+
+-- DROPPED, by a gap: five bytes with the first transfer's stamp, when its EOF comes
+abbrev gapped : List Ending
+gapped = endingAs (How.Dropped Reason.Gap) 5 (Stamp.At 7) ∷ []
+
+pub gap-list : endingsOf eof (Call.transfer (stamped two) ∷ Call.lost ∷ Call.transfer (plain-end three) ∷ []) ≡ gapped
+unfolding pick firstFrom byEof layoutOf flagOf layerPlace needOf flagsBy stampOf layerOf headerBy readingOf
+gap-list = refl
+
+pub gap-told : allTold (fresh eof) (take (stamped two) ∷ Offer.lost ∷ take (plain-end three) ∷ []) ≡ gapped
+unfolding pick firstFrom anyBelow frameSizeBroken payloadSizeBroken byEof layoutOf flagOf layerPlace needOf flagsBy stampOf layerOf headerBy readingOf turnOf spoiltOf closedOf plusOf timedOf postOf shownOf sizesBroken fillBroken accountsBroken countsBroken rule50 readOf tookOf handsOut handsOf takeOf lostOf
+gap-told = refl
+
+-- CUT, the first by the other FID and the second by close; a second close is refused
+abbrev cut : List Ending
+cut = endingAs (How.Dropped Reason.Cut) 2 (Stamp.At 7) ∷ endingAs (How.Dropped Reason.Cut) 3 Stamp.Absent ∷ []
+
+pub cut-list : endingsOf eof (Call.transfer (stamped two) ∷ Call.transfer (other three) ∷ Call.close ∷ []) ≡ cut
+unfolding pick firstFrom byEof layoutOf flagOf layerPlace needOf flagsBy stampOf layerOf headerBy readingOf
+cut-list = refl
+
+pub cut-told : allTold (fresh eof) (take (stamped two) ∷ take (other three) ∷ Offer.close ∷ Offer.close ∷ []) ≡ cut
+unfolding pick firstFrom anyBelow frameSizeBroken payloadSizeBroken byEof layoutOf flagOf layerPlace needOf flagsBy stampOf layerOf headerBy readingOf turnOf spoiltOf closedOf plusOf timedOf postOf shownOf sizesBroken fillBroken accountsBroken countsBroken rule50 readOf tookOf handsOut handsOf takeOf closeOf
+cut-told = refl
+
+-- HANDED OUT, with D1 clear: the transfer of the other FID hands the frame out, is offered again, and is under way
+abbrev handed : List Ending
+handed = endingAs How.Delivered 5 (Stamp.At 7) ∷ []
+
+pub handed-list : endingsOf no-eof (Call.transfer (stamped two) ∷ Call.transfer (plain three) ∷ Call.handed ∷ Call.transfer (other two) ∷ []) ≡ handed
+unfolding pick firstFrom byEof layoutOf flagOf layerPlace needOf flagsBy stampOf layerOf headerBy readingOf
+handed-list = refl
+
+pub handed-told : allTold (fresh no-eof) (take (stamped two) ∷ take (plain three) ∷ take (other two) ∷ take (other two) ∷ []) ≡ handed
+unfolding pick firstFrom anyBelow frameSizeBroken payloadSizeBroken byEof layoutOf flagOf layerPlace needOf flagsBy stampOf layerOf headerBy readingOf turnOf spoiltOf closedOf plusOf timedOf postOf shownOf sizesBroken fillBroken accountsBroken countsBroken rule50 readOf tookOf handsOut handsOf takeOf handedOf outOf
+handed-told = refl
