@@ -31,12 +31,18 @@ eof = record { frame = 256; payload = 62; framing = 3; kind = Old }
 abbrev no-eof : Opening
 no-eof = record { frame = 256; payload = 62; framing = 1; kind = Old }
 
--- headers of FID 0 or 1, with a stamp (7) or none, with EOF or not; each with its data
+-- headers of FID 0, with a stamp (7, or 8 where later) or none, with EOF or not, of a still or not; and one of FID 1; each with its data
 abbrev stamped : List ℕ → List ℕ
 stamped d = 0x06 ∷ 0x84 ∷ 7 ∷ 0 ∷ 0 ∷ 0 ∷ d
 
 abbrev stamped-end : List ℕ → List ℕ
 stamped-end d = 0x06 ∷ 0x86 ∷ 7 ∷ 0 ∷ 0 ∷ 0 ∷ d
+
+abbrev later-end : List ℕ → List ℕ
+later-end d = 0x06 ∷ 0x86 ∷ 8 ∷ 0 ∷ 0 ∷ 0 ∷ d
+
+abbrev still-end : List ℕ → List ℕ
+still-end d = 0x02 ∷ 0xA2 ∷ d
 
 abbrev plain : List ℕ → List ℕ
 plain d = 0x02 ∷ 0x80 ∷ d
@@ -79,6 +85,30 @@ gap-list = refl
 pub gap-told : allTold (fresh eof) (take (stamped two) ∷ Offer.lost ∷ take (plain-end three) ∷ []) ≡ gapped
 unfolding pick firstFrom anyBelow frameSizeBroken payloadSizeBroken byEof layoutOf flagOf layerPlace needOf flagsBy stampOf layerOf headerBy readingOf turnOf spoiltOf closedOf plusOf timedOf postOf shownOf sizesBroken fillBroken accountsBroken countsBroken rule50 readOf tookOf handsOut handsOf takeOf lostOf
 gap-told = refl
+
+-- DROPPED, by its clock: five bytes, and the stamp is the first of the two
+abbrev clashed : List Ending
+clashed = endingAs (How.Dropped Reason.Clock) 5 (Stamp.At 7) ∷ []
+
+pub clock-list : endingsOf eof (Call.transfer (stamped two) ∷ Call.transfer (later-end three) ∷ []) ≡ clashed
+unfolding pick firstFrom byEof layoutOf flagOf layerPlace needOf flagsBy stampOf layerOf headerBy readingOf
+clock-list = refl
+
+pub clock-told : allTold (fresh eof) (take (stamped two) ∷ take (later-end three) ∷ []) ≡ clashed
+unfolding pick firstFrom anyBelow frameSizeBroken payloadSizeBroken byEof layoutOf flagOf layerPlace needOf flagsBy stampOf layerOf headerBy readingOf turnOf spoiltOf closedOf plusOf timedOf postOf shownOf sizesBroken fillBroken accountsBroken countsBroken rule50 readOf tookOf handsOut handsOf takeOf
+clock-told = refl
+
+-- A STILL, and a stray after it, which is no part of the frame; a frame begun by the other FID is under way
+abbrev still : List Ending
+still = endingAs How.Still 2 Stamp.Absent ∷ []
+
+pub still-list : endingsOf eof (Call.transfer (still-end two) ∷ Call.transfer (stamped three) ∷ Call.transfer (other two) ∷ []) ≡ still
+unfolding pick firstFrom byEof layoutOf flagOf layerPlace needOf flagsBy stampOf layerOf headerBy readingOf
+still-list = refl
+
+pub still-told : allTold (fresh eof) (take (still-end two) ∷ take (stamped three) ∷ take (other two) ∷ []) ≡ still
+unfolding pick firstFrom anyBelow frameSizeBroken payloadSizeBroken byEof layoutOf flagOf layerPlace needOf flagsBy stampOf layerOf headerBy readingOf turnOf spoiltOf closedOf plusOf timedOf postOf shownOf sizesBroken fillBroken accountsBroken countsBroken rule50 readOf tookOf handsOut handsOf takeOf
+still-told = refl
 
 -- CUT, the first by the other FID and the second by close; a second close is refused
 abbrev cut : List Ending

@@ -188,9 +188,8 @@ pub fn taken(before: Rest, t: &[u8], outcome: Outcome) -> Endings
         }
         Outcome::Handed(x) => {
             let d = x.delivery;
-            let first = handed_out(x.still, d);
             Endings {
-                first,
+                first: handed_out(x.still, d),
                 second: Told::Nothing,
             }
         }
@@ -208,12 +207,9 @@ pub fn closed(before: Rest, closing: Closing) -> Endings
             first: Told::Nothing,
             second: Told::Nothing,
         },
-        Closing::Closed(ended) => {
-            let first = ended_frame(phase, ended);
-            Endings {
-                first,
-                second: Told::Nothing,
-            }
-        }
+        Closing::Closed(ended) => Endings {
+            first: ended_frame(phase, ended),
+            second: Told::Nothing,
+        },
     }
 }
