@@ -5,5 +5,6 @@ pub mod Row50
 pub mod Refused
 pub mod Lent
 pub mod Writes
+pub mod Offered
 pub mod Unique
 pub mod Samples
