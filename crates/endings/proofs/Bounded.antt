@@ -5,13 +5,12 @@ use mathlib.Core.Bool.{Bool, true, false, cond}
 use mathlib.Core.List.{List, [], _∷_}
 use native.Mathlib.Omega.{arith}
 use lib.ListN.{length}
-use Rattle.rules.specs.Pick.{pick}
+use Rattle.rules.specs.Pick.{pick-all}
 use Rattle.sizes.specs.declared.Opening.{Opening}
 use Rattle.payload.specs.Transfer.{readingOf}
 use Rattle.frames.specs.declared.Phase.{Phase}
 use Rattle.frames.specs.declared.Phase.the-variants.{Fresh, Under, Past}
 use Rattle.frames.specs.Track.{underBytes}
-use Rattle.frames.specs.Inner.{sameOf}
 use Rattle.ledger.proofs.Places.{Sized}
 use Rattle.refusals.specs.Refusals.{takenMost}
 use Rattle.session.specs.declared.Session.{Session}
@@ -55,14 +54,9 @@ after-bounded s [] b = b
 after-bounded s (x ∷ xs) b = after-bounded (next s x) xs (next-bounded s b x)
 
 before-under : (ph : Phase) (f : Bool) → bytesBefore ph f ≤ underBytes ph
-unfolding pick
 before-under Fresh f = omega arith
 before-under (Past g) f = omega arith
-before-under (Under r) f = go (sameOf (r .fid) f)
-  where
-    go : (c : Bool) → pick c (r .bytes) 0 ≤ r .bytes
-    go true = omega arith
-    go false = omega arith
+before-under (Under r) f = pick-all (λ (n : ℕ). n ≤ r .bytes) _ _ _ (omega arith) (omega arith)
 
 -- what a take that is not refused leaves room for
 pub never-wraps : (o : Opening) (xs : List Offer) (u t : List ℕ) → refusal (after (fresh o) xs) (Offer.take u t) ≡ 0

@@ -120,8 +120,8 @@ module _ (o : Opening) (h : Header) (d : List ℕ) (b : Bool) (m : ℕ) (size : 
         let g : sameOf (x .fid) (h .fid) ≡ true = same-run (x .fid) u (h .fid) (k .0) ∙ e in
         let j : Joins o (Under x) (h .fid) r = record {
           going = k .1 .going;
-          bytes = ap (λ (c : Bool). pick c (x .bytes) 0) g ∙ k .1 .bytes₀;
-          stamp = ap (λ (c : Bool). pick c (x .stamp) Stamp.Absent) g ∙ k .1 .stamp₀;
+          bytes = rw g (k .1 .bytes₀);
+          stamp = rw g (k .1 .stamp₀);
         } in
         rw e
         (append-nil (endingFrom o true true s)
@@ -143,8 +143,8 @@ module _ (o : Opening) (h : Header) (d : List ℕ) (b : Bool) (m : ℕ) (size : 
         let g : sameOf (x .fid) (h .fid) ≡ false = same-run (x .fid) u (h .fid) (k .0) ∙ e in
         let j : Joins o (Under x) (h .fid) [] = record {
           going = refl;
-          bytes = ap (λ (c : Bool). pick c (x .bytes) 0) g;
-          stamp = ap (λ (c : Bool). pick c (x .stamp) Stamp.Absent) g;
+          bytes = rw g;
+          stamp = rw g;
         } in
         rw (e, turned-why e)
         (ap (endingFrom o true false r ++_) (append-nil (endingFrom o true true s) ∙ sym (own-told o h d b (Under x) m size small [] j))
