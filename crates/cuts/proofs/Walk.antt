@@ -25,6 +25,7 @@ pub record Next (n : ℕ) (l : List ℕ) (at end : ℕ) : Type 0 where
   pub on : at < end
   pub within : end ≤ length l
   pub most : end ≤ at + n
+  pub whole : end < length l → end ≡ at + n
   pub cut : cutOf n (drop at l) ≡ take (end - at) (drop at l) ∷ cutOf n (drop end l)
 
 module _ (n : ℕ) (pos : 0 < n) (l : List ℕ) (at : ℕ) (here : at < length l) where
@@ -44,6 +45,7 @@ module _ (n : ℕ) (pos : 0 < n) (l : List ℕ) (at : ℕ) (here : at < length l
             on = here;
             within = omega arith;
             most = omega arith;
+            whole = λ h. absurd (omega arith);
             cut = first ∙ ap (λ (r : List ℕ). r ∷ cutOf n (drop n (drop at l))) (a ∙ sym b) ∙ ap (λ (r : List ℕ). take (length l - at) (drop at l) ∷ cutOf n r) (c ∙ sym (drop-length l));
           }
 
@@ -52,6 +54,7 @@ module _ (n : ℕ) (pos : 0 < n) (l : List ℕ) (at : ℕ) (here : at < length l
         on = omega (arith, pos);
         within = omega arith;
         most = omega arith;
+        whole = λ h. refl;
         cut = first ∙ ap (λ (k : ℕ). take k (drop at l) ∷ cutOf n (drop n (drop at l))) size ∙ ap (λ (r : List ℕ). take (at + n - at) (drop at l) ∷ cutOf n r) (drop-drop n at l);
       }
         where

@@ -19,7 +19,7 @@ between least most n = leb n most && leb least n
 
 -- the numbers of documents 01 and 02 for a control block, a streaming block, a probe block, a configuration and a setting
 abbrev pub forBlocks : ℕ → Bool
-forBlocks n = between 1 16 n || (between 20 46 n || (between 70 75 n || between 90 95 n))
+forBlocks n = between 1 16 n || (between 20 46 n || (between 70 75 n || (between 80 82 n || between 90 95 n)))
 
 abbrev pub some : List ℕ → Bool
 some [] = false
@@ -41,7 +41,7 @@ unfolding wordsOf
 low n h = alike→eq (some (wordsOf n)) (forBlocks n) (below (λ i. alike (some (wordsOf i)) (forBlocks i)) beyond tt n h)
 
 high : (n : ℕ) → beyond ≤ n → some (wordsOf n) ≡ forBlocks n
-high n h = rw (past n h, lt-leb n 16 (omega arith), lt-leb n 46 (omega arith), lt-leb n 75 (omega arith), lt-leb n 95 (omega arith))
+high n h = rw (past n h, lt-leb n 16 (omega arith), lt-leb n 46 (omega arith), lt-leb n 75 (omega arith), lt-leb n 82 (omega arith), lt-leb n 95 (omega arith))
 
 pub words-exactly : (n : ℕ) → some (wordsOf n) ≡ forBlocks n
 words-exactly n = by-test (ltb n beyond) refl
@@ -63,9 +63,9 @@ outside least most n h = by-tests (leb n most) (leb least n) refl refl
     by-tests true false e f = refl
     by-tests true true e f = absurd (h (leb→le n most (subst T (sym e) tt)) (leb→le least n (subst T (sym f) tt)))
 
-pub none-other : (n : ℕ) (old : List ℕ) (at : ℕ) → at ≤ length old → (n ≤ 16 → 1 ≤ n → ⊥) → (n ≤ 46 → 20 ≤ n → ⊥) → (n ≤ 75 → 70 ≤ n → ⊥) → (n ≤ 95 → 90 ≤ n → ⊥) → Put old at (wordsOf n) at old
-none-other n old at h c s w g =
-    let f : forBlocks n ≡ false = rw (outside 1 16 n c, outside 20 46 n s, outside 70 75 n w) (outside 90 95 n g) in
+pub none-other : (n : ℕ) (old : List ℕ) (at : ℕ) → at ≤ length old → (n ≤ 16 → 1 ≤ n → ⊥) → (n ≤ 46 → 20 ≤ n → ⊥) → (n ≤ 75 → 70 ≤ n → ⊥) → (n ≤ 82 → 80 ≤ n → ⊥) → (n ≤ 95 → 90 ≤ n → ⊥) → Put old at (wordsOf n) at old
+none-other n old at h c s w d g =
+    let f : forBlocks n ≡ false = rw (outside 1 16 n c, outside 20 46 n s, outside 70 75 n w, outside 80 82 n d) (outside 90 95 n g) in
     rw (quiet (wordsOf n) (words-exactly n ∙ f)) (none old at h)
 
 -- the number that has these words

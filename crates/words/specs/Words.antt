@@ -66,6 +66,9 @@ table =
     says 73 "the control header names a streaming interface that is not there" ∷
     says 74 "no alternate setting holds this payload size" ∷
     says 75 "there are more than 8 streaming interfaces, or 32 settings of one" ∷
+    says 80 "a frame has no bytes or over 16,777,216" ∷
+    says 81 "the payload size leaves no room for data, or is over 65,536" ∷
+    says 82 "there is room for fewer bytes than the next transfer has" ∷
     says 90 "no processing unit has this ID" ∷
     says 91 "the processing unit has no such control in its map" ∷
     says 92 "the minimum is above the maximum" ∷

@@ -90,9 +90,9 @@ const WIDTHS: [u8; PAST] = [
     0,
     0,
     0,
-    0,
-    0,
-    0,
+    40,
+    60,
+    57,
     0,
     0,
     0,
@@ -219,6 +219,22 @@ there are more than 8 streaming interfaces, or 32 settings of one\n......\
     text::put(buf, at, &lines[from..to])
 }
 
+// The line of 80 to 82: the sender.
+fn sender(buf: &mut [u8], at: usize, n: usize) -> usize
+    requires { ⌜ (at + 72 ≤ length (now buf)) × (80 ≤ n) × (n ≤ 82) ⌝ }
+    ensures { λ r. ⌜ Put (now (buf .entry)) at (wordsOf n) r (now (buf .exit)) ⌝ }
+    ensures { λ r. ⌜ r ≤ at + 72 ⌝ }
+{
+    let lines: &[u8] = b"\
+a frame has no bytes or over 16,777,216\n................................\
+the payload size leaves no room for data, or is over 65,536\n............\
+there is room for fewer bytes than the next transfer has\n...............\
+";
+    let from = 72 * (n - 80);
+    let to = from + width(n) as usize;
+    text::put(buf, at, &lines[from..to])
+}
+
 // The line of 90 to 95: camera settings.
 fn setup(buf: &mut [u8], at: usize, n: usize) -> usize
     requires { ⌜ (at + 72 ≤ length (now buf)) × (90 ≤ n) × (n ≤ 95) ⌝ }
@@ -250,6 +266,7 @@ pub fn put(buf: &mut [u8], at: usize, number: u8) -> usize
         20..=40 => streaming(buf, at, n),
         41..=46 => probe(buf, at, n),
         70..=75 => configuration(buf, at, n),
+        80..=82 => sender(buf, at, n),
         90..=95 => setup(buf, at, n),
         _ => at,
     }
