@@ -31,7 +31,7 @@ eof = record { frame = 256; payload = 62; framing = 3; kind = Old }
 abbrev no-eof : Opening
 no-eof = record { frame = 256; payload = 62; framing = 1; kind = Old }
 
--- headers of FID 0, with a stamp (7, or 8 where later) or none, with EOF or not, of a still or not; and one of FID 1; each with its data
+-- headers of FID 0, with a stamp (7, or 8 where later) or none, with EOF or not, of a still or not; and of FID 1, with EOF or not; each with its data
 abbrev stamped : List ℕ → List ℕ
 stamped d = 0x06 ∷ 0x84 ∷ 7 ∷ 0 ∷ 0 ∷ 0 ∷ d
 
@@ -52,6 +52,9 @@ plain-end d = 0x02 ∷ 0x82 ∷ d
 
 abbrev other : List ℕ → List ℕ
 other d = 0x02 ∷ 0x81 ∷ d
+
+abbrev other-end : List ℕ → List ℕ
+other-end d = 0x02 ∷ 0x83 ∷ d
 
 abbrev two : List ℕ
 two = 1 ∷ 2 ∷ []
@@ -121,6 +124,18 @@ cut-list = refl
 pub cut-told : allTold (fresh eof) (take (stamped two) ∷ take (other three) ∷ Offer.close ∷ Offer.close ∷ []) ≡ cut
 unfolding pick firstFrom anyBelow frameSizeBroken payloadSizeBroken byEof layoutOf flagOf layerPlace needOf flagsBy stampOf layerOf headerBy readingOf turnOf spoiltOf closedOf plusOf timedOf postOf shownOf sizesBroken fillBroken accountsBroken countsBroken rule50 readOf tookOf handsOut handsOf takeOf closeOf
 cut-told = refl
+
+-- TWO BY ONE CALL: a frame cut by the other FID, and then the transfer's own
+abbrev both : List Ending
+both = endingAs (How.Dropped Reason.Cut) 2 (Stamp.At 7) ∷ endingAs How.Delivered 3 Stamp.Absent ∷ []
+
+pub both-list : endingsOf eof (Call.transfer (stamped two) ∷ Call.transfer (other-end three) ∷ []) ≡ both
+unfolding pick firstFrom byEof layoutOf flagOf layerPlace needOf flagsBy stampOf layerOf headerBy readingOf
+both-list = refl
+
+pub both-told : allTold (fresh eof) (take (stamped two) ∷ take (other-end three) ∷ []) ≡ both
+unfolding pick firstFrom anyBelow frameSizeBroken payloadSizeBroken byEof layoutOf flagOf layerPlace needOf flagsBy stampOf layerOf headerBy readingOf turnOf spoiltOf closedOf plusOf timedOf postOf shownOf sizesBroken fillBroken accountsBroken countsBroken rule50 readOf tookOf handsOut handsOf takeOf
+both-told = refl
 
 -- HANDED OUT, with D1 clear: the transfer of the other FID hands the frame out, is offered again, and is under way
 abbrev handed : List Ending

@@ -10,7 +10,7 @@ use Rattle.books.specs.Rule.{entryOf, framesBy}
 use Rattle.books.specs.Offers.{listOf}
 use Rattle.books.proofs.Theorems.{list-right}
 use Rattle.endings.specs.declared.Ending.{Ending}
-use Rattle.endings.specs.Endings.{endingsOf, EndingsOfEntries}
+use Rattle.endings.specs.Endings.{endingsOf, entriesSay, said}
 use Rattle.endings.specs.Inner.{listIn, toldBy, allTold}
 use Rattle.endings.proofs.Steps.{one-more}
 use Rattle.endings.proofs.Entries.{of-entries}
@@ -45,6 +45,7 @@ from o (x ∷ xs) ys =
 pub all-told : (o : Opening) (xs : List Offer) → allTold (fresh o) xs ≡ endingsOf o (listOf o xs)
 all-told o xs = sym (from o xs [])
 
--- 4. The frames that ended are the frame rule's entries: an ending for each delivered frame and still, with its length and stamp, and for each dropped one, with its reason and bytes.
-pub entries-of-endings : (o : Opening) (cs : List Call) → EndingsOfEntries (map entryOf (framesBy o cs)) (endingsOf o cs)
+-- 4. The frames that ended are the frame rule's entries: each delivered frame and still with its length and stamp, each dropped one with its reason and its bytes, in order,
+-- and no other.
+pub entries-of-endings : (o : Opening) (cs : List Call) → map said (endingsOf o cs) ≡ entriesSay (map entryOf (framesBy o cs))
 entries-of-endings = of-entries

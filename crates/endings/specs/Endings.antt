@@ -6,8 +6,6 @@ use mathlib.Core.List.{List, [], _∷_, _++_}
 use lib.ListN.{length}
 use Rattle.sizes.specs.declared.Opening.{Opening}
 use Rattle.payload.specs.declared.Stamp.{Stamp}
-use Rattle.frames.specs.declared.Reason.{Reason}
-use Rattle.frames.specs.declared.Delivery.{Delivery}
 use Rattle.ledger.specs.Entry.{Entry}
 use Rattle.session.specs.Call.{Call}
 use Rattle.books.specs.Rule.{events, isOpen, Seen, readables, runs, frameOf, dataOf, firstStamp, nothing}
@@ -44,15 +42,28 @@ endingsIn o open₀ (r ∷ rs) = endingFrom o open₀ (nothing rs) r ++ endingsI
 abbrev pub endingsOf : Opening → List Call → List Ending
 endingsOf o cs = endingsIn o (isOpen cs) (runs (readables false (events o cs)))
 
--- THE ENDINGS OF ENTRIES: an ending for each delivered frame and still, with its length and stamp, and for each dropped frame, with its reason and its bytes, in
--- the order of the entries; none for a frame under way, and none for a stray. No other entry is a frame's.
-pub data EndingsOfEntries : List Entry → List Ending → Type 0 where
-  none : EndingsOfEntries [] []
-  delivered : (d : Delivery) (es : List Entry) (xs : List Ending) → EndingsOfEntries es xs
-      → EndingsOfEntries (Entry.Delivered d ∷ es) (endingAs How.Delivered (d .len) (d .stamp) ∷ xs)
-  still : (d : Delivery) (es : List Entry) (xs : List Ending) → EndingsOfEntries es xs
-      → EndingsOfEntries (Entry.Still d ∷ es) (endingAs How.Still (d .len) (d .stamp) ∷ xs)
-  dropped : (w : Reason) (n : ℕ) (s : Stamp) (es : List Entry) (xs : List Ending) → EndingsOfEntries es xs
-      → EndingsOfEntries (Entry.Dropped w n ∷ es) (endingAs (How.Dropped w) n s ∷ xs)
-  under-way : (n : ℕ) (es : List Entry) (xs : List Ending) → EndingsOfEntries es xs → EndingsOfEntries (Entry.UnderWay n ∷ es) xs
-  stray : (n : ℕ) (es : List Entry) (xs : List Ending) → EndingsOfEntries es xs → EndingsOfEntries (Entry.Stray n ∷ es) xs
+-- WHAT THE RULE'S ENTRIES SAY of the frames that ended, in order: each delivered frame and still with its length and stamp, each dropped frame with its reason and
+-- its bytes; nothing of a frame under way, and nothing of a stray. (The last four entries are no frame's.)
+abbrev pub entrySays : Entry → List Ending
+entrySays (Entry.Delivered d) = endingAs How.Delivered (d .len) (d .stamp) ∷ []
+entrySays (Entry.Still d) = endingAs How.Still (d .len) (d .stamp) ∷ []
+entrySays (Entry.Dropped w n) = endingAs (How.Dropped w) n Stamp.Absent ∷ []
+entrySays (Entry.UnderWay n) = []
+entrySays (Entry.Stray n) = []
+entrySays (Entry.Unreadable n) = []
+entrySays (Entry.Headers n) = []
+entrySays Entry.Lost = []
+entrySays Entry.Idle = []
+
+abbrev pub entriesSay : List Entry → List Ending
+entriesSay [] = []
+entriesSay (e ∷ es) = entrySays e ++ entriesSay es
+
+-- an ending as far as an entry can say it: of a dropped frame no entry has a stamp
+abbrev pub saidBy : How → ℕ → Stamp → Ending
+saidBy How.Delivered n s = endingAs How.Delivered n s
+saidBy How.Still n s = endingAs How.Still n s
+saidBy (How.Dropped w) n s = endingAs (How.Dropped w) n Stamp.Absent
+
+abbrev pub said : Ending → Ending
+said x = saidBy (x .how) (x .len) (x .stamp)
