@@ -24,7 +24,7 @@ struct Input {
 }
 
 // Reads to the end of the input, or to the first record that decides.
-fn read_all(fd: i32, frame: &mut [u8], piece: &mut [u8], input: &mut [u8]) -> Input
+fn read_all(fd: i32, piece: &mut [u8], input: &mut [u8]) -> Input
     requires { ⌜ length (now piece) ≡ 64 ⌝ }
     ensures { λ x. ⌜ x .reader .have < 64 ⌝ }
 {
@@ -46,7 +46,7 @@ fn read_all(fd: i32, frame: &mut [u8], piece: &mut [u8], input: &mut [u8]) -> In
                 whole: true,
             };
         }
-        reader = pieces::feed(reader, frame, piece, &input[..n]);
+        reader = pieces::feed(reader, piece, &input[..n]);
         let t = reader.trace;
         if !is_good(t) {
             return Input {
@@ -64,17 +64,16 @@ fn read_all(fd: i32, frame: &mut [u8], piece: &mut [u8], input: &mut [u8]) -> In
 
 // Reads all of a descriptor and prints the ledger; a read that fails gets one line, and no ledger.
 pub fn run(fd: i32, name: &[u8]) {
-    let mut frame = [0u8; 256];
     let mut piece = [0u8; 64];
     let mut input = io::large_buffer();
-    let read = read_all(fd, &mut frame, &mut piece, &mut input);
+    let read = read_all(fd, &mut piece, &mut input);
     if !read.whole {
         os::fail(name);
         status::failed();
         return;
     }
     let reader = read.reader;
-    let trace = pieces::last(reader, &mut frame, &piece);
+    let trace = pieces::last(reader, &piece);
     if !print::print(trace.finish()) {
         os::fail(b"standard output");
         status::failed();

@@ -9,7 +9,7 @@ use Rattle.records.specs.declared.Form.the-variants.{Short}
 use Rattle.records.specs.Record.{recordsOf}
 use Rattle.trace.specs.declared.Trace.{Trace}
 use Rattle.trace.specs.declared.Printed.{Printed}
-use Rattle.trace.specs.Trace.{traced, reportOf}
+use Rattle.trace.specs.Trace.{ledgerSizes, traced, reportOf}
 use Rattle.trace.specs.Standing.{stateOf, printedBy}
 use Rattle.trace.specs.Inner.{isDecided}
 use Rattle.pieces.specs.declared.Reader.{Reader}
@@ -19,7 +19,7 @@ use Rattle.ledger_text.specs.Report.{textOf, room}
 
 -- of a list of records: the ledger's lines, or `bad record N`, or `refused 52 at record N`
 abbrev pub printRecords : List (List ℕ) → List ℕ
-printRecords rs = textOf (stateOf rs) (printedBy (stateOf rs) rs)
+printRecords rs = textOf (stateOf Short rs) (printedBy Short ledgerSizes (stateOf Short rs) rs)
 
 -- WHAT IS PRINTED of a trace file
 abbrev pub printOf : List ℕ → List ℕ
@@ -30,28 +30,24 @@ abbrev pub bytesIn : List (List ℕ) → List ℕ
 bytesIn [] = []
 bytesIn (input ∷ inputs) = input ++ bytesIn inputs
 
--- THE READS are fed in turn: from a reader, the frame buffer and the piece to those after them
-abbrev pub Fed : List (List ℕ) → Reader → List ℕ → List ℕ → Reader → List ℕ → List ℕ → Type 0
-Fed [] r frame piece r' frame' piece' = (r ≡ r') × ((frame ≡ frame') × (piece ≡ piece'))
-Fed (input ∷ inputs) r frame piece r' frame' piece' =
-    (x : Reader) × ((f : List ℕ) × ((p : List ℕ) × (After (r .trace) frame (take (r .have) piece ++ input) x f p × Fed inputs x f p r' frame' piece')))
+-- THE READS are fed in turn: from a reader and the piece to those after them
+abbrev pub Fed : List (List ℕ) → Reader → List ℕ → Reader → List ℕ → Type 0
+Fed [] r piece r' piece' = (r ≡ r') × (piece ≡ piece')
+Fed (input ∷ inputs) r piece r' piece' = (x : Reader) × ((p : List ℕ) × (After (r .trace) (take (r .have) piece ++ input) x p × Fed inputs x p r' piece'))
 
 -- A RUN on a file: its bytes are fed in reads of any size, to the end or until a record has decided; then come `last`, `finish` and `write`.
--- The frame buffer has 256 bytes or more, and that of the text enough for any report; what they hold at first is free, as is the piece.
+-- The buffer of the text has enough for any report; what it holds at first is free, as is the piece.
 pub record Run (file : List ℕ) : Type 0 where
   pub reads : List (List ℕ)
   pub unread : List ℕ
   pub all : file ≡ bytesIn reads ++ unread
-  pub frame₀ : List ℕ
   pub piece₀ : List ℕ
-  pub sized : 256 ≤ length frame₀
   pub reader : Reader
-  pub frame : List ℕ
   pub piece : List ℕ
-  pub fed : Fed reads newReader frame₀ piece₀ reader frame piece
+  pub fed : Fed reads newReader piece₀ reader piece
   pub enough : (unread ≡ []) ⊎ (isDecided (reader .trace .state) ≡ true)
   pub trace : Trace
-  pub last : trace ≡ traced (reader .trace) frame (recordsOf Short (take (reader .have) piece))
+  pub last : trace ≡ traced Short (reader .trace) (recordsOf Short (take (reader .have) piece))
   pub printed : Printed
   pub finish : printed ≡ reportOf trace
   pub buffer₀ : List ℕ

@@ -8,7 +8,7 @@ use lib.Seq.{length-take-le, take-at, drop-at}
 use Rattle.trace.specs.declared.Trace.{Trace}
 use Rattle.records.specs.declared.Form.the-variants.{Short}
 use Rattle.records.specs.Record.{recordsOf}
-use Rattle.trace.specs.Trace.{traced, tracedBuffer}
+use Rattle.trace.specs.Trace.{traced}
 use Rattle.trace.proofs.Pieces.{in-pieces}
 use Rattle.pieces.specs.Pieces.{wholeIn, overIn, After}
 use Rattle.pieces.specs.declared.Reader.{Reader}
@@ -43,27 +43,25 @@ module _ (bytes : List ℕ) (k : ℕ) (xs ys : List ℕ) (c : Cut bytes k xs ys)
   pub cut-have : length bytes % 64 ≡ length ys
   cut-have = omega (arith, many, c .whole, c .over)
 
-  pub after-cut : (t : Trace) (b : List ℕ) (r : Reader) (frame piece : List ℕ)
-      → r .trace ≡ traced t b (recordsOf Short xs) → frame ≡ tracedBuffer t b (recordsOf Short xs) → r .have ≡ length ys → take (r .have) piece ≡ ys
-      → After t b bytes r frame piece
-  after-cut t b r frame piece e f h q =
+  pub after-cut : (t : Trace) (r : Reader) (piece : List ℕ)
+      → r .trace ≡ traced Short t (recordsOf Short xs) → r .have ≡ length ys → take (r .have) piece ≡ ys → After t bytes r piece
+  after-cut t r piece e h q =
       record {
-        trace = e ∙ ap (λ (l : List ℕ). traced t b (recordsOf Short l)) (sym cut-whole);
-        buffer = f ∙ ap (λ (l : List ℕ). tracedBuffer t b (recordsOf Short l)) (sym cut-whole);
+        trace = e ∙ ap (λ (l : List ℕ). traced Short t (recordsOf Short l)) (sym cut-whole);
         have = h ∙ sym cut-have;
         kept = q ∙ sym cut-over;
       }
 
 -- ---- no bytes more
-pub after-none : (r : Reader) (frame piece : List ℕ) → r .have < 64 → length piece ≡ 64 → After (r .trace) frame (take (r .have) piece) r frame piece
+pub after-none : (r : Reader) (piece : List ℕ) → r .have < 64 → length piece ≡ 64 → After (r .trace) (take (r .have) piece) r piece
 unfolding recordsOf
-after-none r frame piece h n =
+after-none r piece h n =
     let z = length-take-le (r .have) piece (omega arith) in
-    after-cut (take (r .have) piece) 0 [] (take (r .have) piece) (record { all = refl; whole = refl; over = omega (arith, z) }) (r .trace) frame r frame piece refl refl (sym z) refl
+    after-cut (take (r .have) piece) 0 [] (take (r .have) piece) (record { all = refl; whole = refl; over = omega (arith, z) }) (r .trace) r piece refl (sym z) refl
 
 -- ---- some bytes, and some more from where they led
-module _ (t : Trace) (b bytes : List ℕ) (r : Reader) (frame piece : List ℕ) (u : After t b bytes r frame piece) (more : List ℕ) (x : Reader) (frame' piece' : List ℕ)
-    (v : After (r .trace) frame (take (r .have) piece ++ more) x frame' piece') where
+module _ (t : Trace) (bytes : List ℕ) (r : Reader) (piece : List ℕ) (u : After t bytes r piece) (more : List ℕ) (x : Reader) (piece' : List ℕ)
+    (v : After (r .trace) (take (r .have) piece ++ more) x piece') where
   abbrev k₁ : ℕ
   k₁ = length bytes / 64
 
@@ -84,13 +82,10 @@ module _ (t : Trace) (b bytes : List ℕ) (r : Reader) (frame piece : List ℕ) 
         over = d .over;
       }
 
-  pub after-more : After t b (bytes ++ more) x frame' piece'
+  pub after-more : After t (bytes ++ more) x piece'
   after-more =
-      let p = in-pieces k₁ t b (wholeIn bytes) (wholeIn next) (cut-of bytes .whole) in
-      after-cut (bytes ++ more) (k₁ + k₂) (wholeIn bytes ++ wholeIn next) (overIn next) cut-more t b x frame' piece'
-      (v .trace ∙ ap (λ (y : Trace). traced y frame (recordsOf Short (wholeIn next))) (u .trace)
-      ∙ ap (λ (y : List ℕ). traced (traced t b (recordsOf Short (wholeIn bytes))) y (recordsOf Short (wholeIn next))) (u .buffer) ∙ sym (p .0))
-      (v .buffer ∙ ap (λ (y : Trace). tracedBuffer y frame (recordsOf Short (wholeIn next))) (u .trace)
-      ∙ ap (λ (y : List ℕ). tracedBuffer (traced t b (recordsOf Short (wholeIn bytes))) y (recordsOf Short (wholeIn next))) (u .buffer) ∙ sym (p .1))
+      after-cut (bytes ++ more) (k₁ + k₂) (wholeIn bytes ++ wholeIn next) (overIn next) cut-more t x piece'
+      (v .trace ∙ ap (λ (y : Trace). traced Short y (recordsOf Short (wholeIn next))) (u .trace)
+      ∙ sym (in-pieces Short k₁ t (wholeIn bytes) (wholeIn next) (cut-of bytes .whole)))
       (v .have ∙ cut-have next k₂ (wholeIn next) (overIn next) (cut-of next))
       (v .kept)

@@ -13,18 +13,20 @@ use Rattle.trace.specs.Inner.{isDecided}
 use Rattle.records.specs.declared.Form.the-variants.{Short}
 use Rattle.records.specs.Record.{recordBad, recordsOf}
 use Rattle.trace.specs.Standing.{closedIn}
-use Rattle.trace.specs.Trace.{newTrace, traced, tracedBuffer}
+use Rattle.trace.specs.Trace.{ledgerSizes, newTrace, traced}
 use Rattle.trace.proofs.Exactly.{trace-exactly}
-use Rattle.trace.proofs.Pieces.{in-pieces, records-append}
-use Rattle.trace.proofs.Runs.{records-more, run-stays}
+use Rattle.records.proofs.Records.{records-more, records-append}
+use Rattle.trace.proofs.Begins.{ledger-fits}
+use Rattle.trace.proofs.Pieces.{in-pieces}
+use Rattle.trace.proofs.Runs.{run-stays}
 use Rattle.pieces.specs.Pieces.{wholeIn, overIn, After, Read, newReader}
 use Rattle.pieces.specs.declared.Reader.{Reader}
 use Rattle.pieces.proofs.Joined.{cut-of, cut-have, after-more}
 
 -- a new reader has read nothing
-pub read-new : (b piece : List ℕ) → Read [] b newReader b piece
+pub read-new : (piece : List ℕ) → Read [] newReader piece
 unfolding recordsOf
-read-new b piece = record { trace = refl; buffer = refl; have = refl; kept = refl }
+read-new piece = record { trace = refl; have = refl; kept = refl }
 
 -- k whole records are k
 count-whole : (k : ℕ) (l : List ℕ) → length l ≡ k * 64 → length (recordsOf Short l) ≡ k
@@ -33,52 +35,46 @@ count-whole zero [] e = refl
 count-whole zero (x ∷ l) e = absurd (omega arith)
 count-whole (suc k) l e =
     let i = count-whole k (drop 64 l) (omega (arith, length-drop 64 l)) in
-    ap length (records-more l (omega arith)) ∙ ap suc i
+    ap length (records-more Short l (omega arith)) ∙ ap suc i
 
 -- fewer than 64 bytes are one record, and a bad one
 one-short : (l : List ℕ) → 0 < length l → length l < 64 → recordsOf Short l ≡ l ∷ []
 unfolding recordsOf
-one-short l h g = records-more l h ∙ ap (λ (d : List ℕ). take 64 l ∷ recordsOf Short d) (drop-of-length-le l {i = 64} (omega arith)) ∙ ap (_∷ []) (take-all 64 l (omega arith))
+one-short l h g = records-more Short l h ∙ ap (λ (d : List ℕ). take 64 l ∷ recordsOf Short d) (drop-of-length-le l {i = 64} (omega arith)) ∙ ap (_∷ []) (take-all 64 l (omega arith))
 
 short-bad : (l : List ℕ) → length l < 64 → recordBad Short l ≡ true
 unfolding recordBad
 short-bad l g = rw (ne-eqb (length l) 64 (λ e. omega arith))
 
-module _ (b bytes : List ℕ) (r : Reader) (frame piece : List ℕ) (u : Read bytes b r frame piece) where
+module _ (bytes : List ℕ) (r : Reader) (piece : List ℕ) (u : Read bytes r piece) where
   -- by what `feed` promises, so many bytes more are read
-  pub read-feed : (input : List ℕ) (x : Reader) (frame' piece' : List ℕ) → After (r .trace) frame (take (r .have) piece ++ input) x frame' piece' → Read (bytes ++ input) b x frame' piece'
-  read-feed input x frame' piece' v = after-more newTrace b bytes r frame piece u input x frame' piece' v
+  pub read-feed : (input : List ℕ) (x : Reader) (piece' : List ℕ) → After (r .trace) (take (r .have) piece ++ input) x piece' → Read (bytes ++ input) x piece'
+  read-feed input x piece' v = after-more (newTrace ledgerSizes) bytes r piece u input x piece' v
 
   -- what comes after the whole records is read from where they led
-  read-rest : (all l : List ℕ) → all ≡ wholeIn bytes ++ l
-      → (traced (r .trace) frame (recordsOf Short l) ≡ traced newTrace b (recordsOf Short all)) × (tracedBuffer (r .trace) frame (recordsOf Short l) ≡ tracedBuffer newTrace b (recordsOf Short all))
-  read-rest all l e =
-      let p = in-pieces (length bytes / 64) newTrace b (wholeIn bytes) l (cut-of bytes .whole) in
-      (rw (u .trace, u .buffer, e) (sym (p .0)), rw (u .trace, u .buffer, e) (sym (p .1)))
+  read-rest : (all l : List ℕ) → all ≡ wholeIn bytes ++ l → traced Short (r .trace) (recordsOf Short l) ≡ traced Short (newTrace ledgerSizes) (recordsOf Short all)
+  read-rest all l e = rw (u .trace, e) (sym (in-pieces Short (length bytes / 64) (newTrace ledgerSizes) (wholeIn bytes) l (cut-of bytes .whole)))
 
   -- by what `last` promises, the answer is that for all the bytes: what is left over is a record of its own
-  pub read-last : (x : Trace) → x ≡ traced (r .trace) frame (recordsOf Short (take (r .have) piece)) → x ≡ traced newTrace b (recordsOf Short bytes)
-  read-last x e = e ∙ read-rest bytes (take (r .have) piece) (cut-of bytes .all ∙ ap (wholeIn bytes ++_) (sym (u .kept))) .0
-
-  pub read-last-buffer : (frame' : List ℕ) → frame' ≡ tracedBuffer (r .trace) frame (recordsOf Short (take (r .have) piece)) → frame' ≡ tracedBuffer newTrace b (recordsOf Short bytes)
-  read-last-buffer frame' e = e ∙ read-rest bytes (take (r .have) piece) (cut-of bytes .all ∙ ap (wholeIn bytes ++_) (sym (u .kept))) .1
+  pub read-last : (x : Trace) → x ≡ traced Short (r .trace) (recordsOf Short (take (r .have) piece)) → x ≡ traced Short (newTrace ledgerSizes) (recordsOf Short bytes)
+  read-last x e = e ∙ read-rest bytes (take (r .have) piece) (cut-of bytes .all ∙ ap (wholeIn bytes ++_) (sym (u .kept)))
 
   -- once a record has decided, no byte that comes after it counts: reading may stop
-  pub read-decided : isDecided (r .trace .state) ≡ true → (more : List ℕ) → traced newTrace b (recordsOf Short (bytes ++ more)) ≡ r .trace
+  pub read-decided : isDecided (r .trace .state) ≡ true → (more : List ℕ) → traced Short (newTrace ledgerSizes) (recordsOf Short (bytes ++ more)) ≡ r .trace
   read-decided d more =
-      sym (read-rest (bytes ++ more) (overIn bytes ++ more) (ap (_++ more) (cut-of bytes .all) ∙ append-assoc (wholeIn bytes) (overIn bytes) more) .0)
-      ∙ sym (run-stays (r .trace) frame (overIn bytes ++ more) true (sym d) refl .0)
+      sym (read-rest (bytes ++ more) (overIn bytes ++ more) (ap (_++ more) (cut-of bytes .all) ∙ append-assoc (wholeIn bytes) (overIn bytes) more))
+      ∙ sym (run-stays Short (r .trace) (overIn bytes ++ more) true (sym d) refl)
 
   -- a partial record at the end of a good trace is bad, with its own number
-  pub read-partial : 256 ≤ length b → r .trace .state ≡ Good → 0 < r .have → traced newTrace b (recordsOf Short bytes) .state ≡ Bad (length bytes / 64 + 1)
-  read-partial room g h =
-      trace-exactly b room (recordsOf Short bytes) (Bad (length bytes / 64 + 1)) .1
+  pub read-partial : r .trace .state ≡ Good → 0 < r .have → traced Short (newTrace ledgerSizes) (recordsOf Short bytes) .state ≡ Bad (length bytes / 64 + 1)
+  read-partial g h =
+      trace-exactly Short ledgerSizes (ledger-fits .0) (ledger-fits .1) (recordsOf Short bytes) (Bad (length bytes / 64 + 1)) .1
       (record {
         before = recordsOf Short (wholeIn bytes);
         this = overIn bytes;
         rest = [];
         cut = cuts;
-        good = trace-exactly b room (recordsOf Short (wholeIn bytes)) Good .0 (sym (ap (λ (t : Trace). t .state) (u .trace)) ∙ g);
+        good = trace-exactly Short ledgerSizes (ledger-fits .0) (ledger-fits .1) (recordsOf Short (wholeIn bytes)) Good .0 (sym (ap (λ (t : Trace). t .state) (u .trace)) ∙ g);
         wrong = ap (closedIn (recordsOf Short (wholeIn bytes)) ||_) (short-bad (overIn bytes) (cut-of bytes .over)) ∙ or-true (closedIn (recordsOf Short (wholeIn bytes)));
         number = ap (_+ 1) (sym (count-whole (length bytes / 64) (wholeIn bytes) (cut-of bytes .whole)));
       })
@@ -89,5 +85,5 @@ module _ (b bytes : List ℕ) (r : Reader) (frame piece : List ℕ) (u : Read by
       cuts : recordsOf Short bytes ≡ recordsOf Short (wholeIn bytes) ++ (overIn bytes ∷ [])
       cuts =
           ap (recordsOf Short) (cut-of bytes .all)
-          ∙ records-append (length bytes / 64) (wholeIn bytes) (overIn bytes) (cut-of bytes .whole)
+          ∙ records-append Short (length bytes / 64) (wholeIn bytes) (overIn bytes) (cut-of bytes .whole)
           ∙ ap (recordsOf Short (wholeIn bytes) ++_) (one-short (overIn bytes) (omega (arith, size)) (cut-of bytes .over))

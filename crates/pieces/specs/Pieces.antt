@@ -6,7 +6,7 @@ use lib.ListN.{length, take, drop}
 use Rattle.trace.specs.declared.Trace.{Trace}
 use Rattle.records.specs.declared.Form.the-variants.{Short}
 use Rattle.records.specs.Record.{recordsOf}
-use Rattle.trace.specs.Trace.{newTrace, traced, tracedBuffer}
+use Rattle.trace.specs.Trace.{ledgerSizes, newTrace, traced}
 use Rattle.pieces.specs.declared.Reader.{Reader}
 
 -- the bytes of whole records, 64 each, and the bytes after them: fewer than 64
@@ -16,16 +16,15 @@ wholeIn bytes = take (64 * (length bytes / 64)) bytes
 abbrev pub overIn : List ℕ → List ℕ
 overIn bytes = drop (64 * (length bytes / 64)) bytes
 
--- AFTER THESE BYTES, from a trace t with the frame buffer b: every whole record is read, and the bytes after them are kept at the front of the piece
-pub record After (t : Trace) (b bytes : List ℕ) (r : Reader) (frame piece : List ℕ) : Type 0 where
-  pub trace : r .trace ≡ traced t b (recordsOf Short (wholeIn bytes))
-  pub buffer : frame ≡ tracedBuffer t b (recordsOf Short (wholeIn bytes))
+-- AFTER THESE BYTES, from a trace t: every whole record is read, and the bytes after them are kept at the front of the piece
+pub record After (t : Trace) (bytes : List ℕ) (r : Reader) (piece : List ℕ) : Type 0 where
+  pub trace : r .trace ≡ traced Short t (recordsOf Short (wholeIn bytes))
   pub have : r .have ≡ length bytes % 64
   pub kept : take (r .have) piece ≡ overIn bytes
 
 -- READ: these are all the bytes so far, from a new trace
-abbrev pub Read : List ℕ → List ℕ → Reader → List ℕ → List ℕ → Type 0
-Read bytes b r frame piece = After newTrace b bytes r frame piece
+abbrev pub Read : List ℕ → Reader → List ℕ → Type 0
+Read bytes r piece = After (newTrace ledgerSizes) bytes r piece
 
 abbrev pub newReader : Reader
-newReader = record { trace = newTrace; have = 0 }
+newReader = record { trace = newTrace ledgerSizes; have = 0 }

@@ -5,8 +5,10 @@ ghost use mathlib.Core.List.{[], _∷_, _++_};
 ghost use lib.ListN.{length, take};
 ghost use Rattle.records.specs.declared.Form.the-variants.{Short};
 ghost use Rattle.records.specs.Record.{recordsOf};
-ghost use Rattle.trace.specs.Trace.{traced, tracedBuffer};
+ghost use Rattle.trace.specs.Trace.{traced};
 ghost use Rattle.pieces.specs.Pieces.{newReader, After};
+use records::Form;
+use trace::LEDGER;
 use trace::Trace;
 
 // A trace of whole records, and how many bytes of the next one have come.
@@ -19,16 +21,15 @@ pub struct Reader {
 pub fn new() -> Reader
     ensures { λ r. ⌜ r ≡ newReader ⌝ }
 {
-    Reader {
-        trace: Trace::new(),
-        have: 0,
-    }
+    let begun = Trace::new(LEDGER);
+    let trace = begun.trace;
+    Reader { trace, have: 0 }
 }
 
 // One byte more of a record that comes in pieces.
-fn push(r: Reader, frame: &mut [u8], piece: &mut [u8], b: u8) -> Reader
+fn push(r: Reader, piece: &mut [u8], b: u8) -> Reader
     requires { ⌜ (r .have < 64) × (length (now piece) ≡ 64) ⌝ }
-    ensures { λ x. ⌜ After (r .trace) (now (frame .entry)) (take (r .have) (now (piece .entry)) ++ (b ∷ [])) x (now (frame .exit)) (now (piece .exit)) ⌝ }
+    ensures { λ x. ⌜ After (r .trace) (take (r .have) (now (piece .entry)) ++ (b ∷ [])) x (now (piece .exit)) ⌝ }
 {
     let at = r.have;
     let t = r.trace;
@@ -40,15 +41,15 @@ fn push(r: Reader, frame: &mut [u8], piece: &mut [u8], b: u8) -> Reader
         };
     }
     Reader {
-        trace: t.run(frame, piece),
+        trace: t.run(Form::Short, piece),
         have: 0,
     }
 }
 
 // Inner: so many bytes more. Whole records go straight from the input, all in one go.
-pub fn feed(r: Reader, frame: &mut [u8], piece: &mut [u8], input: &[u8]) -> Reader
+pub fn feed(r: Reader, piece: &mut [u8], input: &[u8]) -> Reader
     requires { ⌜ (r .have < 64) × (length (now piece) ≡ 64) ⌝ }
-    ensures { λ x. ⌜ After (r .trace) (now (frame .entry)) (take (r .have) (now (piece .entry)) ++ now (input .entry)) x (now (frame .exit)) (now (piece .exit)) ⌝ }
+    ensures { λ x. ⌜ After (r .trace) (take (r .have) (now (piece .entry)) ++ now (input .entry)) x (now (piece .exit)) ⌝ }
 {
     let mut reader = r;
     let mut at = 0;
@@ -59,26 +60,25 @@ pub fn feed(r: Reader, frame: &mut [u8], piece: &mut [u8], input: &[u8]) -> Read
                 let end = input.len() - left % 64;
                 let t = reader.trace;
                 reader = Reader {
-                    trace: t.run(frame, &input[at..end]),
+                    trace: t.run(Form::Short, &input[at..end]),
                     have: 0,
                 };
                 at = end;
                 continue;
             }
         }
-        reader = push(reader, frame, piece, input[at]);
+        reader = push(reader, piece, input[at]);
         at += 1;
     }
     reader
 }
 
 // Inner: the end of the input. What is left over is a partial record.
-pub fn last(r: Reader, frame: &mut [u8], piece: &[u8]) -> Trace
+pub fn last(r: Reader, piece: &[u8]) -> Trace
     requires { ⌜ (r .have < 64) × (length (now piece) ≡ 64) ⌝ }
-    ensures { λ x. ⌜ x ≡ traced (r .trace) (now (frame .entry)) (recordsOf Short (take (r .have) (now (piece .entry)))) ⌝ }
-    ensures { λ _. ⌜ now (frame .exit) ≡ tracedBuffer (r .trace) (now (frame .entry)) (recordsOf Short (take (r .have) (now (piece .entry)))) ⌝ }
+    ensures { λ x. ⌜ x ≡ traced Short (r .trace) (recordsOf Short (take (r .have) (now (piece .entry)))) ⌝ }
 {
     let have = r.have;
     let t = r.trace;
-    t.run(frame, &piece[0..have])
+    t.run(Form::Short, &piece[0..have])
 }

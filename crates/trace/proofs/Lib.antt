@@ -1,7 +1,8 @@
 pub mod Steps
+pub mod Begins
 pub mod Runs
 pub mod Pieces
-pub mod Right
+pub mod Records
 pub mod Standing
 pub mod Exactly
 pub mod Samples

@@ -1,10 +1,10 @@
--- How a trace stands is what its records alone say: for every buffer of 256 bytes or more.
+-- How a trace stands, which of its records are good and what its session is, is what its records alone say.
 use Prim.Native.Nat.{ℕ, zero, suc, _+_, _≤_}
 use mathlib.Core.Path.{_≡_, refl, sym, _∙_, ap}
 use mathlib.Core.Bool.{Bool, true, false, cond, _||_}
-use mathlib.Core.List.{List, [], _∷_, _++_}
+use mathlib.Core.List.{List, [], _∷_, _++_, map, append-assoc, append-nil}
 use native.Mathlib.Omega.{arith}
-use lib.ListN.{length, length-append, length-take}
+use lib.ListN.{length, length-append, length-take, length-replicate}
 use lib.Dec.{ltb, eqb}
 use borrow.Author.Tests.{le-ltb, lt-ltb, ltb-false, eq-eqb, eqb-true, eqb-false}
 use Rattle.rules.specs.Numbered.{orElse}
@@ -12,25 +12,30 @@ use Rattle.rules.proofs.Rows.{or-first, or-second}
 use Rattle.payload.specs.declared.Reading.{Reading}
 use Rattle.payload.specs.declared.Reading.the-variants.{Idle, Unreadable, Readable}
 use Rattle.payload.specs.Transfer.{readingOf}
+use Rattle.sizes.specs.declared.Opening.{Opening}
 use Rattle.sizes.specs.Framing.{byEof}
-use Rattle.sizes.specs.Sizes.{sizesBroken, frameSizeBroken, payloadSizeBroken}
+use Rattle.sizes.specs.Sizes.{sizesBroken}
 use Rattle.session.specs.declared.Session.{Session}
 use Rattle.refusals.specs.Refusals.{takenMost}
 use Rattle.session.specs.Refusals.{recordBroken}
 use Rattle.session.specs.Session.{fresh, readOf, tookBy, tookOf}
-use Rattle.session.specs.Call.{Ask, heardOf}
-use Rattle.session.specs.Calls.{refusal, next, nextCall, after, offerWith, bufferNext, offers, bufferAfter}
-use Rattle.books.proofs.HandedOut.{asked-next}
-use Rattle.books.proofs.Whole.{kept-all}
+use Rattle.session.specs.Call.{Ask, Call, heardOf}
+use Rattle.session.specs.Calls.{Offer, refusal, next, nextCall, after, taken, callOf, unless, offerWith}
+use Rattle.books.proofs.Answers.{taken-more}
+use Rattle.books.proofs.HandedOut.{asked-listed, asked-next}
 use Rattle.books.proofs.Sound.{took-taken, after-opening}
 use Rattle.books.proofs.Theorems.{never-stuck}
-use Rattle.records.specs.declared.Form.the-variants.{Short}
+use Rattle.records.specs.declared.Form.{Form}
 use Rattle.records.specs.Record.{kindAt, lengthAt, bytesAt, recordBad}
+use Rattle.records.proofs.Fine.{fine}
+use Rattle.records.proofs.Steps.{most-few}
 use Rattle.trace.specs.Record.{askBy, recordAsk, recordCall}
-use Rattle.trace.specs.Trace.{sizes, newTrace, numberOf, traced}
-use Rattle.trace.specs.Standing.{closedIn, countIn, badAfter, pastAfter, stateAfter, stateOf}
-use Rattle.trace.specs.declared.State.the-variants.{Bad, Refused}
-use Rattle.trace.proofs.Right.{good, reads-eof, state-of, on-good, on-bad, on-refused}
+use Rattle.trace.specs.Trace.{newTrace, numberOf, roomFor, offerOf, traced, goodOf}
+use Rattle.trace.specs.Standing.{closedIn, countIn, badAfter, pastAfter, stateAfter, stateOf, goodAfter, goodRecords, offersOf, Read}
+use Rattle.trace.specs.declared.State.{State}
+use Rattle.trace.specs.declared.State.the-variants.{Good, Bad, Refused}
+use Rattle.trace.specs.declared.Trace.{Trace}
+use Rattle.trace.proofs.Records.{on-good, on-bad, on-refused}
 
 abbrev pub and : List (List ℕ) → List ℕ → List (List ℕ)
 and rs r = rs ++ (r ∷ [])
@@ -48,14 +53,9 @@ closed-more : (rs : List (List ℕ)) (r : List ℕ) → closedIn rs ≡ false �
 closed-more [] r e = or-false (eqb (kindAt r) 2)
 closed-more (q ∷ rs) r e = rw (or-first (eqb (kindAt q) 2) (closedIn rs) e) (closed-more rs r (or-second (eqb (kindAt q) 2) (closedIn rs) e))
 
--- ---- a good record: its kind is 0, 1 or 2, and its transfer is short
-kind-small : (r : List ℕ) → recordBad Short r ≡ false → kindAt r ≤ 2
-unfolding recordBad
-kind-small r e = let k : ltb 2 (kindAt r) ≡ false = search (or-first, or-second) in ltb-false 2 (kindAt r) k
-
-short : (r : List ℕ) → recordBad Short r ≡ false → length (bytesAt Short r) ≤ 65536
-unfolding recordBad
-short r e = let k : ltb 62 (lengthAt Short r) ≡ false = search (or-first, or-second) in simp length-take (omega (arith, ltb-false 62 (lengthAt Short r) k))
+-- ---- a good record's transfer is short
+short : (f : Form) (r : List ℕ) → recordBad f r ≡ false → length (bytesAt f r) ≤ 65536
+short f r e = simp length-take (omega (arith, fine f r e .short, most-few f))
 
 -- ---- the call of a record of kind n, of an open session
 one-more : (n : ℕ) → n ≤ takenMost → eqb n takenMost ≡ ltb takenMost (n + 1)
@@ -74,22 +74,22 @@ took-closed s t Idle = refl
 took-closed s t (Unreadable k) = refl
 took-closed s t (Readable h) = refl
 
-module _ (s : Session) (b r : List ℕ) (open₀ : s .rest .closed ≡ false) where
-  call-refusal : (n : ℕ) → recordBroken s ≡ false → s .rest .opening .frame ≤ length b → length (bytesAt Short r) ≤ 65536 → s .rest .taken ≤ takenMost
-      → refusal s (offerWith b (askBy n r)) ≡ orElse (ltb takenMost (s .rest .taken + cond (ltb n 2) 1 0)) 52 0
-  call-refusal zero a m l k = rw (a, open₀, le-ltb (length b) (s .rest .opening .frame) m, le-ltb 65536 (length (bytesAt Short r)) l) (ap (λ (c : Bool). orElse c 52 0) (one-more (s .rest .taken) k))
+module _ (f : Form) (s : Session) (b r : List ℕ) (open₀ : s .rest .closed ≡ false) where
+  call-refusal : (n : ℕ) → recordBroken s ≡ false → s .rest .opening .frame ≤ length b → length (bytesAt f r) ≤ 65536 → s .rest .taken ≤ takenMost
+      → refusal s (offerWith b (askBy f n r)) ≡ orElse (ltb takenMost (s .rest .taken + cond (ltb n 2) 1 0)) 52 0
+  call-refusal zero a m l k = rw (a, open₀, le-ltb (length b) (s .rest .opening .frame) m, le-ltb 65536 (length (bytesAt f r)) l) (ap (λ (c : Bool). orElse c 52 0) (one-more (s .rest .taken) k))
   call-refusal (suc zero) a m l k = rw (a, open₀) (ap (λ (c : Bool). orElse c 52 0) (one-more (s .rest .taken) k))
   call-refusal (suc (suc n)) a m l k = rw (a, open₀, le-ltb (suc (suc n)) 2 (omega arith), le-ltb takenMost (s .rest .taken + 0) (omega arith))
 
-  call-closed : (n : ℕ) → n ≤ 2 → nextCall s (heardOf (askBy n r)) .rest .closed ≡ eqb n 2
+  call-closed : (n : ℕ) → n ≤ 2 → nextCall s (heardOf (askBy f n r)) .rest .closed ≡ eqb n 2
   unfolding tookOf
-  call-closed zero e = took-closed s (bytesAt Short r) (readingOf (s .rest .opening) (bytesAt Short r)) ∙ open₀
+  call-closed zero e = took-closed s (bytesAt f r) (readingOf (s .rest .opening) (bytesAt f r)) ∙ open₀
   call-closed (suc zero) e = open₀
   call-closed (suc (suc n)) e = sym (eq-eqb (suc (suc n)) 2 (omega arith))
 
-  call-taken : (n : ℕ) → nextCall s (heardOf (askBy n r)) .rest .taken ≡ s .rest .taken + cond (ltb n 2) 1 0
+  call-taken : (n : ℕ) → nextCall s (heardOf (askBy f n r)) .rest .taken ≡ s .rest .taken + cond (ltb n 2) 1 0
   unfolding tookOf
-  call-taken zero = took-taken s (bytesAt Short r) (readingOf (s .rest .opening) (bytesAt Short r))
+  call-taken zero = took-taken s (bytesAt f r) (readingOf (s .rest .opening) (bytesAt f r))
   call-taken (suc zero) = refl
   call-taken (suc (suc n)) = rw (le-ltb (suc (suc n)) 2 (omega arith)) (omega arith)
 
@@ -99,88 +99,135 @@ module _ (s : Session) (b r : List ℕ) (open₀ : s .rest .closed ≡ false) wh
   call-number Ask.lost = rw open₀ (omega arith)
   call-number Ask.close = rw open₀ (omega arith)
 
--- ---- along a trace: the session is one that the calls so far led to, and the buffer keeps its length
-module _ (b₀ : List ℕ) (room : 256 ≤ length b₀) where
-  pub record Along (s : Session) (b : List ℕ) : Type 0 where
-    pub calls : List Ask
-    pub session : s ≡ after (fresh sizes) (offers (fresh sizes) b₀ calls)
-    pub buffer : b ≡ bufferAfter (fresh sizes) b₀ calls
+-- ---- along a trace
+module _ (f : Form) (o : Opening) where
+  after-more : (xs : List Offer) (x : Offer) (s : Session) → after s (xs ++ (x ∷ [])) ≡ next (after s xs) x
+  after-more [] x s = refl
+  after-more (y ∷ xs) x s = after-more xs x (next s y)
 
-  along-more : (cs : List Ask) (c : Ask) (s : Session) (b : List ℕ)
-      → (after s (offers s b (cs ++ (c ∷ []))) ≡ next (after s (offers s b cs)) (offerWith (bufferAfter s b cs) c)) × (bufferAfter s b (cs ++ (c ∷ [])) ≡ bufferNext (after s (offers s b cs)) (bufferAfter s b cs) c)
-  along-more [] c s b = (refl, refl)
-  along-more (x ∷ cs) c s b = along-more cs c (next s (offerWith b x)) (bufferNext s b x)
+  offers-more : (rs : List (List ℕ)) (r : List ℕ) → offersOf f o (and rs r) ≡ offersOf f o rs ++ (offerWith (roomFor o) (recordAsk f r) ∷ [])
+  offers-more [] r = refl
+  offers-more (q ∷ rs) r = ap (offerWith (roomFor o) (recordAsk f q) ∷_) (offers-more rs r)
 
-  along-next : (s : Session) (b : List ℕ) (c : Ask) → Along s b → Along (next s (offerWith b c)) (bufferNext s b c)
-  along-next s b c w =
-      let m = along-more (w .calls) c (fresh sizes) b₀ in
+  calls-more : (rs : List (List ℕ)) (r : List ℕ) → map (recordCall f) (and rs r) ≡ map (recordCall f) rs ++ (recordCall f r ∷ [])
+  calls-more [] r = refl
+  calls-more (q ∷ rs) r = ap (recordCall f q ∷_) (calls-more rs r)
+
+  -- one record more whose call is taken
+  read-more : (rs : List (List ℕ)) (s : Session) (r : List ℕ) → Read f o rs s → byEof (s .rest .opening) ≡ true → refusal s (offerWith (roomFor o) (recordAsk f r)) ≡ 0
+      → Read f o (and rs r) (next s (offerWith (roomFor o) (recordAsk f r)))
+  read-more rs s r w d ok =
+      let x : Offer = offerWith (roomFor o) (recordAsk f r) in
       record {
-        calls = w .calls ++ (c ∷ []);
-        session = rw (w .session, w .buffer) (sym (m .0));
-        buffer = rw (w .session, w .buffer) (sym (m .1));
+        session = ap (λ (z : Session). next z x) (w .session) ∙ sym (after-more (offersOf f o rs) x (fresh o)) ∙ ap (after (fresh o)) (sym (offers-more rs r));
+        calls = ap (taken (fresh o)) (offers-more rs r)
+            ∙ taken-more (offersOf f o rs) x (fresh o)
+            ∙ ap (λ (z : Session). taken (fresh o) (offersOf f o rs) ++ unless (refusal z x) (callOf z x) []) (sym (w .session))
+            ∙ ap (λ (k : ℕ). taken (fresh o) (offersOf f o rs) ++ unless k (callOf s x) []) ok
+            ∙ ap (λ (c : Call). taken (fresh o) (offersOf f o rs) ++ (c ∷ [])) (asked-listed s (roomFor o) (recordAsk f r) d ok)
+            ∙ ap (_++ (recordCall f r ∷ [])) (w .calls)
+            ∙ sym (calls-more rs r);
       }
 
-  sound : (s : Session) (b : List ℕ) → Along s b → recordBroken s ≡ false
-  unfolding sizesBroken frameSizeBroken payloadSizeBroken
-  sound s b w = ap recordBroken (w .session) ∙ never-stuck sizes refl (offers (fresh sizes) b₀ (w .calls))
+  module _ (sizes : sizesBroken o ≡ false) (eof : byEof o ≡ true) where
+    -- what the session holds of the records so far
+    record Holds (rs : List (List ℕ)) (s : Session) : Type 0 where
+      pub read : Read f o rs s
+      pub closed₀ : s .rest .closed ≡ closedIn rs
+      pub taken₀ : s .rest .taken ≡ countIn rs
+      pub few : countIn rs ≤ takenMost
+      pub number : numberOf s ≡ length rs + 1
 
-  wide : (s : Session) (b : List ℕ) → Along s b → s .rest .opening .frame ≤ length b
-  wide s b w = rw (w .session, w .buffer, after-opening sizes (offers (fresh sizes) b₀ (w .calls))) (kept-all sizes b₀ (w .calls) room .room)
+    module _ (rs : List (List ℕ)) (s : Session) (w : Holds rs s) where
+      opened : s .rest .opening ≡ o
+      opened = ap (λ (x : Session). x .rest .opening) (w .read .session) ∙ after-opening o (offersOf f o rs)
 
-  framed : (s : Session) (b : List ℕ) → Along s b → byEof (s .rest .opening) ≡ true
-  framed s b w = ap (λ (x : Session). byEof (x .rest .opening)) (w .session) ∙ ap byEof (after-opening sizes (offers (fresh sizes) b₀ (w .calls))) ∙ reads-eof
+      framed : byEof (s .rest .opening) ≡ true
+      framed = ap byEof opened ∙ eof
 
-  -- what the session holds of the records so far
-  record Holds (rs : List (List ℕ)) (s : Session) (b : List ℕ) : Type 0 where
-    pub along : Along s b
-    pub closed₀ : s .rest .closed ≡ closedIn rs
-    pub taken₀ : s .rest .taken ≡ countIn rs
-    pub few : countIn rs ≤ takenMost
-    pub number : numberOf s ≡ length rs + 1
+      sound : recordBroken s ≡ false
+      sound = ap recordBroken (w .read .session) ∙ never-stuck o sizes (offersOf f o rs)
 
-  module _ (rs : List (List ℕ)) (s : Session) (b r : List ℕ) (w : Holds rs s b) (fine : badAfter rs r ≡ false) where
-    still-open : s .rest .closed ≡ false
-    still-open = w .closed₀ ∙ or-first (closedIn rs) (recordBad Short r) fine
+      wide : s .rest .opening .frame ≤ length (roomFor o)
+      wide = omega (arith, length-replicate {0} {A = ℕ} (o .frame) 0, ap (λ (x : Opening). x .frame) opened)
 
-    good₀ : recordBad Short r ≡ false
-    good₀ = or-second (closedIn rs) (recordBad Short r) fine
+      -- the room that is lent is the opening's
+      lent : (c : Ask) → offerOf s c ≡ offerWith (roomFor o) c
+      lent c = ap (λ (x : Opening). offerWith (roomFor x) c) opened
 
-    refuses : refusal s (offerWith b (recordAsk r)) ≡ orElse (pastAfter rs r) 52 0
-    refuses =
-        call-refusal s b r still-open (kindAt r) (sound s b (w .along)) (wide s b (w .along)) (short r good₀) (rw (w .taken₀) (w .few))
-        ∙ ap (λ (n : ℕ). orElse (ltb takenMost n) 52 0) (ap (_+ cond (ltb (kindAt r) 2) 1 0) (w .taken₀) ∙ sym (count-more rs r))
+      module _ (r : List ℕ) (fine₀ : badAfter f rs r ≡ false) where
+        still-open : s .rest .closed ≡ false
+        still-open = w .closed₀ ∙ or-first (closedIn rs) (recordBad f r) fine₀
 
-    goes-on : pastAfter rs r ≡ false → Holds (and rs r) (next s (offerWith b (recordAsk r))) (bufferNext s b (recordAsk r))
-    goes-on e =
-        let q : next s (offerWith b (recordAsk r)) ≡ nextCall s (recordCall r) = asked-next s b (recordAsk r) (framed s b (w .along)) (refuses ∙ ap (λ (c : Bool). orElse c 52 0) e) in
-        record {
-          along = along-next s b (recordAsk r) (w .along);
-          closed₀ = ap (λ (x : Session). x .rest .closed) q ∙ call-closed s b r still-open (kindAt r) (kind-small r good₀) ∙ sym (closed-more rs r (or-first (closedIn rs) (recordBad Short r) fine));
-          taken₀ = ap (λ (x : Session). x .rest .taken) q ∙ call-taken s b r still-open (kindAt r) ∙ ap (_+ cond (ltb (kindAt r) 2) 1 0) (w .taken₀) ∙ sym (count-more rs r);
-          few = ltb-false takenMost (countIn (and rs r)) e;
-          number = ap numberOf q ∙ call-number s b r still-open (recordAsk r) ∙ omega (arith, w .number, length-append rs (r ∷ []));
-        }
+        good₀ : recordBad f r ≡ false
+        good₀ = or-second (closedIn rs) (recordBad f r) fine₀
 
-  stands : (more rs : List (List ℕ)) (s : Session) (b : List ℕ) → Holds rs s b → traced (good s) b more .state ≡ stateAfter rs more
-  stands [] rs s b w = refl
-  stands (r ∷ more) rs s b w =
-      go (badAfter rs r) refl (pastAfter rs r) refl (stands more (and rs r) (next s (offerWith b (recordAsk r))) (bufferNext s b (recordAsk r)))
-    where
-      go : (x : Bool) → badAfter rs r ≡ x → (y : Bool) → pastAfter rs r ≡ y
-          → (Holds (and rs r) (next s (offerWith b (recordAsk r))) (bufferNext s b (recordAsk r)) → traced (good (next s (offerWith b (recordAsk r)))) (bufferNext s b (recordAsk r)) more .state ≡ stateAfter (and rs r) more)
-          → traced (good s) b (r ∷ more) .state ≡ cond x (Bad (length rs + 1)) (cond y (Refused 52 (length rs + 1)) (stateAfter (and rs r) more))
-      go true e y f rec = state-of (on-bad s b r (ap (_|| recordBad Short r) (w .closed₀) ∙ e) more) ∙ ap Bad (w .number)
-      go false e true f rec =
-          state-of (on-refused s b r (ap (_|| recordBad Short r) (w .closed₀) ∙ e) 51 (refuses rs s b r w e ∙ ap (λ (c : Bool). orElse c 52 0) f) more) ∙ ap (Refused 52) (w .number)
-      go false e false f rec =
-          state-of (on-good s b r (ap (_|| recordBad Short r) (w .closed₀) ∙ e) (refuses rs s b r w e ∙ ap (λ (c : Bool). orElse c 52 0) f) more) ∙ rec (goes-on rs s b r w e f)
+        abbrev x : Offer
+        x = offerWith (roomFor o) (recordAsk f r)
 
-  -- HOW A TRACE STANDS
-  pub state-right : (rs : List (List ℕ)) → traced newTrace b₀ rs .state ≡ stateOf rs
-  state-right rs = stands rs [] (fresh sizes) b₀ (record {
-    along = record { calls = []; session = refl; buffer = refl };
-    closed₀ = refl;
-    taken₀ = refl;
-    few = omega arith;
-    number = refl;
-  })
+        refuses-lent : refusal s x ≡ orElse (pastAfter rs r) 52 0
+        refuses-lent =
+            call-refusal f s (roomFor o) r still-open (kindAt r) sound wide (short f r good₀) (rw (w .taken₀) (w .few))
+            ∙ ap (λ (n : ℕ). orElse (ltb takenMost n) 52 0) (ap (_+ cond (ltb (kindAt r) 2) 1 0) (w .taken₀) ∙ sym (count-more rs r))
+
+        refuses : refusal s (offerOf s (recordAsk f r)) ≡ orElse (pastAfter rs r) 52 0
+        refuses = ap (refusal s) (lent (recordAsk f r)) ∙ refuses-lent
+
+        goes-on : pastAfter rs r ≡ false → Holds (and rs r) (next s (offerOf s (recordAsk f r)))
+        goes-on e = rw (lent (recordAsk f r)) held
+          where
+            ok : refusal s x ≡ 0
+            ok = refuses-lent ∙ ap (λ (c : Bool). orElse c 52 0) e
+
+            q : next s x ≡ nextCall s (recordCall f r)
+            q = asked-next s (roomFor o) (recordAsk f r) framed ok
+
+            held : Holds (and rs r) (next s x)
+            held = record {
+              read = read-more rs s r (w .read) framed ok;
+              closed₀ = ap (λ (y : Session). y .rest .closed) q ∙ call-closed f s (roomFor o) r still-open (kindAt r) (fine f r good₀ .kind) ∙ sym (closed-more rs r (or-first (closedIn rs) (recordBad f r) fine₀));
+              taken₀ = ap (λ (y : Session). y .rest .taken) q ∙ call-taken f s (roomFor o) r still-open (kindAt r) ∙ ap (_+ cond (ltb (kindAt r) 2) 1 0) (w .taken₀) ∙ sym (count-more rs r);
+              few = ltb-false takenMost (countIn (and rs r)) e;
+              number = ap numberOf q ∙ call-number f s (roomFor o) r still-open (recordAsk f r) ∙ omega (arith, w .number, length-append rs (r ∷ []));
+            }
+
+    -- where a trace comes to from the records rs: by x, with the good ones gs
+    record Comes (rs : List (List ℕ)) (t : Trace) (x : State) (gs : List (List ℕ)) : Type 0 where
+      pub state : t .state ≡ x
+      pub read : Read f o (rs ++ gs) (t .session)
+
+    comes : (more rs : List (List ℕ)) (s : Session) → Holds rs s → Comes rs (traced f (goodOf s) more) (stateAfter f rs more) (goodAfter f rs more)
+    comes [] rs s w = record { state = refl; read = rw (append-nil rs) (w .read) }
+    comes (r ∷ more) rs s w =
+        go (badAfter f rs r) refl (pastAfter rs r) refl (comes more (and rs r) (next s (offerOf s (recordAsk f r))))
+      where
+        stays : (t : Trace) (x : State) → traced f (goodOf s) (r ∷ more) ≡ t → t .session ≡ s → t .state ≡ x → Comes rs (traced f (goodOf s) (r ∷ more)) x []
+        stays t x e c q = rw (e) (record { state = q; read = rw (c, append-nil rs) (w .read) })
+
+        go : (x : Bool) → badAfter f rs r ≡ x → (y : Bool) → pastAfter rs r ≡ y
+            → (Holds (and rs r) (next s (offerOf s (recordAsk f r))) → Comes (and rs r) (traced f (goodOf (next s (offerOf s (recordAsk f r)))) more) (stateAfter f (and rs r) more) (goodAfter f (and rs r) more))
+            → Comes rs (traced f (goodOf s) (r ∷ more)) (cond x (Bad (length rs + 1)) (cond y (Refused 52 (length rs + 1)) (stateAfter f (and rs r) more))) (cond x [] (cond y [] (r ∷ goodAfter f (and rs r) more)))
+        go true e y g rec = stays _ _ (on-bad f s r (ap (_|| recordBad f r) (w .closed₀) ∙ e) more) refl (ap Bad (w .number))
+        go false e true g rec =
+            stays _ _ (on-refused f s r (ap (_|| recordBad f r) (w .closed₀) ∙ e) 51 (refuses rs s w r e ∙ ap (λ (c : Bool). orElse c 52 0) g) more) refl (ap (Refused 52) (w .number))
+        go false e false g rec =
+            let i = rec (goes-on rs s w r e g) in
+            let p = on-good f s r (ap (_|| recordBad f r) (w .closed₀) ∙ e) (refuses rs s w r e ∙ ap (λ (c : Bool). orElse c 52 0) g) more in
+            rw p (record { state = i .state; read = rw (sym (append-assoc rs (r ∷ []) (goodAfter f (and rs r) more))) (i .read) })
+
+    from-none : (rs : List (List ℕ)) → Comes [] (traced f (newTrace o) rs) (stateOf f rs) (goodRecords f rs)
+    from-none rs = comes rs [] (fresh o) (record {
+      read = record { session = refl; calls = refl };
+      closed₀ = refl;
+      taken₀ = refl;
+      few = omega arith;
+      number = refl;
+    })
+
+    -- HOW A TRACE STANDS
+    pub state-right : (rs : List (List ℕ)) → traced f (newTrace o) rs .state ≡ stateOf f rs
+    state-right rs = from-none rs .state
+
+    -- THE SESSION after the records, whether one decides or not: the calls of the good ones are taken, and no other
+    pub session-right : (rs : List (List ℕ)) → Read f o (goodRecords f rs) (traced f (newTrace o) rs .session)
+    session-right rs = from-none rs .read

@@ -6,15 +6,18 @@ use lib.Dec.{ltb}
 use Rattle.rules.specs.Pick.{pick}
 use Rattle.session.specs.declared.Rest.{Rest}
 use Rattle.session.specs.Inner.{wholeOf}
+use Rattle.records.specs.declared.Form.{Form}
+use Rattle.records.specs.Form.{sizeOf}
 use Rattle.trace.specs.declared.State.{State}
 use Rattle.trace.specs.declared.State.the-variants.{Good, Bad, Refused}
 use Rattle.trace.specs.declared.Trace.{Trace}
+use Rattle.trace.specs.declared.Said.{Said}
 use Rattle.trace.specs.declared.Going.{Going}
 use Rattle.trace.specs.Trace.{closes, goodOf}
 
 -- where the record ends that begins at `at`, of so many bytes
-abbrev pub endOf : ℕ → ℕ → ℕ
-endOf at n = pick (ltb (n - at) 64) n (at + 64)
+abbrev pub endOf : Form → ℕ → ℕ → ℕ
+endOf f at n = pick (ltb (n - at) (sizeOf f)) n (at + sizeOf f)
 
 -- A TRACE IN TWO PARTS: its ledger's numbers, which are lent, and the rest
 abbrev pub goingWith : Going → List ℕ → Trace
@@ -27,9 +30,9 @@ abbrev pub numberRest : Rest → ℕ
 numberRest r = r .taken + closes (r .closed)
 
 -- a refused call leaves the rest as it was
-abbrev pub answeredBy : ℕ → Rest → Going
-answeredBy zero r = record { rest = r; state = Good }
-answeredBy (suc k) r = record { rest = r; state = Refused (suc k) (numberRest r) }
+abbrev pub answeredBy : ℕ → Rest → Said → Going
+answeredBy zero r x = record { rest = r; state = Good; said = x }
+answeredBy (suc k) r x = record { rest = r; state = Refused (suc k) (numberRest r); said = x }
 
 -- a bad or refused record decides a trace
 abbrev pub isDecided : State → Bool

@@ -1,31 +1,52 @@
--- Document 01, "The ledger program": a whole trace, record by record, and what is printed of it.
+-- Document 01, "The ledger program", and document 02, Thirteen: a whole trace, record by record, and what is printed of it.
 use Prim.Native.Nat.{ℕ, zero, suc, _+_}
-use mathlib.Core.Path.{_≡_}
-use mathlib.Core.List.{List, [], _∷_, _++_}
+use mathlib.Core.List.{List, [], _∷_}
 use mathlib.Core.Bool.{Bool, true, false, _||_}
-use lib.ListN.{length}
+use lib.ListN.{length, replicate}
 use Rattle.sizes.specs.declared.Opening.{Opening}
 use Rattle.sizes.specs.declared.HeaderKind.the-variants.{Old}
 use Rattle.ledger.specs.Ledger.{noLedger}
 use Rattle.session.specs.declared.Session.{Session}
+use Rattle.session.specs.declared.Opened.{Opened}
+use Rattle.session.specs.declared.Start.{Start}
 use Rattle.session.specs.Refusals.{ledgerOf}
-use Rattle.session.specs.Session.{fresh}
-use Rattle.records.specs.declared.Form.the-variants.{Short}
+use Rattle.session.specs.Session.{fresh, openOf, takeOf, closeOf}
+use Rattle.records.specs.declared.Form.{Form}
 use Rattle.records.specs.Record.{recordBad}
 use Rattle.trace.specs.Record.{recordAsk}
 use Rattle.trace.specs.declared.State.{State}
 use Rattle.trace.specs.declared.State.the-variants.{Good, Bad, Refused}
 use Rattle.trace.specs.declared.Trace.{Trace}
+use Rattle.trace.specs.declared.Begun.{Begun}
+use Rattle.trace.specs.declared.Said.{Said}
 use Rattle.trace.specs.declared.Printed.{Printed}
 use Rattle.session.specs.Call.{Ask}
-use Rattle.session.specs.Calls.{refusal, next, offerWith, bufferNext}
+use Rattle.session.specs.Calls.{Offer, refusal, next, offerWith}
 
--- frame size 256, payload size 62, framing 3, so that frames end by EOF, and the old kind of header
-abbrev pub sizes : Opening
-sizes = record { frame = 256; payload = 62; framing = 3; kind = Old }
+-- WHAT A TRACE IS READ WITH. Framing 3, so that frames end by EOF, and the old kind of header; the ledger program: frame size 256, payload size 62
+abbrev pub ledgerSizes : Opening
+ledgerSizes = record { frame = 256; payload = 62; framing = 3; kind = Old }
 
-abbrev pub newTrace : Trace
-newTrace = record { session = fresh sizes; state = Good }
+-- a replay: 61,440 and 3,072
+abbrev pub replaySizes : Opening
+replaySizes = record { frame = 61_440; payload = 3_072; framing = 3; kind = Old }
+
+-- A TRACE OF NO RECORDS, of a session that is open
+abbrev pub newTrace : Opening → Trace
+newTrace o = record { session = fresh o; state = Good }
+
+-- what opening it answers, with room for one frame: refused by 45 or 46, or open
+abbrev pub begunBy : Opened → Begun
+begunBy x = record { trace = record { session = x .session; state = Good }; start = x .start }
+
+abbrev pub beginOf : Opening → Begun
+beginOf o = begunBy (openOf o (o .frame))
+
+-- what stands there, by whether the frame size is 0 or over 16,777,216 and the payload size under 2 or over 65,536
+abbrev pub startBy : Bool → Bool → Start
+startBy true b = Start.Refused 45
+startBy false true = Start.Refused 46
+startBy false false = Start.Open
 
 -- the next record's number, from 1: one for each transfer and report taken, and one for close
 abbrev pub closes : Bool → ℕ
@@ -35,50 +56,55 @@ closes false = 1
 abbrev pub numberOf : Session → ℕ
 numberOf s = s .rest .taken + closes (s .rest .closed)
 
+-- A CALL, with room for one frame: only the ledger is wanted, so what the room holds is nowhere said
+abbrev pub roomFor : Opening → List ℕ
+roomFor o = replicate (o .frame) 0
+
+abbrev pub offerOf : Session → Ask → Offer
+offerOf s c = offerWith (roomFor (s .rest .opening)) c
+
 -- a good record's call: taken, with the next session, or refused by a number
 abbrev pub offered : ℕ → Session → Session → Trace
 offered zero s n = record { session = n; state = Good }
 offered (suc k) s n = record { session = s; state = Refused (suc k) (numberOf s) }
 
-abbrev pub readCall : Session → List ℕ → Ask → Trace
-readCall s buffer c = offered (refusal s (offerWith buffer c)) s (next s (offerWith buffer c))
+abbrev pub readCall : Session → Ask → Trace
+readCall s c = offered (refusal s (offerOf s c)) s (next s (offerOf s c))
 
 -- a bad record, or anything after close: bad
-abbrev pub readBy : Bool → Session → List ℕ → Ask → Trace
-readBy true s buffer c = record { session = s; state = Bad (numberOf s) }
-readBy false s buffer c = readCall s buffer c
+abbrev pub readBy : Bool → Session → Ask → Trace
+readBy true s c = record { session = s; state = Bad (numberOf s) }
+readBy false s c = readCall s c
 
-abbrev pub stepBy : State → Session → List ℕ → List ℕ → Trace
-stepBy Good s buffer r = readBy (s .rest .closed || recordBad Short r) s buffer (recordAsk r)
-stepBy (Bad n) s buffer r = record { session = s; state = Bad n }
-stepBy (Refused k n) s buffer r = record { session = s; state = Refused k n }
+abbrev pub stepBy : State → Form → Session → List ℕ → Trace
+stepBy Good f s r = readBy (s .rest .closed || recordBad f r) s (recordAsk f r)
+stepBy (Bad n) f s r = record { session = s; state = Bad n }
+stepBy (Refused k n) f s r = record { session = s; state = Refused k n }
 
 -- one record more: the first bad record decides
-unfoldable pub stepOf : Trace → List ℕ → List ℕ → Trace
-stepOf t buffer r = stepBy (t .state) (t .session) buffer r
+unfoldable pub stepOf : Form → Trace → List ℕ → Trace
+stepOf f t r = stepBy (t .state) f (t .session) r
 
--- the buffer after it
-abbrev pub keptBy : Bool → Session → List ℕ → Ask → List ℕ
-keptBy true s buffer c = buffer
-keptBy false s buffer c = bufferNext s buffer c
+-- WHAT A RECORD'S CALL ANSWERED, by a session s: nothing for a lost report, for a bad record and for anything after close
+abbrev pub saidFor : Session → Offer → Said
+saidFor s (Offer.take b t) = Said.Transfer (takeOf s (length b) t .outcome)
+saidFor s Offer.lost = Said.Nothing
+saidFor s Offer.close = Said.Close (closeOf s .closing)
 
-abbrev pub stepBufferBy : State → Session → List ℕ → List ℕ → List ℕ
-stepBufferBy Good s buffer r = keptBy (s .rest .closed || recordBad Short r) s buffer (recordAsk r)
-stepBufferBy (Bad n) s buffer r = buffer
-stepBufferBy (Refused k n) s buffer r = buffer
+abbrev pub saidCall : Session → Ask → Said
+saidCall s c = saidFor s (offerOf s c)
 
-unfoldable pub stepBuffer : Trace → List ℕ → List ℕ → List ℕ
-stepBuffer t buffer r = stepBufferBy (t .state) (t .session) buffer r
+abbrev pub saidBy : Bool → Session → Ask → Said
+saidBy true s c = Said.Nothing
+saidBy false s c = saidCall s c
+
+unfoldable pub saidOf : Form → Session → List ℕ → Said
+saidOf f s r = saidBy (s .rest .closed || recordBad f r) s (recordAsk f r)
 
 -- all the records
-abbrev pub traced : Trace → List ℕ → List (List ℕ) → Trace
-traced t buffer [] = t
-traced t buffer (r ∷ rs) = traced (stepOf t buffer r) (stepBuffer t buffer r) rs
-
--- the buffer after them
-abbrev pub tracedBuffer : Trace → List ℕ → List (List ℕ) → List ℕ
-tracedBuffer t buffer [] = buffer
-tracedBuffer t buffer (r ∷ rs) = tracedBuffer (stepOf t buffer r) (stepBuffer t buffer r) rs
+abbrev pub traced : Form → Trace → List (List ℕ) → Trace
+traced f t [] = t
+traced f t (r ∷ rs) = traced f (stepOf f t r) rs
 
 -- what is printed: the ledger of a good trace; nothing of it otherwise
 abbrev pub printBy : State → Session → Printed
@@ -92,13 +118,3 @@ reportOf t = printBy (t .state) (t .session)
 -- a good trace
 abbrev pub goodOf : Session → Trace
 goodOf s = record { session = s; state = Good }
-
--- "BAD RECORD N" is given for the first bad record from a session on: record N is bad, or comes after close, and every record before it is good and comes before close
-pub record BadFrom (s : Session) (b : List ℕ) (rs : List (List ℕ)) (n : ℕ) : Type 0 where
-  pub before : List (List ℕ)
-  pub worst : List ℕ
-  pub rest : List (List ℕ)
-  pub split : rs ≡ before ++ (worst ∷ rest)
-  pub fine : traced (goodOf s) b before .state ≡ Good
-  pub broken : (traced (goodOf s) b before .session .rest .closed || recordBad Short worst) ≡ true
-  pub number : n ≡ numberOf s + length before

@@ -1,14 +1,18 @@
-use mathlib.Core.Path.{ap}
-use Rattle.trace.specs.declared.Trace.{Trace}
+use Rattle.trace.proofs.Begins.{begun-open, ledger-fits}
+use Rattle.trace.specs.Trace.{ledgerSizes}
+use Rattle.trace.specs.declared.Begun.{Begun}
+use mathlib.Core.Path.{ap, _∙_}
 use borrow.Author.Needs.{needs}
 use Rattle.pieces.proofs.new.Statement.{statement}
 use Rattle.pieces.proofs.new.Tie as tie
 
+-- src/lib.rt:24:9
 new-requires : tie.Need-new-requires
 new-requires c κs = search needs
 
+-- src/lib.rt:21:1
 returns : tie.Need-returns
-returns c = ap (λ (t : Trace). record { trace = t; have = 0 }) (c .new .ensures)
+returns c = ap (λ (b : Begun). record { trace = b .trace; have = 0 }) (c .before .new .ensures ∙ begun-open ledgerSizes (ledger-fits .0))
 
 pub new-spec : {M : Type 1} → statement M
 new-spec = tie.close (tie.spec new-requires returns)

@@ -1,4 +1,3 @@
-use mathlib.Core.List.{[]}
 use denote.Ref.{now}
 use Rattle.trace.proofs.Steps.{close-refused, close-closed}
 use borrow.Author.Needs.{needs}
@@ -24,12 +23,12 @@ answered-requires-2 c κs = search needs
 returns : tie.Need-returns
 returns c =
     let s = c .before .before .before .before .before .before .before in
-    close-refused (wholeOf (s .args .s) (now (s .args .m))) [] _ _ (c .before .before .before .before .before .close .ensures) _ _ (c .before .before .closing .given .1) (c .answered .ensures)
+    close-refused (wholeOf (s .args .s) (now (s .args .m))) _ _ (c .before .before .before .before .before .close .ensures) _ _ (c .before .before .closing .given .1) (c .answered .ensures)
 
 returns-2 : tie.Need-returns-2
 returns-2 c =
     let s = c .before .before .before .before .before .before in
-    close-closed (wholeOf (s .args .s) (now (s .args .m))) [] _ _ (c .before .before .before .before .close .ensures) _ _ (c .before .enum-told .given .1) (c .answered2 .ensures)
+    close-closed (wholeOf (s .args .s) (now (s .args .m))) _ _ (c .before .before .before .before .close .ensures) _ _ (c .before .enum-told .given .1) (c .answered2 .ensures)
 
 pub close-spec : {M : Type 1} → statement M
 close-spec =

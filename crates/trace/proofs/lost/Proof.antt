@@ -1,4 +1,3 @@
-use mathlib.Core.List.{[]}
 use denote.Ref.{now}
 use Rattle.trace.proofs.Steps.{lost-refused, lost-noted}
 use borrow.Author.Needs.{needs}
@@ -24,12 +23,12 @@ answered-requires-2 c κs = search needs
 returns : tie.Need-returns
 returns c =
     let s = c .before .before .before .before .before .before .before in
-    lost-refused (wholeOf (s .args .s) (now (s .args .m))) [] _ _ (c .before .before .before .before .before .lost .ensures) _ _ (c .before .before .report .given .1) (c .answered .ensures)
+    lost-refused (wholeOf (s .args .s) (now (s .args .m))) _ _ (c .before .before .before .before .before .lost .ensures) _ _ (c .before .before .report .given .1) (c .answered .ensures)
 
 returns-2 : tie.Need-returns-2
 returns-2 c =
     let s = c .before .before .before .before .before .before in
-    lost-noted (wholeOf (s .args .s) (now (s .args .m))) [] _ _ (c .before .before .before .before .lost .ensures) _ (c .before .enum-told .given .1) (c .answered2 .ensures)
+    lost-noted (wholeOf (s .args .s) (now (s .args .m))) _ _ (c .before .before .before .before .lost .ensures) _ (c .before .enum-told .given .1) (c .answered2 .ensures)
 
 pub lost-spec : {M : Type 1} → statement M
 lost-spec =

@@ -8,17 +8,17 @@ use Rattle.ledger_program.proofs.input.read_all.Statement.{statement}
 use Rattle.ledger_program.proofs.input.read_all.Tie as tie
 
 abbrev Inv-loop : tie.InvT-loop
-Inv-loop fd frame₀ piece₀ input₀ reader₀ turns₀ frame piece input reader turns =
-    (length frame ≡ length frame₀) × (length piece ≡ length piece₀) × (length input ≡ length input₀) × (reader .have < 64)
+Inv-loop fd piece₀ input₀ reader₀ turns₀ piece input reader turns =
+    (length piece ≡ length piece₀) × (length input ≡ length input₀) × (reader .have < 64)
 
 abbrev μ-loop : tie.MeasureT-loop
-μ-loop fd frame₀ piece₀ input₀ reader₀ turns₀ frame piece input reader turns = turns
+μ-loop fd piece₀ input₀ reader₀ turns₀ piece input reader turns = turns
 
 new-requires : tie.Need-new-requires Inv-loop μ-loop
 new-requires c κs = search needs
 
 loop-holds : tie.Need-loop-holds Inv-loop μ-loop
-loop-holds c = let h = ap (λ (r : Reader). r .have) (c .new .ensures) in (search needs, search needs, search needs, omega (arith, h))
+loop-holds c = let h = ap (λ (r : Reader). r .have) (c .new .ensures) in (search needs, search needs, omega (arith, h))
 
 read-requires : tie.Need-read-requires Inv-loop μ-loop
 read-requires c κs = search needs
@@ -29,23 +29,17 @@ same-length c = search needs
 same-length-2 : tie.Need-same-length-2 Inv-loop μ-loop
 same-length-2 c = search needs
 
-same-length-3 : tie.Need-same-length-3 Inv-loop μ-loop
-same-length-3 c = search needs
-
 returns : tie.Need-returns Inv-loop μ-loop
 returns c = search needs
 
 count-requires : tie.Need-count-requires Inv-loop μ-loop
 count-requires c κs = search needs
 
+same-length-3 : tie.Need-same-length-3 Inv-loop μ-loop
+same-length-3 c = search needs
+
 same-length-4 : tie.Need-same-length-4 Inv-loop μ-loop
 same-length-4 c = search needs
-
-same-length-5 : tie.Need-same-length-5 Inv-loop μ-loop
-same-length-5 c = search needs
-
-same-length-6 : tie.Need-same-length-6 Inv-loop μ-loop
-same-length-6 c = search needs
 
 returns-2 : tie.Need-returns-2 Inv-loop μ-loop
 returns-2 c = search needs
@@ -62,14 +56,11 @@ feed-requires c κs = search needs
 is-good-requires : tie.Need-is-good-requires Inv-loop μ-loop
 is-good-requires c κs = search needs
 
-same-length-7 : tie.Need-same-length-7 Inv-loop μ-loop
-same-length-7 c = search needs
+same-length-5 : tie.Need-same-length-5 Inv-loop μ-loop
+same-length-5 c = search needs
 
-same-length-8 : tie.Need-same-length-8 Inv-loop μ-loop
-same-length-8 c = search needs
-
-same-length-9 : tie.Need-same-length-9 Inv-loop μ-loop
-same-length-9 c = search needs
+same-length-6 : tie.Need-same-length-6 Inv-loop μ-loop
+same-length-6 c = search needs
 
 returns-3 : tie.Need-returns-3 Inv-loop μ-loop
 returns-3 c = search needs
@@ -83,14 +74,11 @@ loop-less c = search needs
 loop-again : tie.Need-loop-again Inv-loop μ-loop
 loop-again c = search needs
 
-same-length-10 : tie.Need-same-length-10 Inv-loop μ-loop
-same-length-10 c = search needs
+same-length-7 : tie.Need-same-length-7 Inv-loop μ-loop
+same-length-7 c = search needs
 
-same-length-11 : tie.Need-same-length-11 Inv-loop μ-loop
-same-length-11 c = search needs
-
-same-length-12 : tie.Need-same-length-12 Inv-loop μ-loop
-same-length-12 c = search needs
+same-length-8 : tie.Need-same-length-8 Inv-loop μ-loop
+same-length-8 c = search needs
 
 returns-4 : tie.Need-returns-4 Inv-loop μ-loop
 returns-4 c = search needs
@@ -106,25 +94,21 @@ read-all-spec =
     read-requires
     same-length
     same-length-2
-    same-length-3
     returns
     count-requires
+    same-length-3
     same-length-4
-    same-length-5
-    same-length-6
     returns-2
     slice-reshare-prefix-feed
     slice-aggregate-feed
     feed-requires
     is-good-requires
-    same-length-7
-    same-length-8
-    same-length-9
+    same-length-5
+    same-length-6
     returns-3
     sub-turns
     loop-less
     loop-again
-    same-length-10
-    same-length-11
-    same-length-12
+    same-length-7
+    same-length-8
     returns-4)
