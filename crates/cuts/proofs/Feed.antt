@@ -14,7 +14,7 @@ use Rattle.cuts.proofs.Steps.{stop, stop-after, stop-whole, stop-left}
 use Rattle.cuts.proofs.Goes.{waits, fills, goes}
 
 -- the lesser of two is one of them
-least-bounds : (a b : ℕ) → (leastOf a b ≤ a) × (leastOf a b ≤ b)
+pub least-bounds : (a b : ℕ) → (leastOf a b ≤ a) × (leastOf a b ≤ b)
 unfolding pick
 least-bounds a b = go (ltb a b) refl
   where

@@ -43,20 +43,23 @@ module _ (c : Counted) (e : Ending) (old : List ℕ) (at : ℕ) where
   pub delivered : (s : Since) (m : ℕ) (l : Stamp) (r : ℕ) (new : List ℕ) → e .how ≡ Delivered → s ≡ sinceOf (c .last) (e .stamp) → m ≡ nextNumber (c .number) → l ≡ lastOf (c .last) (e .stamp)
       → Put old at (replayText (c .number) (e .len) s) r new → r ≤ at + lineMost
       → Ended Show.Replay c e old at r new (record { number = m; last = l })
-  delivered s m l r new h q n k p b =
-      (subst (λ (w : How). Put old at (replayBy w c (e .len) (e .stamp)) r new) (sym h) (subst (λ (z : Since). Put old at (replayText (c .number) (e .len) z) r new) q p),
-        ((λ i. record { number = n i; last = k i }) ∙ ap (λ (w : How). countedBy w c (e .stamp)) (sym h), b))
+  delivered s m l r new h q n k p b = (
+    subst (λ (w : How). Put old at (replayBy w c (e .len) (e .stamp)) r new) (sym h) (subst (λ (z : Since). Put old at (replayText (c .number) (e .len) z) r new) q p),
+    ((λ i. record { number = n i; last = k i }) ∙ ap (λ (w : How). countedBy w c (e .stamp)) (sym h), b),
+  )
 
   pub still : (m : ℕ) (r : ℕ) (new : List ℕ) → e .how ≡ Still → m ≡ nextNumber (c .number) → Put old at (replayText (c .number) (e .len) Dash) r new → r ≤ at + lineMost
       → Ended Show.Replay c e old at r new (record { number = m; last = c .last })
-  still m r new h n p b =
-      (subst (λ (w : How). Put old at (replayBy w c (e .len) (e .stamp)) r new) (sym h) p,
-        ((λ i. record { number = n i; last = c .last }) ∙ ap (λ (w : How). countedBy w c (e .stamp)) (sym h), b))
+  still m r new h n p b = (
+    subst (λ (w : How). Put old at (replayBy w c (e .len) (e .stamp)) r new) (sym h) p,
+    ((λ i. record { number = n i; last = c .last }) ∙ ap (λ (w : How). countedBy w c (e .stamp)) (sym h), b),
+  )
 
   pub dropped : (w : _) → e .how ≡ Dropped w → at + lineMost ≤ length old → Ended Show.Replay c e old at at old c
-  dropped w h b =
-      (subst (λ (w : How). Put old at (replayBy w c (e .len) (e .stamp)) at old) (sym h) (put-nothing old at (omega arith)),
-        (ap (λ (w : How). countedBy w c (e .stamp)) (sym h), omega arith))
+  dropped w h b = (
+    subst (λ (w : How). Put old at (replayBy w c (e .len) (e .stamp)) at old) (sym h) (put-nothing old at (omega arith)),
+    (ap (λ (w : How). countedBy w c (e .stamp)) (sym h), omega arith),
+  )
 
 module _ (show : Show) (c : Counted) (t : Told) (old : List ℕ) (at : ℕ) where
   pub told-none : t ≡ Told.Nothing → at + lineMost ≤ length old → Said show c (toldIn t) old at at old c
@@ -76,6 +79,7 @@ module _ (show : Show) (c : Counted) (t : Told) (old : List ℕ) (at : ℕ) wher
 -- one after the other
 pub both : (show : Show) (c d x : Counted) (xs ys : List Ending) (old mid new : List ℕ) (at m r : ℕ) → Said show c xs old at m mid d → Said show d ys mid m r new x
     → Put old at (linesIn show c (xs ++ ys)) r new × ((x ≡ countedAll show c (xs ++ ys)) × (r ≤ at + (lineMost + lineMost)))
-both show c d x xs ys old mid new at m r p q =
-    (subst (λ (l : List ℕ). Put old at l r new) (ap (λ (z : Counted). linesIn show c xs ++ linesIn show z ys) (p .1 .0) ∙ sym (lines-more show c xs ys)) (then (p .0) (q .0)),
-      (q .1 .0 ∙ ap (λ (z : Counted). countedAll show z ys) (p .1 .0) ∙ sym (counted-more show c xs ys), omega (arith, p .1 .1, q .1 .1)))
+both show c d x xs ys old mid new at m r p q = (
+  subst (λ (l : List ℕ). Put old at l r new) (ap (λ (z : Counted). linesIn show c xs ++ linesIn show z ys) (p .1 .0) ∙ sym (lines-more show c xs ys)) (then (p .0) (q .0)),
+  (q .1 .0 ∙ ap (λ (z : Counted). countedAll show z ys) (p .1 .0) ∙ sym (counted-more show c xs ys), omega (arith, p .1 .1, q .1 .1)),
+)

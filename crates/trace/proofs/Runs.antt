@@ -104,7 +104,7 @@ not-good f t e rs = go (t .state) refl e
 
 -- ---- the numbers stay as many
 module _ (f : Form) (s : Session) (z : Sized (postedOf s)) where
-  step-sized : (r : List ℕ) → Sized (postedOf (stepOf f (record { session = s; state = Good }) r .session))
+  pub step-sized : (r : List ℕ) → Sized (postedOf (stepOf f (record { session = s; state = Good }) r .session))
   unfolding stepOf
   step-sized r = go (s .rest .closed || recordBad f r)
     where

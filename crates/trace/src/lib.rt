@@ -207,7 +207,7 @@ fn end_of(form: Form, at: usize, len: usize) -> usize
 }
 
 // A bad or refused record decides a trace.
-fn decided(state: State) -> bool
+pub fn decided(state: State) -> bool
     ensures { λ r. ⌜ r ≡ isDecided state ⌝ }
 {
     match state {

@@ -1,0 +1,3 @@
+pub mod Over
+pub mod Steps
+pub mod Read
