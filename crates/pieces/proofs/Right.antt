@@ -1,5 +1,5 @@
 -- However the bytes of a trace are cut into reads, what is answered at the end is the answer for all of them.
-use Prim.Native.Nat.{ℕ, zero, suc, _+_, _*_, _/_, _<_, _≤_}
+use Prim.Native.Nat.{ℕ, zero, suc, _+_, _*_, _/_, _<_}
 use mathlib.Core.Path.{_≡_, refl, sym, ap, _∙_}
 use mathlib.Core.Bool.{true, or-true, _||_}
 use mathlib.Core.List.{List, [], _∷_, _++_, append-assoc}

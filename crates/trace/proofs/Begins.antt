@@ -1,6 +1,5 @@
 -- A trace begins with a fresh session, unless its sizes are such that none can be opened: then by 45, or by 46.
-use Prim.Native.Nat.{ℕ}
-use mathlib.Core.Path.{_≡_, refl, _∙_, ap}
+use mathlib.Core.Path.{_≡_, refl}
 use mathlib.Core.Bool.{Bool, true, false}
 use mathlib.Core.List.{[], _∷_}
 use native.Mathlib.Omega.{arith}
@@ -14,8 +13,7 @@ use Rattle.sizes.specs.Sizes.{frameSizeBroken, payloadSizeBroken, sizesBroken}
 use Rattle.refusals.specs.Refusals.{openingFlags}
 use Rattle.session.specs.declared.Start.{Start}
 use Rattle.session.specs.Session.{openBy, openOf}
-use Rattle.trace.specs.Trace.{ledgerSizes, replaySizes, newTrace, beginOf, begunBy, startBy}
-use Rattle.trace.specs.declared.Begun.{Begun}
+use Rattle.trace.specs.Trace.{ledgerSizes, replaySizes, newTrace, beginOf, startBy}
 
 -- the room is the frame size: 47 is never met
 enough : (o : Opening) → ltb (o .frame) (o .frame) ≡ false

@@ -18,22 +18,26 @@ use Rattle.sizes.specs.Sizes.{sizesBroken}
 use Rattle.session.specs.declared.Session.{Session}
 use Rattle.refusals.specs.Refusals.{takenMost}
 use Rattle.session.specs.Refusals.{recordBroken}
-use Rattle.session.specs.Session.{fresh, readOf, tookBy, tookOf}
+use Rattle.session.specs.declared.Outcome.{Outcome}
+use Rattle.session.specs.declared.Closing.{Closing}
+use Rattle.session.specs.Session.{fresh, readOf, tookBy, tookOf, takeOf, closeOf}
 use Rattle.session.specs.Call.{Ask, Call, heardOf}
 use Rattle.session.specs.Calls.{Offer, refusal, next, nextCall, after, taken, callOf, unless, offerWith}
 use Rattle.books.proofs.Answers.{taken-more}
 use Rattle.books.proofs.HandedOut.{asked-listed, asked-next}
 use Rattle.books.proofs.Sound.{took-taken, after-opening}
-use Rattle.books.proofs.Theorems.{never-stuck}
+use Rattle.books.specs.Answer.{lastRun, endingOf, answerOf, handsFor, outOf, outcomeOf}
+use Rattle.books.proofs.Theorems.{never-stuck, answer-right, close-right}
 use Rattle.records.specs.declared.Form.{Form}
-use Rattle.records.specs.Record.{kindAt, lengthAt, bytesAt, recordBad}
+use Rattle.records.specs.Record.{kindAt, bytesAt, recordBad}
 use Rattle.records.proofs.Fine.{fine}
 use Rattle.records.proofs.Steps.{most-few}
 use Rattle.trace.specs.Record.{askBy, recordAsk, recordCall}
-use Rattle.trace.specs.Trace.{newTrace, numberOf, roomFor, offerOf, traced, goodOf}
-use Rattle.trace.specs.Standing.{closedIn, countIn, badAfter, pastAfter, stateAfter, stateOf, goodAfter, goodRecords, offersOf, Read}
+use Rattle.trace.specs.Trace.{newTrace, numberOf, roomFor, offerOf, saidFor, saidBy, saidOf, traced, goodOf}
+use Rattle.trace.specs.Standing.{closedIn, countIn, badAfter, pastAfter, stateAfter, stateOf, goodAfter, goodRecords, offersOf, Read, saysTo}
+use Rattle.trace.specs.declared.Said.{Said}
 use Rattle.trace.specs.declared.State.{State}
-use Rattle.trace.specs.declared.State.the-variants.{Good, Bad, Refused}
+use Rattle.trace.specs.declared.State.the-variants.{Bad, Refused}
 use Rattle.trace.specs.declared.Trace.{Trace}
 use Rattle.trace.proofs.Records.{on-good, on-bad, on-refused}
 
@@ -191,18 +195,18 @@ module _ (f : Form) (o : Opening) where
               number = ap numberOf q ∙ call-number f s (roomFor o) r still-open (recordAsk f r) ∙ omega (arith, w .number, length-append rs (r ∷ []));
             }
 
-    -- where a trace comes to from the records rs: by x, with the good ones gs
+    -- where a trace comes to from the records rs: its state is x, and its session holds the good ones gs too
     record Comes (rs : List (List ℕ)) (t : Trace) (x : State) (gs : List (List ℕ)) : Type 0 where
       pub state : t .state ≡ x
-      pub read : Read f o (rs ++ gs) (t .session)
+      pub held : Holds (rs ++ gs) (t .session)
 
     comes : (more rs : List (List ℕ)) (s : Session) → Holds rs s → Comes rs (traced f (goodOf s) more) (stateAfter f rs more) (goodAfter f rs more)
-    comes [] rs s w = record { state = refl; read = rw (append-nil rs) (w .read) }
+    comes [] rs s w = record { state = refl; held = rw (append-nil rs) w }
     comes (r ∷ more) rs s w =
         go (badAfter f rs r) refl (pastAfter rs r) refl (comes more (and rs r) (next s (offerOf s (recordAsk f r))))
       where
         stays : (t : Trace) (x : State) → traced f (goodOf s) (r ∷ more) ≡ t → t .session ≡ s → t .state ≡ x → Comes rs (traced f (goodOf s) (r ∷ more)) x []
-        stays t x e c q = rw (e) (record { state = q; read = rw (c, append-nil rs) (w .read) })
+        stays t x e c q = rw e (record { state = q; held = rw (c, append-nil rs) w })
 
         go : (x : Bool) → badAfter f rs r ≡ x → (y : Bool) → pastAfter rs r ≡ y
             → (Holds (and rs r) (next s (offerOf s (recordAsk f r))) → Comes (and rs r) (traced f (goodOf (next s (offerOf s (recordAsk f r)))) more) (stateAfter f (and rs r) more) (goodAfter f (and rs r) more))
@@ -213,7 +217,7 @@ module _ (f : Form) (o : Opening) where
         go false e false g rec =
             let i = rec (goes-on rs s w r e g) in
             let p = on-good f s r (ap (_|| recordBad f r) (w .closed₀) ∙ e) (refuses rs s w r e ∙ ap (λ (c : Bool). orElse c 52 0) g) more in
-            rw p (record { state = i .state; read = rw (sym (append-assoc rs (r ∷ []) (goodAfter f (and rs r) more))) (i .read) })
+            rw p (record { state = i .state; held = rw (sym (append-assoc rs (r ∷ []) (goodAfter f (and rs r) more))) (i .held) })
 
     from-none : (rs : List (List ℕ)) → Comes [] (traced f (newTrace o) rs) (stateOf f rs) (goodRecords f rs)
     from-none rs = comes rs [] (fresh o) (record {
@@ -230,4 +234,44 @@ module _ (f : Form) (o : Opening) where
 
     -- THE SESSION after the records, whether one decides or not: the calls of the good ones are taken, and no other
     pub session-right : (rs : List (List ℕ)) → Read f o (goodRecords f rs) (traced f (newTrace o) rs .session)
-    session-right rs = from-none rs .read
+    session-right rs = from-none rs .held .read
+
+    -- ---- what a record's call answers
+    hands-none : (cs : List Call) (x : Reading) → handsFor x o cs ≡ false
+    hands-none cs Idle = refl
+    hands-none cs (Unreadable k) = refl
+    hands-none cs (Readable h) = rw eof
+
+    module _ (rs : List (List ℕ)) (s : Session) (w : Holds rs s) where
+      abbrev cs : List Call
+      cs = map (recordCall f) rs
+
+      answers : (c : Ask) → refusal s (offerWith (roomFor o) c) ≡ 0 → saidFor s (offerWith (roomFor o) c) ≡ saysTo o cs c
+      answers (Ask.transfer t) ok =
+          ap (λ (z : Session). Said.Transfer (takeOf z (length (roomFor o)) t .outcome)) (w .read .session)
+          ∙ ap Said.Transfer (answer-right o (offersOf f o rs) (roomFor o) t (sym (ap (λ (z : Session). refusal z (Offer.take (roomFor o) t)) (w .read .session)) ∙ ok))
+          ∙ ap (λ (ds : List Call). Said.Transfer (outcomeOf o ds t)) (w .read .calls)
+          ∙ ap (λ (b : Bool). Said.Transfer (cond b (Outcome.Handed (outOf o (lastRun o cs))) (Outcome.Taken (answerOf o cs t)))) (hands-none cs (readingOf o t))
+      answers Ask.lost ok = refl
+      answers Ask.close ok =
+          ap (λ (z : Session). Said.Close (closeOf z .closing)) (w .read .session)
+          ∙ ap Said.Close (close-right o (offersOf f o rs) (sym (ap (λ (z : Session). refusal z Offer.close) (w .read .session)) ∙ ok))
+          ∙ ap (λ (ds : List Call). Said.Close (Closing.Closed (endingOf o ds))) (w .read .calls)
+
+      says-by : (r : List ℕ) (x : Bool) → badAfter f rs r ≡ x → saidOf f s r ≡ saidBy x s (recordAsk f r)
+      unfolding saidOf
+      says-by r x e = ap (λ (b : Bool). saidBy b s (recordAsk f r)) (ap (_|| recordBad f r) (w .closed₀) ∙ e)
+
+      says-good : (r : List ℕ) → badAfter f rs r ≡ false → pastAfter rs r ≡ false → saidOf f s r ≡ saysTo o cs (recordAsk f r)
+      says-good r e g =
+          says-by r false e
+          ∙ ap (saidFor s) (lent rs s w (recordAsk f r))
+          ∙ answers (recordAsk f r) (refuses-lent rs s w r e ∙ ap (λ (c : Bool). orElse c 52 0) g)
+
+    -- WHAT A RECORD'S CALL ANSWERS after these records: by the rule, for the calls of the good ones among them; and nothing where it is bad
+    pub said-right : (rs : List (List ℕ)) (r : List ℕ) → badAfter f (goodRecords f rs) r ≡ false → pastAfter (goodRecords f rs) r ≡ false
+        → saidOf f (traced f (newTrace o) rs .session) r ≡ saysTo o (map (recordCall f) (goodRecords f rs)) (recordAsk f r)
+    said-right rs r = says-good (goodRecords f rs) (traced f (newTrace o) rs .session) (from-none rs .held) r
+
+    pub said-none : (rs : List (List ℕ)) (r : List ℕ) → badAfter f (goodRecords f rs) r ≡ true → saidOf f (traced f (newTrace o) rs .session) r ≡ Said.Nothing
+    said-none rs r = says-by (goodRecords f rs) (traced f (newTrace o) rs .session) (from-none rs .held) r true

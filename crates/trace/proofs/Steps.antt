@@ -31,7 +31,7 @@ use Rattle.records.specs.declared.Form.{Form}
 use Rattle.records.specs.Form.{headOf}
 use Rattle.records.specs.Record.{kindAt, lengthAt, recordBad}
 use Rattle.trace.specs.Record.{askBy, recordAsk}
-use Rattle.trace.specs.Trace.{begunBy, beginOf, roomFor, numberOf, offered, readCall, saidCall, readBy, saidBy, stepBy, stepOf, saidOf, printBy, reportOf}
+use Rattle.trace.specs.Trace.{begunBy, beginOf, roomFor, numberOf, offered, readCall, saidCall, readBy, saidBy, stepOf, saidOf, printBy, reportOf}
 use Rattle.trace.specs.declared.State.{State}
 use Rattle.trace.specs.declared.State.the-variants.{Good, Bad, Refused}
 use Rattle.trace.specs.declared.Trace.{Trace}

@@ -9,13 +9,18 @@ use Rattle.sizes.specs.declared.Opening.{Opening}
 use Rattle.ledger.specs.Ledger.{noLedger}
 use Rattle.refusals.specs.Refusals.{takenMost}
 use Rattle.session.specs.declared.Session.{Session}
+use Rattle.session.specs.declared.Outcome.{Outcome}
+use Rattle.session.specs.declared.Closing.{Closing}
 use Rattle.session.specs.Session.{fresh}
+use Rattle.session.specs.Call.{Ask, Call}
 use Rattle.session.specs.Calls.{Offer, after, taken, offerWith}
 use Rattle.books.specs.Rule.{entries, numbersOf}
+use Rattle.books.specs.Answer.{answerOf, endingOf}
 use Rattle.records.specs.declared.Form.{Form}
 use Rattle.records.specs.Record.{kindAt, recordBad}
 use Rattle.trace.specs.Record.{recordAsk, recordCall}
 use Rattle.trace.specs.Trace.{roomFor}
+use Rattle.trace.specs.declared.Said.{Said}
 use Rattle.trace.specs.declared.State.{State}
 use Rattle.trace.specs.declared.State.the-variants.{Good, Bad, Refused}
 
@@ -69,6 +74,12 @@ offersOf f o (r ∷ rs) = offerWith (roomFor o) (recordAsk f r) ∷ offersOf f o
 pub record Read (f : Form) (o : Opening) (rs : List (List ℕ)) (s : Session) : Type 0 where
   pub session : s ≡ after (fresh o) (offersOf f o rs)
   pub calls : taken (fresh o) (offersOf f o rs) ≡ map (recordCall f) rs
+
+-- WHAT A CALL ANSWERS that is taken, from the calls before it: a transfer's two parts; nothing to a lost report; what became of the frame that close ended
+abbrev pub saysTo : Opening → List Call → Ask → Said
+saysTo o cs (Ask.transfer t) = Said.Transfer (Outcome.Taken (answerOf o cs t))
+saysTo o cs Ask.lost = Said.Nothing
+saysTo o cs Ask.close = Said.Close (Closing.Closed (endingOf o cs))
 
 -- THE STATE, CASE BY CASE. Good: no record is bad, nothing comes after close, and no more than 4,294,967,295 records are of kind 0 or 1.
 pub record AllGood (f : Form) (rs : List (List ℕ)) : Type 0 where
