@@ -8,7 +8,6 @@ ghost use Rattle.records.specs.Record.{recordsOf};
 ghost use Rattle.trace.specs.Trace.{traced};
 ghost use Rattle.pieces.specs.Pieces.{newReader, After};
 use records::Form;
-use trace::LEDGER;
 use trace::Trace;
 
 // A trace of whole records, and how many bytes of the next one have come.
@@ -21,7 +20,7 @@ pub struct Reader {
 pub fn new() -> Reader
     ensures { λ r. ⌜ r ≡ newReader ⌝ }
 {
-    let begun = Trace::new(LEDGER);
+    let begun = Trace::ledger();
     let trace = begun.trace;
     Reader { trace, have: 0 }
 }

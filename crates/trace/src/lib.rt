@@ -6,7 +6,7 @@ ghost use Rattle.ledger.specs.Accounts.{numberCount};
 ghost use Rattle.records.specs.Form.{sizeOf, mostOf};
 ghost use Rattle.records.specs.Record.{lengthAt, recordsOf};
 ghost use Rattle.trace.specs.Record.{recordAsk};
-ghost use Rattle.trace.specs.Trace.{beginOf, readCall, saidCall, stepOf, saidOf, traced, goodOf, reportOf};
+ghost use Rattle.trace.specs.Trace.{ledgerSizes, replaySizes, beginOf, readCall, saidCall, stepOf, saidOf, traced, goodOf, reportOf};
 ghost use Rattle.session.specs.Inner.{wholeOf};
 ghost use Rattle.session.specs.Call.{Ask};
 ghost use Rattle.trace.specs.Inner.{endOf, goingWith, goodWith, numberRest, answeredBy, isDecided};
@@ -258,6 +258,20 @@ impl Trace {
             },
             start,
         }
+    }
+
+    // What the ledger program begins with.
+    pub fn ledger() -> Begun
+        ensures { λ r. ⌜ r ≡ beginOf ledgerSizes ⌝ }
+    {
+        Trace::new(LEDGER)
+    }
+
+    // What a replay begins with.
+    pub fn replay() -> Begun
+        ensures { λ r. ⌜ r ≡ beginOf replaySizes ⌝ }
+    {
+        Trace::new(REPLAY)
     }
 
     // So many records more, the last of which may be partial. The first bad record decides, and nothing is read after it.
