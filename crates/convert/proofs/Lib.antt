@@ -1,2 +1,5 @@
 pub mod Steps
 pub mod Feeds
+pub mod Words
+pub mod Theorems
+pub mod Claims

@@ -1,2 +1,4 @@
 pub mod Convert
 pub mod Inner
+pub mod Run
+pub mod Claim
