@@ -75,7 +75,7 @@ unfolding recordBad
 stop-bad = refl
 
 -- ---- how the two traces stand
-closed-more : (rs : List (List ℕ)) (r : List ℕ) → closedIn (rs ++ (r ∷ [])) ≡ (closedIn rs || eqb (kindAt r) 2)
+pub closed-more : (rs : List (List ℕ)) (r : List ℕ) → closedIn (rs ++ (r ∷ [])) ≡ (closedIn rs || eqb (kindAt r) 2)
 closed-more [] r = or-none (eqb (kindAt r) 2)
   where
     or-none : (b : Bool) → (b || false) ≡ b

@@ -3,3 +3,5 @@ pub mod Feeds
 pub mod Words
 pub mod Theorems
 pub mod Claims
+pub mod Stands
+pub mod Unique
