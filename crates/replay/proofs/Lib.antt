@@ -1,3 +1,4 @@
 pub mod Over
 pub mod Steps
 pub mod Read
+pub mod Right

@@ -109,7 +109,7 @@ module _ (f : Form) (o : Opening) where
   after-more [] x s = refl
   after-more (y ∷ xs) x s = after-more xs x (next s y)
 
-  offers-more : (rs : List (List ℕ)) (r : List ℕ) → offersOf f o (and rs r) ≡ offersOf f o rs ++ (offerWith (roomFor o) (recordAsk f r) ∷ [])
+  pub offers-more : (rs : List (List ℕ)) (r : List ℕ) → offersOf f o (and rs r) ≡ offersOf f o rs ++ (offerWith (roomFor o) (recordAsk f r) ∷ [])
   offers-more [] r = refl
   offers-more (q ∷ rs) r = ap (offerWith (roomFor o) (recordAsk f q) ∷_) (offers-more rs r)
 
@@ -135,7 +135,7 @@ module _ (f : Form) (o : Opening) where
 
   module _ (sizes : sizesBroken o ≡ false) (eof : byEof o ≡ true) where
     -- what the session holds of the records so far
-    record Holds (rs : List (List ℕ)) (s : Session) : Type 0 where
+    pub record Holds (rs : List (List ℕ)) (s : Session) : Type 0 where
       pub read : Read f o rs s
       pub closed₀ : s .rest .closed ≡ closedIn rs
       pub taken₀ : s .rest .taken ≡ countIn rs
@@ -143,7 +143,7 @@ module _ (f : Form) (o : Opening) where
       pub number : numberOf s ≡ length rs + 1
 
     module _ (rs : List (List ℕ)) (s : Session) (w : Holds rs s) where
-      opened : s .rest .opening ≡ o
+      pub opened : s .rest .opening ≡ o
       opened = ap (λ (x : Session). x .rest .opening) (w .read .session) ∙ after-opening o (offersOf f o rs)
 
       framed : byEof (s .rest .opening) ≡ true
@@ -156,7 +156,7 @@ module _ (f : Form) (o : Opening) where
       wide = omega (arith, length-replicate {0} {A = ℕ} (o .frame) 0, ap (λ (x : Opening). x .frame) opened)
 
       -- the room that is lent is the opening's
-      lent : (c : Ask) → offerOf s c ≡ offerWith (roomFor o) c
+      pub lent : (c : Ask) → offerOf s c ≡ offerWith (roomFor o) c
       lent c = ap (λ (x : Opening). offerWith (roomFor x) c) opened
 
       module _ (r : List ℕ) (fine₀ : badAfter f rs r ≡ false) where
@@ -169,15 +169,15 @@ module _ (f : Form) (o : Opening) where
         abbrev x : Offer
         x = offerWith (roomFor o) (recordAsk f r)
 
-        refuses-lent : refusal s x ≡ orElse (pastAfter rs r) 52 0
+        pub refuses-lent : refusal s x ≡ orElse (pastAfter rs r) 52 0
         refuses-lent =
             call-refusal f s (roomFor o) r still-open (kindAt r) sound wide (short f r good₀) (rw (w .taken₀) (w .few))
             ∙ ap (λ (n : ℕ). orElse (ltb takenMost n) 52 0) (ap (_+ cond (ltb (kindAt r) 2) 1 0) (w .taken₀) ∙ sym (count-more rs r))
 
-        refuses : refusal s (offerOf s (recordAsk f r)) ≡ orElse (pastAfter rs r) 52 0
+        pub refuses : refusal s (offerOf s (recordAsk f r)) ≡ orElse (pastAfter rs r) 52 0
         refuses = ap (refusal s) (lent (recordAsk f r)) ∙ refuses-lent
 
-        goes-on : pastAfter rs r ≡ false → Holds (and rs r) (next s (offerOf s (recordAsk f r)))
+        pub goes-on : pastAfter rs r ≡ false → Holds (and rs r) (next s (offerOf s (recordAsk f r)))
         goes-on e = rw (lent (recordAsk f r)) held
           where
             ok : refusal s x ≡ 0
@@ -219,14 +219,21 @@ module _ (f : Form) (o : Opening) where
             let p = on-good f s r (ap (_|| recordBad f r) (w .closed₀) ∙ e) (refuses rs s w r e ∙ ap (λ (c : Bool). orElse c 52 0) g) more in
             rw p (record { state = i .state; held = rw (sym (append-assoc rs (r ∷ []) (goodAfter f (and rs r) more))) (i .held) })
 
-    from-none : (rs : List (List ℕ)) → Comes [] (traced f (newTrace o) rs) (stateOf f rs) (goodRecords f rs)
-    from-none rs = comes rs [] (fresh o) (record {
+    -- nothing is read yet
+    pub holds-none : Holds [] (fresh o)
+    holds-none = record {
       read = record { session = refl; calls = refl };
       closed₀ = refl;
       taken₀ = refl;
       few = omega arith;
       number = refl;
-    })
+    }
+
+    from-none : (rs : List (List ℕ)) → Comes [] (traced f (newTrace o) rs) (stateOf f rs) (goodRecords f rs)
+    from-none rs = comes rs [] (fresh o) holds-none
+
+    pub held-at-end : (rs : List (List ℕ)) → Holds (goodRecords f rs) (traced f (newTrace o) rs .session)
+    held-at-end rs = from-none rs .held
 
     -- HOW A TRACE STANDS
     pub state-right : (rs : List (List ℕ)) → traced f (newTrace o) rs .state ≡ stateOf f rs
