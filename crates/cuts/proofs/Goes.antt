@@ -95,3 +95,31 @@ module _ {A : Type 0} (n : ℕ) (pos : 0 < n) (over : A → List (List ℕ) → 
 
         sums : {p q : ℕ} → p ≡ u .many * n → q ≡ k * n → p + q ≡ (u .many + k) * n
         sums e f = omega (arith, e, f)
+
+    -- some bytes, and some more from where they led
+    pub after-more : (more : List ℕ) (y : A) (have' : ℕ) (piece' : List ℕ) → After n over x (take have piece ++ more) y have' piece' → After n over a (bytes ++ more) y have' piece'
+    after-more more y have' piece' v = record {
+      many = u .many + v .many;
+      whole = u .whole ++ v .whole;
+      left = v .left;
+      all = ap (_++ more) (u .all) ∙ append-assoc (u .whole) (u .left) more ∙ ap (λ (l : List ℕ). u .whole ++ (l ++ more)) (sym (u .kept))
+          ∙ ap (u .whole ++_) (v .all) ∙ sym (append-assoc (u .whole) (v .whole) (v .left));
+      full = length-append (u .whole) (v .whole) ∙ together (u .full) (v .full);
+      short = v .short;
+      read = v .read ∙ ap (λ (z : A). over z (cutOf n (v .whole))) (u .read) ∙ sym (folds a (cutOf n (u .whole)) (cutOf n (v .whole)))
+          ∙ ap (over a) (sym (cut-append n pos (u .many) (u .whole) (v .whole) (u .full)));
+      have₀ = v .have₀;
+      kept = v .kept;
+    }
+      where
+        together : {p q : ℕ} → p ≡ u .many * n → q ≡ v .many * n → p + q ≡ (u .many + v .many) * n
+        together e f = omega (arith, e, f)
+
+    -- where nothing is read after it, the rest of the stream changes nothing
+    pub at-rest : (rest : List ℕ) → ((rs : List (List ℕ)) → over x rs ≡ x) → over a (cutOf n (bytes ++ rest)) ≡ x
+    at-rest rest h =
+        ap (λ (l : List ℕ). over a (cutOf n l)) (ap (_++ rest) (u .all) ∙ append-assoc (u .whole) (u .left) rest)
+        ∙ ap (over a) (cut-append n pos (u .many) (u .whole) (u .left ++ rest) (u .full))
+        ∙ folds a (cutOf n (u .whole)) (cutOf n (u .left ++ rest))
+        ∙ ap (λ (z : A). over z (cutOf n (u .left ++ rest))) (sym (u .read))
+        ∙ h (cutOf n (u .left ++ rest))

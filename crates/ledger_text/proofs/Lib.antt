@@ -4,4 +4,5 @@ pub mod Texts
 pub mod Different
 pub mod Unique
 pub mod Samples
+pub mod Ends
 pub mod Printed

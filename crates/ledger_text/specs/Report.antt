@@ -7,6 +7,9 @@ use Rattle.ledger.specs.declared.Account.{Account}
 use Rattle.ledger.specs.Accounts.{accounts, lineCount}
 use Rattle.trace.specs.declared.State.{State}
 use Rattle.trace.specs.declared.State.the-variants.{Good, Bad, Refused}
+use Rattle.frame_lines.specs.declared.Show.{Show}
+use Rattle.frame_lines.specs.declared.Show.the-variants.{Nothing, Replay, Frames}
+use Rattle.words.specs.Words.{wordsOf}
 use Rattle.text.specs.Text.{Row, bytes, number, line, lines}
 
 -- the accounts' names
@@ -45,6 +48,18 @@ abbrev pub textOf : State → List ℕ → List ℕ
 textOf Good ns = lines rows ns
 textOf (Bad n) ns = line (bytes "bad record") (n ∷ [])
 textOf (Refused k n) ns = bytes "refused" ++ (number k ++ line (bytes " at record") (n ∷ []))
+
+-- WHAT STANDS AFTER THE LINES of the frames: that text; but a list of frames has none where the trace is good
+abbrev pub endText : Show → State → List ℕ → List ℕ
+endText Nothing s ns = textOf s ns
+endText Replay s ns = textOf s ns
+endText Frames Good ns = []
+endText Frames (Bad n) ns = textOf (Bad n) ns
+endText Frames (Refused k n) ns = textOf (Refused k n) ns
+
+-- OF AN OPENING THAT IS REFUSED: its number, and on the next line its words
+abbrev pub shutText : ℕ → List ℕ
+shutText k = line (bytes "refused") (k ∷ []) ++ wordsOf k
 
 -- enough for any report: a line has at most 64 bytes
 abbrev pub room : ℕ

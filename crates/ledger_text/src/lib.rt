@@ -9,7 +9,9 @@ ghost use Rattle.text.specs.Text.{line as Text·line, lines};
 ghost use Rattle.text.specs.Written.{answerOf, bufferOf};
 ghost use Rattle.ledger.specs.Accounts.{numberCount, lineCount};
 ghost use Rattle.trace.specs.declared.State.{State};
-ghost use Rattle.ledger_text.specs.Report.{room, rowAt, rows, textOf};
+ghost use Rattle.ledger_text.specs.Report.{room, rowAt, rows, textOf, endText, shutText};
+ghost use Rattle.ledger_text.specs.Inner.{isUnsaid};
+use frame_lines::Show;
 use ledger::Ledger;
 use trace::Printed;
 use trace::State;
@@ -108,4 +110,53 @@ pub fn write(buf: &mut [u8], printed: Printed) -> usize
     let l = printed.ledger;
     let numbers = l.numbers;
     report(buf, state, &numbers)
+}
+
+// A list of frames has nothing after its lines where the trace is good.
+fn is_unsaid(show: Show, state: State) -> bool
+    ensures { λ r. ⌜ r ≡ isUnsaid show state ⌝ }
+{
+    match show {
+        Show::Nothing => false,
+        Show::Replay => false,
+        Show::Frames => match state {
+            State::Good => true,
+            State::Bad(_) => false,
+            State::Refused(_, _) => false,
+        },
+    }
+}
+
+// What stands after the lines of the frames, as `write` writes it.
+pub fn end(buf: &mut [u8], show: Show, printed: Printed) -> usize
+    ensures { λ r. ⌜ r ≡ answerOf room (endText show (printed .state) (printed .ledger .numbers)) (now (buf .entry)) ⌝ }
+    ensures { λ _. ⌜ now (buf .exit) ≡ bufferOf room (endText show (printed .state) (printed .ledger .numbers)) (now (buf .entry)) ⌝ }
+    ensures { λ r. ⌜ Counts r (now (buf .exit)) ⌝ }
+{
+    let state = printed.state;
+    if is_unsaid(show, state) {
+        return 0;
+    }
+    write(buf, printed)
+}
+
+fn shut_text(buf: &mut [u8], number: u8) -> usize
+    requires { ⌜ room ≤ length (now buf) ⌝ }
+    ensures { λ r. ⌜ Put (now (buf .entry)) 0 (shutText number) r (now (buf .exit)) ⌝ }
+{
+    let one = [number as u64];
+    let at = text::line(buf, 0, b"refused", &one);
+    words::put(buf, at, number)
+}
+
+// An opening that is refused: its number and its words, as `write` writes.
+pub fn shut(buf: &mut [u8], number: u8) -> usize
+    ensures { λ r. ⌜ r ≡ answerOf room (shutText number) (now (buf .entry)) ⌝ }
+    ensures { λ _. ⌜ now (buf .exit) ≡ bufferOf room (shutText number) (now (buf .entry)) ⌝ }
+    ensures { λ r. ⌜ Counts r (now (buf .exit)) ⌝ }
+{
+    if buf.len() < ROOM {
+        return 0;
+    }
+    shut_text(buf, number)
 }

@@ -21,7 +21,7 @@ use Rattle.replay.specs.Inner.{Out, over, roomFor, readRoom, outOf, Ran,
 use Rattle.replay.proofs.Over.{folds, over-text}
 use Rattle.replay.proofs.Steps.{positive, put-nothing}
 
-none : (f : Form) (w : Show) (x : Out) → over f w x [] ≡ x
+pub none : (f : Form) (w : Show) (x : Out) → over f w x [] ≡ x
 none f w x = refl
 
 -- ---- from some place on
