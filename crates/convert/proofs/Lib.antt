@@ -5,3 +5,4 @@ pub mod Theorems
 pub mod Claims
 pub mod Stands
 pub mod Unique
+pub mod Samples

@@ -7,7 +7,7 @@ use Rattle.convert.proofs.one.Tie as tie
 returns : tie.Need-returns
 returns c =
     let s = c .before .before .before in
-    one-stopped _ _ _ _ (s .pre .0) (s .pre .1) (c .if1 .taken)
+    one-stopped (s .args .c) _ _ _ (s .pre .0) (s .pre .1) (c .if1 .taken)
 
 -- src/lib.rt:104:9
 stop-requires : tie.Need-stop-requires
@@ -22,7 +22,7 @@ returns-2 : tie.Need-returns-2
 returns-2 c =
     let s = c .before .before .before .before .before .before .before .before in
     let i = c .before .before .before .before .before in
-    one-after _ _ _ _ (s .pre .0) (s .pre .1) (i .if1 .left) _ _ _ (c .before .before .before .before .if2 .taken) (c .before .before .stop .ensures)
+    one-after (s .args .c) _ _ _ (s .pre .0) (s .pre .1) (i .if1 .left) _ _ _ (c .before .before .before .before .if2 .taken) (c .before .before .stop .ensures)
 
 -- src/lib.rt:106:8
 bad-requires : tie.Need-bad-requires
@@ -41,7 +41,7 @@ returns-3 : tie.Need-returns-3
 returns-3 c =
     let s = c .before .before .before .before .before .before .before .before .before .before in
     let i = c .before .before .before .before .before .before .before in
-    one-bad _ _ _ _ (s .pre .0) (s .pre .1) (i .if1 .left) _ _ _ _ (c .before .before .before .before .before .bad .ensures) (c .before .before .before .before .before .before .if2 .left) (c .before .before .before .before .if3 .taken) (c .before .before .stop2 .ensures)
+    one-bad (s .args .c) _ _ _ (s .pre .0) (s .pre .1) (i .if1 .left) _ _ _ _ (c .before .before .before .before .before .bad .ensures) (c .before .before .before .before .before .before .if2 .left) (c .before .before .before .before .if3 .taken) (c .before .before .stop2 .ensures)
 
 -- src/lib.rt:109:5
 on-requires : tie.Need-on-requires
@@ -58,7 +58,7 @@ returns-4 : tie.Need-returns-4
 returns-4 c =
     let s = c .before .before .before .before .before .before .before .before .before .before in
     let i = c .before .before .before .before .before .before .before in
-    one-good _ _ _ _ (s .pre .0) (s .pre .1) (i .if1 .left) _ _ _ _ (c .before .before .before .before .before .bad .ensures) (c .before .before .before .before .before .before .if2 .left) (c .before .before .before .before .if3 .left) (c .before .before .on .ensures)
+    one-good (s .args .c) _ _ _ (s .pre .0) (s .pre .1) (i .if1 .left) _ _ _ _ (c .before .before .before .before .before .bad .ensures) (c .before .before .before .before .before .before .if2 .left) (c .before .before .before .before .if3 .left) (c .before .before .on .ensures)
 
 pub one-spec : {M : Type 1} → statement M
 one-spec =
