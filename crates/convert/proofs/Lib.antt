@@ -4,5 +4,6 @@ pub mod Words
 pub mod Theorems
 pub mod Claims
 pub mod Stands
+pub mod Cases
 pub mod Unique
 pub mod Samples

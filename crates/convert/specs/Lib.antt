@@ -1,4 +1,5 @@
 pub mod Convert
 pub mod Inner
 pub mod Run
+pub mod Words
 pub mod Claim
