@@ -13,7 +13,7 @@ use Rattle.records.specs.declared.Form.the-variants.{Short}
 use Rattle.records.specs.Record.{kindAt, recordBad, recordsOf}
 use Rattle.trace.specs.Standing.{closedIn, badAfter}
 use Rattle.convert.specs.Convert.{longFor, convertFrom, converted, stopFrom, stoppedAt}
-use Rattle.convert.specs.Words.{AllFine, Whole, Cut, Converts}
+use Rattle.convert.specs.Words.{Converts}
 use Rattle.convert.proofs.Claims.{closed-more}
 
 heads : (x y : List ℕ) (xs ys : List (List ℕ)) → _≡_ {A = List (List ℕ)} (x ∷ xs) (y ∷ ys) → x ≡ y
@@ -120,3 +120,65 @@ converts l = told (cases false 1 [] (recordsOf Short l) refl refl)
       written = w .written;
       number = omega (arith, w .number);
     })
+
+-- ---- and these cases leave one answer
+record Skipped (c : Bool) (n : ℕ) (pre before rest : List (List ℕ)) : Type 0 where
+  pub written : convertFrom c (before ++ rest) ≡ texts longFor before ++ convertFrom (closedIn (pre ++ before)) rest
+  pub number : stopFrom c n (before ++ rest) ≡ stopFrom (closedIn (pre ++ before)) (length before + n) rest
+
+skip : (c : Bool) (n : ℕ) (pre before rest : List (List ℕ)) → closedIn pre ≡ c → FineFrom pre before → Skipped c n pre before rest
+skip c n pre [] rest e f =
+    let z : closedIn (pre ++ []) ≡ c = ap closedIn (append-nil pre) ∙ e in
+    record { written = ap (λ (b : Bool). convertFrom b rest) (sym z); number = ap (λ (b : Bool). stopFrom b n rest) (sym z) ∙ ap (λ (k : ℕ). stopFrom (closedIn (pre ++ [])) k rest) same }
+  where
+    same : n ≡ 0 + n
+    same = omega arith
+skip c n pre (r ∷ before) rest e f =
+    let g : (c || recordBad Short r) ≡ false = ap (_|| recordBad Short r) (sym e ∙ ap closedIn (sym (append-nil pre))) ∙ f [] r before refl in
+    let h : closedIn (pre ++ (r ∷ [])) ≡ eqb (kindAt r) 2 = closed-more pre r ∙ ap (_|| eqb (kindAt r) 2) (e ∙ or-first c (recordBad Short r) g) in
+    let w = skip (eqb (kindAt r) 2) (suc n) (pre ++ (r ∷ [])) before rest h later in
+    let a : (pre ++ (r ∷ [])) ++ before ≡ pre ++ (r ∷ before) = append-assoc pre (r ∷ []) before in
+    record {
+      written =
+          ap (λ (b : Bool). cond b (255 ∷ []) (longFor r ++ convertFrom (eqb (kindAt r) 2) (before ++ rest))) g
+          ∙ ap (longFor r ++_) (w .written ∙ ap (λ (l : List (List ℕ)). texts longFor before ++ convertFrom (closedIn l) rest) a)
+          ∙ sym (append-assoc (longFor r) (texts longFor before) (convertFrom (closedIn (pre ++ (r ∷ before))) rest));
+      number =
+          ap (λ (b : Bool). cond b n (stopFrom (eqb (kindAt r) 2) (suc n) (before ++ rest))) g
+          ∙ w .number
+          ∙ ap (λ (l : List (List ℕ)). stopFrom (closedIn l) (length before + suc n) rest) a
+          ∙ ap (λ (k : ℕ). stopFrom (closedIn (pre ++ (r ∷ before))) k rest) count;
+    }
+  where
+    later : FineFrom (pre ++ (r ∷ [])) before
+    later b x more h = ap (λ (l : List (List ℕ)). badAfter Short l x) (append-assoc pre (r ∷ []) b) ∙ f (r ∷ b) x more (ap (r ∷_) h)
+
+    count : length before + suc n ≡ suc (length before) + n
+    count = omega arith
+
+one-answer : (rs : List (List ℕ)) (out : List ℕ) (n : ℕ) → Converts rs out n → (out ≡ convertFrom false rs) × (n ≡ stopFrom false 1 rs)
+one-answer rs out n (inl w) =
+    let s = skip false 1 [] rs [] refl (w .fine) in (
+      w .written ∙ sym (ap (convertFrom false) (sym (append-nil rs)) ∙ s .written ∙ append-nil (texts longFor rs)),
+      w .none ∙ sym (ap (stopFrom false 1) (sym (append-nil rs)) ∙ s .number),
+    )
+one-answer rs out n (inr w) =
+    let s = skip false 1 [] (w .before) (w .this ∷ w .rest) refl (w .fine) in (
+      w .written
+          ∙ sym
+          (ap (convertFrom false) (w .cut) ∙ s .written
+          ∙ ap (λ (b : Bool). texts longFor (w .before) ++ cond b (255 ∷ []) (longFor (w .this) ++ convertFrom (eqb (kindAt (w .this)) 2) (w .rest))) (w .bad)),
+      w .number
+          ∙ sym
+          (ap (stopFrom false 1) (w .cut) ∙ s .number
+          ∙ ap (λ (b : Bool). cond b (length (w .before) + 1) (stopFrom (eqb (kindAt (w .this)) 2) (suc (length (w .before) + 1)) (w .rest))) (w .bad) ∙ one),
+    )
+  where
+    one : length (w .before) + 1 ≡ suc (length (w .before))
+    one = omega arith
+
+pub converts-unique : (rs : List (List ℕ)) (out₁ out₂ : List ℕ) (n₁ n₂ : ℕ) → Converts rs out₁ n₁ → Converts rs out₂ n₂ → (out₁ ≡ out₂) × (n₁ ≡ n₂)
+converts-unique rs out₁ out₂ n₁ n₂ u v =
+    let a = one-answer rs out₁ n₁ u in
+    let b = one-answer rs out₂ n₂ v in
+    (a .0 ∙ sym (b .0), a .1 ∙ sym (b .1))

@@ -5,8 +5,8 @@ use mathlib.Core.Bool.{Bool, true, false, cond, not, _||_, _&&_}
 use mathlib.Core.List.{List, [], _∷_, _++_, map}
 use mathlib.Core.Logic.{_⊎_, inl, inr}
 use native.Mathlib.Omega.{arith}
-use lib.ListN.{length, drop, length-append, length-drop}
-use lib.Seq.{take-at, drop-at, length-take-le}
+use lib.ListN.{length, drop, length-append}
+use lib.Seq.{take-at, drop-at}
 use lib.Dec.{ltb, eqb}
 use borrow.Author.Tests.{eqb-true, not-false}
 use Rattle.rules.proofs.Rows.{or-first, or-second}
@@ -29,12 +29,10 @@ use Rattle.trace.specs.Standing.{closedIn, countIn, badAfter, pastAfter, stateA
 use Rattle.trace.proofs.Exactly.{good-records}
 use Rattle.convert.specs.Convert.{longFor, convertFrom, converted}
 use Rattle.convert.specs.Claim.{given, made, SamePrint}
+use Rattle.convert.proofs.Steps.{data-length}
 
 -- ---- the long record for a good short one
 module _ (r : List ℕ) (g : recordBad Short r ≡ false) where
-  data-length : length (bytesAt Short r) ≡ lengthAt Short r
-  data-length = length-take-le (lengthAt Short r) (drop 2 r) (omega (arith, fine Short r g .size, fine Short r g .short, length-drop 2 r))
-
   -- a transfer, or no bytes
   empty : (kindAt r ≡ 0) ⊎ (bytesAt Short r ≡ [])
   unfolding recordBad
@@ -45,10 +43,10 @@ module _ (r : List ℕ) (g : recordBad Short r ≡ false) where
     where
       go : (x y : Bool) → eqb (kindAt r) 0 ≡ x → eqb (lengthAt Short r) 0 ≡ y → (not x && not y) ≡ false → (kindAt r ≡ 0) ⊎ (bytesAt Short r ≡ [])
       go true y e f h = inl (eqb-true (kindAt r) 0 e)
-      go false y e f h = inr (no-elements (bytesAt Short r) (data-length ∙ eqb-true (lengthAt Short r) 0 (f ∙ not-false y h)))
+      go false y e f h = inr (no-elements (bytesAt Short r) (data-length r g ∙ eqb-true (lengthAt Short r) 0 (f ∙ not-false y h)))
 
   long : GoodLong (kindAt r) (bytesAt Short r)
-  long = good-long (kindAt r) (bytesAt Short r) (fine Short r g .kind) (omega (arith, data-length, fine Short r g .short)) empty
+  long = good-long (kindAt r) (bytesAt Short r) (fine Short r g .kind) (omega (arith, data-length r g, fine Short r g .short)) empty
 
   long-call : recordCall Long (longFor r) ≡ recordCall Short r
   long-call = ap heardOf (go (kindAt r))
@@ -173,3 +171,8 @@ same-print o l =
           same-numbers o (made l) (given l) (stateOf Long (made l)) (stateOf Short (given l)) (goodRecords Long (made l)) (goodRecords Short (given l)) (w .state)
           (good-records Long (made l)) (good-records Short (given l)) (w .calls);
     }
+
+-- so whatever text is made of a trace's state and numbers is the same, as the ledger program's is (`textOf`, ledger_text)
+pub same-text : (text : State → List ℕ → List ℕ) (o : Opening) (l : List ℕ)
+    → text (stateOf Long (made l)) (printedBy Long o (stateOf Long (made l)) (made l)) ≡ text (stateOf Short (given l)) (printedBy Short o (stateOf Short (given l)) (given l))
+same-text text o l = let w = same-print o l in λ i. text (w .state i) (w .numbers i)

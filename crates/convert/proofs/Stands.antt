@@ -1,6 +1,6 @@
 -- The record at which it stops is the one that the ledger program names: `bad record N`.
 use Prim.Native.Nat.{ℕ, suc, _+_}
-use mathlib.Core.Path.{_≡_, refl, sym, ap, subst, _∙_}
+use mathlib.Core.Path.{_≡_, refl, ap, _∙_}
 use mathlib.Core.Bool.{Bool, true, false, cond, _||_}
 use mathlib.Core.List.{List, [], _∷_, _++_}
 use native.Mathlib.Omega.{arith}
@@ -9,8 +9,7 @@ use lib.Dec.{eqb}
 use Rattle.rules.proofs.Rows.{or-first}
 use Rattle.records.specs.declared.Form.the-variants.{Short}
 use Rattle.records.specs.Record.{kindAt, recordBad, recordsOf}
-use Rattle.trace.specs.declared.State.{State}
-use Rattle.trace.specs.declared.State.the-variants.{Good, Bad, Refused}
+use Rattle.trace.specs.declared.State.the-variants.{Bad, Refused}
 use Rattle.trace.specs.Standing.{closedIn, pastAfter, stateAfter, stateOf}
 use Rattle.convert.specs.Convert.{stopFrom, stoppedAt}
 use Rattle.convert.specs.Claim.{StopsFor}

@@ -41,7 +41,7 @@ module _ (r : List ℕ) (g : recordBad Short r ≡ false) where
     pub long-put : (old new : List ℕ) (at m : ℕ) → Put old at (longOf (kindAt r) (take (2 + n - 2) (drop 2 r))) m new → Put old at (longFor r) m new
     long-put old new at m p = subst (λ (k : ℕ). Put old at (longOf (kindAt r) (take k (drop 2 r))) m new) same p
 
-  data-length : length (bytesAt Short r) ≡ lengthAt Short r
+  pub data-length : length (bytesAt Short r) ≡ lengthAt Short r
   data-length = length-take-le (lengthAt Short r) (drop 2 r) (omega (arith, fine Short r g .size, fine Short r g .short, length-drop 2 r))
 
   pub long-length : length (longFor r) ≡ longSize

@@ -1,5 +1,5 @@
 -- WHAT THE CONVERTER WRITES, however its input is cut into reads: what the input's bytes alone say; and it stops at the record that they say.
-use Prim.Native.Nat.{ℕ, _+_, _-_, _*_, _≤_, _<_}
+use Prim.Native.Nat.{ℕ, _+_, _-_, _*_, _<_}
 use mathlib.Core.Path.{_≡_, refl, sym, ap, subst, _∙_}
 use mathlib.Core.Bool.{true}
 use mathlib.Core.List.{List, [], _∷_, _++_, append-nil, append-assoc}
@@ -14,7 +14,7 @@ use Rattle.cuts.proofs.Goes.{after-none, at-end}
 use Rattle.convert.specs.declared.Converter.{Converter}
 use Rattle.convert.specs.declared.Reader.{Reader}
 use Rattle.convert.specs.Convert.{converted, stoppedAt}
-use Rattle.convert.specs.Inner.{newConverter, newReader, allOf, textsOf, So, over, soFar, partOf, leftOf, Gone, Fed, Ended}
+use Rattle.convert.specs.Inner.{newConverter, newReader, allOf, textsOf, So, over, soFar, partOf, leftOf, Gone}
 use Rattle.convert.specs.Run.{bytesIn, Step, Steps, Run, StoppedAt}
 use Rattle.convert.proofs.Feeds.{so, folds, over-none, fed-fresh}
 use Rattle.convert.proofs.Words.{stays, stays-silent, all-written, all-stopped}

@@ -1,14 +1,13 @@
 -- Each promise leaves one answer: the reader, the count, the lent bytes, and of the piece the bytes that wait.
-use Prim.Native.Nat.{ℕ, _+_, _*_, _<_}
+use Prim.Native.Nat.{ℕ, _*_}
 use mathlib.Core.Path.{_≡_, sym, ap, _∙_}
-use mathlib.Core.List.{List, _++_}
+use mathlib.Core.List.{List}
 use native.Mathlib.Omega.{arith}
 use lib.ListN.{length, take, drop, length-append}
 use lib.Seq.{take-at, drop-at}
 use Rattle.text.specs.Put.{Put}
 use Rattle.text.proofs.Puts.{put-unique}
 use Rattle.cuts.specs.Cuts.{cutOf, After}
-use Rattle.convert.specs.declared.Converter.{Converter}
 use Rattle.convert.specs.declared.Reader.{Reader}
 use Rattle.convert.specs.Inner.{newReader, So, over, Fed, Ended}
 

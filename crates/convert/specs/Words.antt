@@ -2,13 +2,13 @@
 -- Where that is all of them nothing more is written; else, for the first bad one, record N, one byte FF after the N - 1 before it.
 use Prim.Native.Nat.{ℕ, suc}
 use mathlib.Core.Path.{_≡_}
-use mathlib.Core.Bool.{true, false, _||_}
+use mathlib.Core.Bool.{true, false}
 use mathlib.Core.List.{List, [], _∷_, _++_}
 use mathlib.Core.Logic.{_⊎_}
 use lib.ListN.{length}
 use Rattle.text.specs.Text.{texts}
 use Rattle.records.specs.declared.Form.the-variants.{Short}
-use Rattle.trace.specs.Standing.{closedIn, badAfter}
+use Rattle.trace.specs.Standing.{badAfter}
 use Rattle.convert.specs.Convert.{longFor}
 
 -- each of these is good, after those before it

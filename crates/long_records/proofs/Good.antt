@@ -1,8 +1,8 @@
 -- A LONG RECORD THAT IS WRITTEN IS GOOD, and says what was written.
-use Prim.Native.Nat.{ℕ, zero, suc, _+_, _-_, _*_, _/_, _%_, _≤_}
+use Prim.Native.Nat.{ℕ, zero, suc, _+_, _-_, _≤_}
 use mathlib.Core.Path.{_≡_, refl, sym, ap, _∙_}
 use mathlib.Core.Bool.{Bool, true, false, not, _&&_}
-use mathlib.Core.List.{List, [], _∷_, _++_}
+use mathlib.Core.List.{List, []}
 use mathlib.Core.Logic.{_⊎_, inl, inr}
 use native.Mathlib.Omega.{arith}
 use native.Mathlib.Nat.{div-add-mod'}
@@ -12,7 +12,7 @@ use lib.Dec.{eqb}
 use borrow.Author.Tests.{eq-eqb, le-ltb}
 use Rattle.fill.specs.Fill.{anySet}
 use Rattle.records.specs.declared.Form.the-variants.{Long}
-use Rattle.records.specs.Record.{kindAt, lengthAt, bytesAt, recordBad}
+use Rattle.records.specs.Record.{lengthAt, bytesAt, recordBad}
 use Rattle.long_records.specs.Long.{longOf, dataMost, longSize}
 use Rattle.long_records.specs.Good.{GoodLong}
 
