@@ -28,6 +28,12 @@ use Rattle.trace.specs.Record.{askBy, recordCall}
 use Rattle.trace.specs.Standing.{closedIn, countIn, badAfter, pastAfter, stateAfter, stateOf, goodAfter, goodRecords, printedBy, GoodOnes}
 use Rattle.trace.proofs.Exactly.{good-records}
 use Rattle.convert.specs.Convert.{longFor, convertFrom, converted}
+use Rattle.trace.specs.Trace.{ledgerSizes}
+use Rattle.frame_lines.specs.declared.Show.{Show}
+use Rattle.frame_lines.specs.declared.Show.the-variants.{Nothing}
+use Rattle.replay.specs.Lines.{linesOf}
+use Rattle.ledger_text.specs.Report.{endText}
+use Rattle.ledger_text.specs.Print.{printOf, ledgerOf}
 use Rattle.convert.specs.Claim.{given, made, SamePrint}
 use Rattle.convert.proofs.Steps.{data-length}
 
@@ -172,7 +178,10 @@ same-print o l =
           (good-records Long (made l)) (good-records Short (given l)) (w .calls);
     }
 
--- so whatever text is made of a trace's state and numbers is the same, as the ledger program's is (`textOf`, ledger_text)
-pub same-text : (text : State → List ℕ → List ℕ) (o : Opening) (l : List ℕ)
-    → text (stateOf Long (made l)) (printedBy Long o (stateOf Long (made l)) (made l)) ≡ text (stateOf Short (given l)) (printedBy Short o (stateOf Short (given l)) (given l))
-same-text text o l = let w = same-print o l in λ i. text (w .state i) (w .numbers i)
+-- THE CLAIM: whatever program shows it, and at whatever opening, the long reading prints of what the converter wrote what the short reading prints of the input
+pub prints-the-same : (w : Show) (o : Opening) (l : List ℕ) → printOf w Long o (converted l) ≡ printOf w Short o l
+prints-the-same w o l = let s = same-print o l in λ i. linesOf w o (s .calls i) ++ endText w (s .state i) (s .numbers i)
+
+-- with the short program's sizes: `replay --sizes 256 62` without its lines, and the ledger program
+pub same-ledger : (l : List ℕ) → printOf Nothing Long ledgerSizes (converted l) ≡ ledgerOf l
+same-ledger l = prints-the-same Nothing ledgerSizes l
