@@ -18,6 +18,11 @@
 //!   F forged     session record, part buffer, part transfer
 //!   G from       session record, part buffer, four bytes number of calls, and the calls as in T; told as in E
 //!   R record     part ledger's record, session record without its numbers, part buffer, and a call as in T
+//!   Y sender     four bytes frame size, four bytes payload size, byte framing, byte header kind and four bytes length of a room of zeros, all of the
+//!                receiver; four bytes payload size of the sender, four bytes length of a room of zeros that is lent to each `send`, four bytes number of
+//!                frames, and each frame: byte next (0 not, any other: `next` before it), a stamp, part bytes
+//!   L trace      byte form (0 short, any other long), byte show (0 ledger, 1 replay, 2 frames, 3 convert), four bytes frame size, four bytes payload
+//!                size, four bytes size of each read, part trace; of `convert` the trace alone is looked at
 //!   U settings   byte 0 build: part control block, bytes interface, unit, setting and request (places of their names), part room
 //!                byte 1 read: part control block, byte interface, part bytes
 //!                byte 2 nearest: byte setting, two bytes each minimum, maximum, step and wanted
@@ -31,9 +36,11 @@ use crate::configuration;
 use crate::control::{self, Revision};
 use crate::frames::{Call, Opening};
 use crate::records::{self, Phase, Record};
+use crate::sender::Pair;
 use crate::session::{self, Told};
 use crate::setup::{self, REQUESTS, SETTINGS};
-use crate::streaming::{self, Place, Table};
+use crate::streaming::{self, sizes, Place, Table};
+use crate::traces::{self, Show, LONG, REPLAY, SHORT};
 use crate::Refusal;
 use std::fmt::Write;
 
@@ -48,16 +55,48 @@ pub enum Case {
     Write(Revision, Vec<u8>, Vec<u8>),
     Configuration(Vec<u8>),
     Pick(Vec<u8>, u8, u32),
-    Calls { opening: Opening, buffer: Vec<u8>, calls: Vec<Call> },
-    Whole { opening: Opening, buffer: Vec<u8>, calls: Vec<Call> },
-    Room { opening: Opening, room: usize, calls: Vec<Call> },
+    Calls {
+        opening: Opening,
+        buffer: Vec<u8>,
+        calls: Vec<Call>,
+    },
+    Whole {
+        opening: Opening,
+        buffer: Vec<u8>,
+        calls: Vec<Call>,
+    },
+    Room {
+        opening: Opening,
+        room: usize,
+        calls: Vec<Call>,
+    },
     Forged(Record, Vec<u8>, Vec<u8>),
     From(Record, Vec<u8>, Vec<Call>),
     /// A ledger's record, the rest of a session (its numbers are not looked at), a buffer and a call.
     Lent(Vec<u8>, Record, Vec<u8>, Call),
-    Build { control: Vec<u8>, interface: u8, unit: u8, setting: usize, request: usize, room: Vec<u8> },
+    Sent(Pair),
+    Trace(Traced),
+    Build {
+        control: Vec<u8>,
+        interface: u8,
+        unit: u8,
+        setting: usize,
+        request: usize,
+        room: Vec<u8>,
+    },
     ReadBack(Vec<u8>, u8, Vec<u8>),
     Nearest(usize, [u16; 4]),
+}
+
+/// A trace, how it is read and what is shown of it: `None` where it is converted.
+#[derive(Clone, Debug)]
+pub struct Traced {
+    pub long: bool,
+    pub show: Option<Show>,
+    pub frame: u32,
+    pub payload: u32,
+    pub read: u32,
+    pub trace: Vec<u8>,
 }
 
 fn part(out: &mut Vec<u8>, bytes: &[u8]) {
@@ -141,6 +180,8 @@ impl Case {
             Case::Forged(..) => 'F',
             Case::From(..) => 'G',
             Case::Lent(..) => 'R',
+            Case::Sent(_) => 'Y',
+            Case::Trace(_) => 'L',
             Case::Build { .. } | Case::ReadBack(..) | Case::Nearest(..) => 'U',
         }
     }
@@ -151,6 +192,7 @@ impl Case {
             Case::Calls { calls, .. } | Case::Whole { calls, .. } | Case::Room { calls, .. } | Case::From(_, _, calls) => calls.len(),
             Case::Forged(..) => 3,
             Case::Lent(..) => 1,
+            Case::Sent(pair) => pair.calls(),
             _ => 0,
         }
     }
@@ -214,6 +256,25 @@ impl Case {
                 part(&mut out, buffer);
                 one(&mut out, call);
             }
+            Case::Sent(p) => {
+                self::opening(&mut out, &p.opening);
+                for n in [p.buffer as u32, p.payload, p.room as u32, p.frames.len() as u32] {
+                    out.extend(n.to_le_bytes());
+                }
+                for (next, f) in &p.frames {
+                    out.push(u8::from(*next));
+                    stamp(&mut out, f.stamp);
+                    part(&mut out, &f.bytes);
+                }
+            }
+            Case::Trace(t) => {
+                let show = SHOWS.iter().position(|s| *s == t.show).unwrap();
+                out.extend([u8::from(t.long), show as u8]);
+                for n in [t.frame, t.payload, t.read] {
+                    out.extend(n.to_le_bytes());
+                }
+                part(&mut out, &t.trace);
+            }
             Case::Forged(r, buffer, transfer) => {
                 record(&mut out, r);
                 part(&mut out, buffer);
@@ -266,6 +327,8 @@ impl Case {
             Case::Forged(r, buffer, transfer) => records::forged(r, buffer, transfer),
             Case::From(r, buffer, calls) => records::follow(r, buffer, calls, Told::Whole),
             Case::Lent(bytes, r, buffer, call) => records::lent(bytes, r, buffer, call),
+            Case::Sent(pair) => pair.answer(),
+            Case::Trace(t) => trace_answer(t),
             Case::Build { control, interface, unit, setting, request, room } => {
                 let mut room = room.clone();
                 let built = setup::build(control, *interface, *unit, SETTINGS[*setting], REQUESTS[*request], &mut room);
@@ -278,6 +341,22 @@ impl Case {
             Case::Nearest(setting, words) => nearest_answer(SETTINGS[*setting], words),
         }
     }
+}
+
+/// What is shown of a trace, in the order of their bytes.
+pub const SHOWS: [Option<Show>; 4] = [Some(Show::Ledger), Some(Show::Replay), Some(Show::Frames), None];
+
+fn trace_answer(t: &Traced) -> String {
+    let Some(show) = t.show else {
+        let (bytes, bad) = traces::converted(&t.trace);
+        let stop = bad.map_or(String::new(), |n| format!("bad record {n}\n"));
+        return format!("converted {} hash {}\n{stop}", bytes.len(), session::hash(&bytes));
+    };
+    if let Err(r) = sizes(u64::from(t.frame), u64::from(t.payload)) {
+        return format!("open refused {}\n", r.number);
+    }
+    let opening = Opening { frame: t.frame as usize, payload: t.payload as usize, ..REPLAY };
+    traces::text(if t.long { &LONG } else { &SHORT }, show, &opening, &t.trace).0
 }
 
 fn map_answer(block: &[u8], id: u8) -> String {

@@ -16,10 +16,13 @@ mod frames;
 mod printed;
 mod programs;
 mod random;
+mod random_traces;
 mod records;
+mod sender;
 mod session;
 mod setup;
 mod streaming;
+mod traces;
 
 /// Why a reader refuses, and where.
 #[derive(Clone, Debug, PartialEq)]

@@ -1,31 +1,56 @@
-//! What the ledger program, `describe` and `setup` print, and their status: from document 01, and the words from docs/NUMBERS.md.
+//! What the programs print, and their status: from documents 01 and 02, and the words from docs/NUMBERS.md.
 
 use crate::cases::{asked, controls, table};
 use crate::configuration;
 use crate::control;
-use crate::frames::{judge, ledger, Call, HeaderKind, Opening};
+use crate::frames::Opening;
+use crate::sender::{self, Frame};
 use crate::setup::{self, REQUESTS, SETTINGS};
-use crate::streaming;
+use crate::streaming::{self, sizes};
+use crate::traces::{self, Form, Show, LEDGER, LONG, REPLAY, SHORT, STOP};
 use crate::Refusal;
-use std::fmt::Write;
+use std::fmt::{self, Debug, Formatter, Write};
 
-/// What is written to standard output, and the status: 0 answered, 1 refused or a bad record, 2 a wrong call.
-#[derive(Debug, PartialEq)]
+/// What is written to standard output and to standard error, and the status: 0 answered, 1 refused or a bad record, 2 a wrong call. What a wrong call
+/// writes to standard error is not looked at.
+#[derive(PartialEq)]
 pub struct Printed {
-    pub text: String,
+    pub text: Vec<u8>,
+    pub aside: String,
     pub status: i32,
 }
 
+impl Debug for Printed {
+    fn fmt(&self, f: &mut Formatter) -> fmt::Result {
+        write!(f, "status {}, {:?}, aside {:?}", self.status, String::from_utf8_lossy(&self.text), self.aside)
+    }
+}
+
 fn answered(text: String) -> Printed {
-    Printed { text, status: 0 }
+    Printed { text: text.into_bytes(), aside: String::new(), status: 0 }
+}
+
+/// Bytes, and what is said aside where they stop short.
+fn stopped(text: Vec<u8>, aside: Option<String>) -> Printed {
+    let status = i32::from(aside.is_some());
+    Printed { text, aside: aside.unwrap_or_default(), status }
+}
+
+fn refused(text: String) -> Printed {
+    Printed { status: 1, ..answered(text) }
 }
 
 fn wrong() -> Printed {
-    Printed { text: String::new(), status: 2 }
+    Printed { status: 2, ..answered(String::new()) }
 }
 
 /// A decimal number from 0 to 255.
 fn small(word: &str) -> Option<u8> {
+    word.parse().ok().filter(|_| word.bytes().all(|b| b.is_ascii_digit()))
+}
+
+/// A decimal number of 32 bits, zeros in front allowed.
+fn number(word: &str) -> Option<u32> {
     word.parse().ok().filter(|_| word.bytes().all(|b| b.is_ascii_digit()))
 }
 
@@ -42,10 +67,48 @@ impl Words {
         Ok(Words(text.lines().filter_map(row).collect()))
     }
 
+    fn of(&self, number: u8) -> &str {
+        self.0.iter().find(|(n, _)| *n == number).map_or("no words on the page", |(_, words)| words)
+    }
+
     /// A refusal: its line, and its words below.
     fn refused(&self, r: &Refusal) -> Printed {
-        let words = self.0.iter().find(|(number, _)| *number == r.number).map_or("no words on the page", |(_, words)| words);
-        Printed { text: format!("refused {} at {}\n{words}\n", r.number, r.offset), status: 1 }
+        refused(format!("refused {} at {}\n{}\n", r.number, r.offset, self.of(r.number)))
+    }
+
+    /// A refusal that is not of a place in a block.
+    fn without_place(&self, number: u8) -> String {
+        format!("refused {number}\n{}\n", self.of(number))
+    }
+
+    /// `replay` and `frames`, with the sizes that are given, if they are.
+    pub fn replay(&self, show: Show, form: &Form, given: Option<[&str; 2]>, trace: &[u8]) -> Printed {
+        let opening = match given.map(|words| words.map(number)) {
+            None => REPLAY,
+            Some([Some(frame), Some(payload)]) => Opening { frame: frame as usize, payload: payload as usize, ..REPLAY },
+            Some(_) => return wrong(),
+        };
+        match sizes(opening.frame as u64, opening.payload as u64) {
+            Ok(()) => read(form, show, &opening, trace),
+            Err(r) => refused(self.without_place(r.number)),
+        }
+    }
+
+    /// `send`: the frames are the files, and the stamps, if there are any, so many ticks apart. What stops short ends with a byte that begins no record.
+    pub fn send(&self, payload: &str, ticks: Option<&str>, files: &[Vec<u8>]) -> Printed {
+        let (Some(payload), Some(ticks)) = (number(payload), ticks.map_or(Some(None), |word| number(word).map(Some))) else {
+            return wrong();
+        };
+        if payload as usize > LONG.most() || files.is_empty() {
+            return wrong();
+        }
+        let stamp = |i: usize| ticks.map(|t| t.wrapping_mul(i as u32));
+        let frames: Vec<Frame> = files.iter().enumerate().map(|(i, bytes)| Frame { stamp: stamp(i), bytes: bytes.clone() }).collect();
+        let (mut text, refusal) = sender::trace(&frames, payload as usize);
+        if refusal.is_some() {
+            text.push(STOP);
+        }
+        stopped(text, refusal.map(|k| self.without_place(k)))
     }
 
     fn told(&self, read: Result<String, Refusal>) -> Printed {
@@ -70,7 +133,7 @@ impl Words {
         let digits = !id.is_empty() && id.bytes().all(|b| b.is_ascii_digit());
         match id.parse::<u8>() {
             Ok(id) if digits => self.told(control::map(block, id).map(|bytes| controls(&bytes))),
-            _ => Printed { text: String::new(), status: 2 },
+            _ => wrong(),
         }
     }
 
@@ -147,7 +210,7 @@ impl Words {
             (Ok(i), Ok(p)) if digits(interface) && digits(payload) => {
                 self.told(configuration::pick(s, i, p).map(|x| format!("setting {} {}\n", x.number, x.bytes)))
             }
-            _ => Printed { text: String::new(), status: 2 },
+            _ => wrong(),
         }
     }
 
@@ -193,53 +256,21 @@ const FIELDS: [&str; 21] = [
     "rate modes",
 ];
 
-/// The accounts, each with two numbers, then the other counts.
-const ACCOUNTS: [&str; 13] =
-    ["delivered", "gap", "error", "clock", "long", "cut", "empty", "still", "mixed", "under way", "stray", "unreadable", "headers"];
-const COUNTS: [&str; 5] = ["lost", "idle", "ticks", "backward", "untimed"];
-
-pub const RECORD: usize = 64;
-pub const PAYLOAD: usize = 62;
-pub const OPENING: Opening = Opening { frame: 256, payload: PAYLOAD, framing: 3, kind: HeaderKind::Old };
-
-/// The calls of a trace, or the number of its first bad record.
-fn calls(trace: &[u8]) -> Result<Vec<Call>, usize> {
-    let mut all = Vec::new();
-    for (i, record) in trace.chunks(RECORD).enumerate() {
-        let closed = all.last() == Some(&Call::Close);
-        let whole = record.len() == RECORD;
-        if closed || !whole {
-            return Err(i + 1);
-        }
-        let (kind, length) = (record[0], record[1] as usize);
-        let length_fits = length <= PAYLOAD && (kind == 0 || length == 0);
-        if kind > 2 || !length_fits || record[2 + length..].iter().any(|&b| b != 0) {
-            return Err(i + 1);
-        }
-        all.push(match kind {
-            0 => Call::Transfer(record[2..2 + length].to_vec()),
-            1 => Call::Lost,
-            _ => Call::Close,
-        });
+/// What a program prints of a trace that is read with an opening that is not refused.
+fn read(form: &Form, show: Show, opening: &Opening, trace: &[u8]) -> Printed {
+    match traces::text(form, show, opening, trace) {
+        (text, true) => refused(text),
+        (text, false) => answered(text),
     }
-    Ok(all)
 }
 
 /// What the ledger program prints of a trace.
 pub fn trace(bytes: &[u8]) -> Printed {
-    match calls(bytes) {
-        Err(n) => Printed { text: format!("bad record {n}\n"), status: 1 },
-        Ok(calls) => {
-            let numbers = ledger(&judge(&calls, &OPENING));
-            let (pairs, counts) = numbers.split_at(2 * ACCOUNTS.len());
-            let mut out = String::new();
-            for (name, pair) in ACCOUNTS.iter().zip(pairs.chunks(2)) {
-                writeln!(out, "{name} {} {}", pair[0], pair[1]).unwrap();
-            }
-            for (name, n) in COUNTS.iter().zip(counts) {
-                writeln!(out, "{name} {n}").unwrap();
-            }
-            answered(out)
-        }
-    }
+    read(&SHORT, Show::Ledger, &LEDGER, bytes)
+}
+
+/// What `convert` writes of a trace.
+pub fn converted(bytes: &[u8]) -> Printed {
+    let (text, bad) = traces::converted(bytes);
+    stopped(text, bad.map(|n| format!("bad record {n}\n")))
 }

@@ -4,10 +4,12 @@ use crate::blocks::{CONTROL_TOTAL, STREAMING_TOTAL};
 use crate::cases::table;
 use crate::configurations;
 use crate::corpus::filler;
-use crate::frames::Call;
-use crate::printed::{self, Printed, Words, RECORD};
+use crate::frames::Opening;
+use crate::printed::{self, Printed, Words};
 use crate::random::{self, Random};
+use crate::random_traces;
 use crate::setup::{self, REQUESTS, SETTINGS};
+use crate::traces::{Form, Show, LEDGER, LONG, REPLAY, SHORT};
 use std::collections::BTreeMap;
 use std::io::Write;
 use std::path::Path;
@@ -27,54 +29,17 @@ struct Run {
     wanted: Printed,
 }
 
-fn record(call: &Call) -> Vec<u8> {
-    let mut r = match call {
-        Call::Transfer(t) => [&[0, t.len() as u8], &t[..]].concat(),
-        Call::Lost => vec![1],
-        Call::Close => vec![2],
-        Call::Mark => unreachable!("no caller asks for a mark"),
-    };
-    r.resize(RECORD, 0);
-    r
-}
+/// Whether the launcher has `replay`, `frames`, `convert` and `send`.
+const TRACES: bool = false;
 
-/// Makes one record bad, in one of the ways that the document names; or sets one behind close, or cuts the trace short.
-fn spoil(r: &mut Random, trace: &mut Vec<u8>) {
-    let at = r.below(trace.len() / RECORD + 1) * RECORD;
-    if at == trace.len() {
-        trace.extend(record(&Call::Lost));
-    }
-    let one = &mut trace[at..at + RECORD];
-    match r.below(9) {
-        0 => one[0] = 3 + r.below(253) as u8,
-        1 => one[1] = 63 + r.below(193) as u8,
-        2 => one[..2].copy_from_slice(&[1, 1 + r.below(62) as u8]),
-        3 => one[..2].copy_from_slice(&[2, 1 + r.below(62) as u8]),
-        4 if one[1] < 62 => one[RECORD - 1 - r.below(62 - one[1] as usize)] = 1 + r.below(255) as u8,
-        5 => one[..].copy_from_slice(&record(&Call::Close)),
-        6 => {
-            let n = 1 + r.below(RECORD - 1);
-            let more = vec![r.pick(&[0, 1, 0xFF]); n];
-            trace.extend(more);
-        }
-        7 => trace.truncate(at + r.below(RECORD)),
-        _ => trace.extend([record(&Call::Close), vec![0; 1 + r.below(RECORD)]].concat()),
-    }
-}
-
-fn trace(r: &mut Random) -> Vec<u8> {
+/// A short trace, mostly of some records.
+fn trace(r: &mut Random, form: &Form, opening: &Opening) -> Vec<u8> {
     let most = match r.below(20) {
         0 => 0,
         1 => 3000,
         _ => 60,
     };
-    let calls = random::list(r, &printed::OPENING, most);
-    let fits = |c: &&Call| !matches!(c, Call::Transfer(t) if t.len() > printed::PAYLOAD);
-    let mut bytes: Vec<u8> = calls.iter().filter(fits).flat_map(record).collect();
-    if r.once_in(2) {
-        spoil(r, &mut bytes);
-    }
-    bytes
+    random_traces::trace(r, form, opening, most)
 }
 
 /// Now and then a block as long as it may be, by descriptors that are stepped over, and mostly a byte longer.
@@ -152,9 +117,109 @@ fn named(words: &[&str]) -> Vec<String> {
     words.iter().map(|w| w.to_string()).collect()
 }
 
+/// A program that reads a trace, from a file or from standard input in pieces.
+fn given(r: &mut Random, mut words: Vec<String>, form: &Form, bytes: Vec<u8>, wanted: Printed) -> Run {
+    if r.once_in(2) {
+        words.push("trace".to_string());
+        return Run { words, files: vec![("trace", bytes)], pieces: vec![], wanted };
+    }
+    let size = 1 + r.below(3 * form.size);
+    Run { words, files: vec![], pieces: bytes.chunks(size).map(<[u8]>::to_vec).collect(), wanted }
+}
+
+/// A size as a word, now and then none, or a size that opening refuses.
+fn size(r: &mut Random, good: usize, broken: &[&str]) -> String {
+    let word = good.to_string();
+    let word = or(r, word, broken);
+    or(r, word, &["", "4294967296", "-1", "1e3", "0x10", "99999999999", "12a", "+9"])
+}
+
+/// `replay`, `frames` or `convert`.
+fn traced(r: &mut Random, said: &Words) -> Run {
+    if r.once_in(4) {
+        let bytes = trace(r, &SHORT, &LEDGER);
+        let wanted = printed::converted(&bytes);
+        return given(r, named(&["convert"]), &SHORT, bytes, wanted);
+    }
+    let show = r.pick(&[Show::Replay, Show::Frames]);
+    let mut words = named(&[if show == Show::Replay { "replay" } else { "frames" }]);
+    let mut opening = REPLAY;
+    let mut sizes = None;
+    if r.once_in(2) {
+        let small = 1 + r.below(100);
+        let frame = r.pick(&[256, small, 5_000, 16_777_216]);
+        opening = Opening { frame, payload: r.pick(&[62, 100, 3_072, 65_536]), ..REPLAY };
+        let frame = size(r, opening.frame, &["0", "16777217", "4294967295", "000"]);
+        let payload = size(r, opening.payload, &["0", "1", "65537", "4294967295"]);
+        words.extend(["--sizes".to_string(), frame.clone(), payload.clone()]);
+        sizes = Some([frame, payload]);
+    }
+    let short = r.once_in(3);
+    let form = if short { &SHORT } else { &LONG };
+    if short {
+        words.push("--short".to_string());
+    }
+    let bytes = trace(r, form, &opening);
+    let wanted = said.replay(show, form, sizes.as_ref().map(|s| [&s[0][..], &s[1]]), &bytes);
+    given(r, words, form, bytes, wanted)
+}
+
+/// `send` of some files.
+fn sent(r: &mut Random, said: &Words) -> Run {
+    let small = 3 + r.below(60);
+    let payload = r.pick(&[3, 7, 8, 62, 1_000, 3_072, small]);
+    let payload = or(r, payload.to_string(), &["0", "1", "2", "6", "3073", "65537", "", "-3", "x"]);
+    let ticks = if r.once_in(2) { Some(r.pick(&["0", "1", "3000", "2147483648", "4294967295", "007"]).to_string()) } else { None };
+    let ticks = ticks.map(|t| or(r, t, &["", "4294967296", "-1", "1.5"]));
+    let full = payload.parse().unwrap_or(0usize).saturating_sub(if ticks.is_some() { 6 } else { 2 }).clamp(1, 3_070);
+    let files: Vec<Vec<u8>> = (0..1 + r.below(4))
+        .map(|_| match r.below(20) {
+            0 => vec![],
+            1 if r.once_in(5) => vec![5; 16_777_217],
+            _ => {
+                let n = full * r.below(5) + r.below(3);
+                r.bytes(n.max(1))
+            }
+        })
+        .collect();
+    let names = &["one", "two", "three", "four"][..files.len()];
+    let mut words = named(&["send", &payload]);
+    if let Some(t) = &ticks {
+        words.extend(["--stamp".to_string(), t.clone()]);
+    }
+    words.extend(named(names));
+    let wanted = said.send(&payload, ticks.as_deref(), &files);
+    Run { words, files: names.iter().copied().zip(files).collect(), pieces: vec![], wanted }
+}
+
+/// What may be run of what a run wrote: a replay of a trace that was sent, and one at the ledger program's sizes of a trace that was converted, which ends
+/// with what the ledger program prints of the short one.
+fn after(it: &Run, said: &Words) -> Option<Run> {
+    let trace = it.wanted.text.clone();
+    let sizes = match it.words[0].as_str() {
+        "send" => None,
+        "convert" => Some(["256", "62"]),
+        _ => return None,
+    };
+    if it.wanted.status == 2 {
+        return None;
+    }
+    let mut words = named(&["replay"]);
+    if let Some([frame, payload]) = sizes {
+        words.extend(named(&["--sizes", frame, payload]));
+    }
+    words.push("written".to_string());
+    let wanted = said.replay(Show::Replay, &LONG, sizes, &trace);
+    if it.words[0] == "convert" {
+        let short = it.files.first().map_or_else(|| it.pieces.concat(), |(_, bytes)| bytes.clone());
+        assert!(wanted.text.ends_with(&printed::trace(&short).text), "a converted trace has another ledger: {wanted:?}");
+    }
+    Some(Run { words, files: vec![("written", trace)], pieces: vec![], wanted })
+}
+
 fn run(r: &mut Random, said: &Words) -> Run {
     let describe = |words: &[&str], files, wanted| Run { words: named(&[&["describe"], words].concat()), files, pieces: vec![], wanted };
-    match r.below(17) {
+    match r.below(if TRACES { 26 } else { 17 }) {
         10 | 11 => {
             let s = configurations::maybe_damaged(r);
             let s = long(r, s, CONFIGURATION_MOST, CONFIGURATION_TOTAL);
@@ -171,14 +236,12 @@ fn run(r: &mut Random, said: &Words) -> Run {
         }
         13..=16 => setting(r, said),
         0..=3 => {
-            let bytes = trace(r);
+            let bytes = trace(r, &SHORT, &LEDGER);
             let wanted = printed::trace(&bytes);
-            if r.once_in(2) {
-                return Run { words: named(&["ledger", "trace"]), files: vec![("trace", bytes)], pieces: vec![], wanted };
-            }
-            let size = 1 + r.below(200);
-            Run { words: named(&["ledger"]), files: vec![], pieces: bytes.chunks(size).map(<[u8]>::to_vec).collect(), wanted }
+            given(r, named(&["ledger"]), &SHORT, bytes, wanted)
         }
+        17..=23 => traced(r, said),
+        24 | 25 => sent(r, said),
         4 | 5 => {
             let block = random::maybe_damaged_control(r);
             let block = long(r, block, CONTROL_MOST, CONTROL_TOTAL);
@@ -240,15 +303,21 @@ fn launch(launcher: &str, folder: &Path, it: &Run) -> Result<Printed, String> {
     let out = child.wait_with_output().map_err(problem)?;
     feeder.join().unwrap();
     let status = out.status.code().unwrap_or(-1);
-    if out.stderr.is_empty() == (status == 2) {
-        return Err(format!("status {status}, and on standard error: {}", String::from_utf8_lossy(&out.stderr)));
+    let aside = String::from_utf8_lossy(&out.stderr).into_owned();
+    match status {
+        2 if aside.is_empty() => Err("status 2, and nothing on standard error".to_string()),
+        2 => Ok(Printed { text: out.stdout, aside: String::new(), status }),
+        _ => Ok(Printed { text: out.stdout, aside, status }),
     }
-    Ok(Printed { text: String::from_utf8_lossy(&out.stdout).into_owned(), status })
 }
 
 /// The first words of what is printed: the sort of answer, for the count at the end.
 fn sort(it: &Run) -> String {
-    let words: Vec<&str> = it.wanted.text.split_whitespace().collect();
+    if ["send", "convert", "replay", "frames"].contains(&it.words[0].as_str()) {
+        return format!("{} {}", it.words[0], it.wanted.status);
+    }
+    let text = String::from_utf8_lossy(&it.wanted.text);
+    let words: Vec<&str> = text.split_whitespace().collect();
     match words[..] {
         [] => "wrong call".to_string(),
         ["refused", number, ..] => format!("{number:0>2}"),
@@ -258,24 +327,32 @@ fn sort(it: &Run) -> String {
     }
 }
 
+fn told(it: &Run, got: &Result<Printed, String>) -> String {
+    let hex = |bytes: &[u8]| crate::session::hex(&bytes[..bytes.len().min(20_000)]);
+    let files: Vec<String> = it.files.iter().map(|(n, b)| format!("{n}: {}\n", hex(b))).collect();
+    format!(
+        "palkodhen {}\n{}by standard input: {}\nthe second reader: {:?}\nthe program: {got:?}",
+        it.words.join(" "),
+        files.concat(),
+        hex(&it.pieces.concat()),
+        it.wanted
+    )
+}
+
 pub fn compare(count: usize, seed: u64, page: &str, folder: &str, launcher: &str) -> Result<(), String> {
     let said = Words::load(page)?;
     let mut r = Random(seed);
     let mut sorts: BTreeMap<String, usize> = BTreeMap::new();
     for i in 1..=count {
-        let it = run(&mut r, &said);
-        let got = launch(launcher, Path::new(folder), &it);
-        if got.as_ref() != Ok(&it.wanted) {
-            let hex: Vec<String> = it.files.iter().map(|(n, b)| format!("{n}: {}\n", crate::session::hex(b))).collect();
-            return Err(format!(
-                "seed {seed}: run {i} differs: palkodhen {}\n{}by standard input: {}\nthe second reader: {:?}\nthe program: {got:?}",
-                it.words.join(" "),
-                hex.concat(),
-                crate::session::hex(&it.pieces.concat()),
-                it.wanted
-            ));
+        let mut next = Some(run(&mut r, &said));
+        while let Some(it) = next {
+            let got = launch(launcher, Path::new(folder), &it);
+            if got.as_ref() != Ok(&it.wanted) {
+                return Err(format!("seed {seed}: run {i} differs: {}", told(&it, &got)));
+            }
+            *sorts.entry(sort(&it)).or_default() += 1;
+            next = after(&it, &said);
         }
-        *sorts.entry(sort(&it)).or_default() += 1;
     }
     let sorts: Vec<String> = sorts.iter().map(|(k, n)| format!("{k} {n}")).collect();
     println!("second: {count} runs of the programs, seed {seed}: no difference ({})", sorts.join(", "));

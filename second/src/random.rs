@@ -4,7 +4,9 @@ use crate::blocks::{self, CONTROL_TOTAL, STREAMING_TOTAL};
 use crate::cases::{table, Case};
 use crate::configurations;
 use crate::control::Revision;
+use crate::corpus::TRACES;
 use crate::frames::{Call, HeaderKind, Opening};
+use crate::random_traces;
 use crate::records::{laid, Phase, Record, FAULTS};
 use crate::setup::{self, REQUESTS, SETTINGS};
 use crate::streaming::Place;
@@ -45,7 +47,7 @@ impl Random {
         }
     }
 
-    fn bytes(&mut self, n: usize) -> Vec<u8> {
+    pub fn bytes(&mut self, n: usize) -> Vec<u8> {
         (0..n).map(|_| self.byte()).collect()
     }
 }
@@ -606,7 +608,7 @@ pub fn list(r: &mut Random, opening: &Opening, most: usize) -> Vec<Call> {
 }
 
 /// A framing byte: that of the trace programs, or one with D1 clear, or any.
-fn framing(r: &mut Random) -> u8 {
+pub fn framing(r: &mut Random) -> u8 {
     match r.below(5) {
         0 | 1 => 3,
         2 | 3 => r.pick(&[0, 1]),
@@ -818,7 +820,7 @@ fn settings(r: &mut Random) -> Case {
 
 /// Any case; lists of calls have up to `most` calls.
 pub fn case(r: &mut Random, most: usize) -> Case {
-    match r.below(21) {
+    match r.below(if TRACES { 25 } else { 23 }) {
         0..=2 => Case::Control(maybe_damaged_control(r)),
         3 => {
             let block = if r.once_in(5) { maybe_damaged_control(r) } else { control(r) };
@@ -847,6 +849,8 @@ pub fn case(r: &mut Random, most: usize) -> Case {
         11 => from(r, most),
         12 | 13 => configurations::case(r),
         14..=16 => settings(r),
+        17 | 18 => random_traces::sent(r),
+        23 | 24 => random_traces::traced(r, most),
         _ => calls(r, most),
     }
 }

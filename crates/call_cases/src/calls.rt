@@ -154,18 +154,23 @@ fn take(s: Session, buffer: &mut [u8], transfer: &mut [u8]) -> Next {
             fine: false,
         };
     }
-    let taken = s.take(buffer, &transfer[..n]);
+    let session = offer(s, buffer, &transfer[..n]);
+    Next {
+        session,
+        fine: true,
+    }
+}
+
+// The session after a transfer, and what it answers.
+pub fn offer(s: Session, buffer: &mut [u8], transfer: &[u8]) -> Session {
+    let taken = s.take(buffer, transfer);
     let outcome = taken.outcome;
-    let session = taken.session;
     match outcome {
         Outcome::Refused(number) => shown::refused(number),
         Outcome::Taken(a) => shown::answer(a),
         Outcome::Handed(x) => shown::handed(x),
     }
-    Next {
-        session,
-        fine: true,
-    }
+    taken.session
 }
 
 fn lost(s: Session) -> Next {

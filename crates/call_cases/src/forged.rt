@@ -149,7 +149,8 @@ fn fault(kind: u8) -> Fault {
     }
 }
 
-fn stamp() -> Stamp {
+// Byte present and four bytes.
+pub fn stamp() -> Stamp {
     let there = input::flag();
     let n = input::word();
     if there { Stamp::At(n) } else { Stamp::Absent }

@@ -5,8 +5,10 @@ pub mod calls;
 mod configurations;
 mod documents;
 mod records;
+mod senders;
 mod settings;
 mod streams;
+mod traces;
 mod vp8;
 
 use crate::blocks::descriptor;
@@ -16,13 +18,16 @@ use crate::random::{self, Random};
 use std::collections::BTreeSet;
 
 /// So many random cases are stored behind the chosen ones.
-const RANDOM: usize = 220;
+const RANDOM: usize = 40;
 
 /// The seed of the random ones.
 const SEED: u64 = 15;
 
 /// The lists of calls among them are this long.
 const CALLS: usize = 24;
+
+/// Whether the test program reads traces (case L).
+pub const TRACES: bool = false;
 
 pub fn write(stdin: &str, stdout: &str) -> Result<(), String> {
     let mut cases = chosen();
@@ -70,12 +75,18 @@ fn covered(answers: &[String]) -> Result<(), String> {
             continue;
         }
         // Length, stamp and layer follow.
-        if let Some(i) = words.iter().position(|w| ["delivered", "still"].contains(w)) {
-            let layer = if words[i + 3] == "-" { "no layer" } else { "a layer" };
-            seen.insert(format!("{} {} with {layer}", words[i - 1], words[i]));
+        if let Some(i) = words.iter().position(|w| ["fate", "handed"].contains(w)) {
+            if ["delivered", "still"].contains(&words[i + 1]) {
+                let layer = if words[i + 4] == "-" { "no layer" } else { "a layer" };
+                seen.insert(format!("{} {} with {layer}", words[i], words[i + 1]));
+            }
+        }
+        // A frame that ended, by its number, fate, length and stamp.
+        if words.len() == 4 && words[0].parse::<usize>().is_ok() {
+            seen.insert(format!("frame {} {}", words[1], if words[3] == "-" { "untimed" } else { "stamped" }));
         }
     }
-    let numbers = (1..=16).chain(20..=47).chain(50..=55).chain(70..=75).chain(90..=95);
+    let numbers = (1..=16).chain(20..=47).chain(50..=55).chain(70..=75).chain(80..=82).chain(90..=95);
     let mut wanted: Vec<String> = numbers.map(|n| format!("refused {n}")).collect();
     wanted.extend((61..=67).map(|n| format!("unreadable {n}")));
     wanted.extend(["idle", "kept", "stray", "delivered", "still", "dropped", "unreadable"].map(|f| format!("fate {f}")));
@@ -96,6 +107,13 @@ fn covered(answers: &[String]) -> Result<(), String> {
     for fault in ["sound", "gap", "error", "clock", "mixed", "long", "cut", "empty"] {
         wanted.extend([0, 1].map(|still| format!("under {still} {fault}")));
     }
+    if TRACES {
+        for fate in ["delivered", "still", "gap", "error", "clock", "mixed", "long", "cut", "empty"] {
+            wanted.extend(["untimed", "stamped"].map(|time| format!("frame {fate} {time}")));
+        }
+        // No frame breaks the clock without a stamp.
+        wanted.retain(|w| w != "frame clock untimed");
+    }
     wanted.extend(crate::setup::SETTINGS.map(|s| format!("control {s}")));
     wanted.extend(crate::setup::REQUESTS.map(|q| format!("request {q}")));
     let missing: Vec<String> = wanted.into_iter().filter(|w| !seen.contains(w)).collect();
@@ -115,6 +133,10 @@ fn chosen() -> Vec<Case> {
     all.extend(vp8::all());
     all.extend(records::all());
     all.extend(settings::all());
+    all.extend(senders::all());
+    if TRACES {
+        all.extend(traces::all());
+    }
     all
 }
 
