@@ -18,6 +18,10 @@
 //   G calls from a record   session record, part buffer, number of calls and the calls as in T: told as in E, without the opening
 //   R record     part ledger's record, the rest of a session (the session record without its numbers), part buffer, and a call as in T: what the call
 //                leaves of the record and the rest
+//   Y sender     the receiver's sizes, framing and header kind as in T, four bytes length of its room, up to 70,000: zeros; four bytes the sender's payload size,
+//                four bytes length of the room that is lent to each `send`, up to 65,600: zeros at first; four bytes number of frames, and each frame:
+//                byte next (0 not, any other: the sender goes on before it), byte stamp present, four bytes stamp, part bytes. Each call of the sender is
+//                told with the hash of its room, a transfer with what the receiver answers, as in T; after the last it is asked once more
 //   U settings   byte 0 build: part control block, bytes interface, unit, setting (0 brightness, 1 contrast, 2 hue, 3 saturation), request
 //                (0 get_cur, 1 get_min, 2 get_max, 3 get_res, 4 get_def, 5 set_cur), part room
 //                byte 1 read: part control block, byte interface, part bytes
@@ -49,6 +53,7 @@ fn case(kind: u8) -> bool {
         b'F' => forged::plain(),
         b'G' => forged::whole(),
         b'R' => recorded::run(),
+        b'Y' => sender_cases::run(),
         b'U' => setup_cases::run(),
         _ => {
             print::text(b"unknown kind\n");

@@ -1,5 +1,6 @@
 // Case Y: a sender with its receiver. For each frame the transfers that are sent and what the receiver answers to each, up to a refusal or to the call after
 // the last, which is made twice; then the sender. At the end what is left of the receiver, as in case E.
+ghost use Rattle.io.specs.Counts.{Counts};
 use call_cases::calls;
 use call_cases::calls::Next;
 use call_cases::forged;
@@ -10,16 +11,6 @@ use sender::Sender;
 use sender::Sending;
 use session::Session;
 use sizes::Opening;
-
-// What stands in the input before the frames.
-struct Pair {
-    opening: Opening,
-    // The receiver's room, the sender's payload size, the room that is lent to each `send`, and the number of frames.
-    buffer: u32,
-    payload: usize,
-    room: u32,
-    frames: u32,
-}
 
 // Both ends after some calls, and whether the input was read.
 struct Both {
@@ -41,41 +32,48 @@ pub fn run() -> bool {
     let payload = input::word() as usize;
     let room = input::word();
     let frames = input::word();
-    open(Pair {
-        opening,
-        buffer,
-        payload,
-        room,
-        frames,
-    })
+    open(opening, buffer, payload, room, frames)
 }
 
-fn open(p: Pair) -> bool {
+// The receiver's room and the one that is lent to the sender, of these lengths.
+fn open(opening: Opening, n: u32, payload: usize, m: u32, frames: u32) -> bool {
     let mut buffer = [0u8; 70000];
     let mut room = [0u8; 65600];
-    let n = io::count(p.buffer as isize, &buffer);
-    let m = io::count(p.room as isize, &room);
-    if n != p.buffer as usize {
+    let k = io::count(n as isize, &buffer);
+    let l = io::count(m as isize, &room);
+    if k != n as usize {
         print::text(b"part too long\n");
         return false;
     }
-    if m != p.room as usize {
+    if l != m as usize {
         print::text(b"part too long\n");
         return false;
     }
-    follow(p, &mut buffer[..n], &mut room[..m])
+    follow(opening, payload, frames, &mut buffer[..k], &mut room[..l])
 }
 
-fn follow(p: Pair, buffer: &mut [u8], room: &mut [u8]) -> bool {
-    let opening = p.opening;
+fn follow(
+    opening: Opening,
+    payload: usize,
+    frames: u32,
+    buffer: &mut [u8],
+    room: &mut [u8],
+) -> bool {
     let session = calls::open(opening, buffer);
     let mut bytes = [0u8; 70000];
-    let last = all(session, p.payload, p.frames, buffer, room, &mut bytes);
+    let last = all(session, payload, frames, buffer, room, &mut bytes);
     calls::finish(last, buffer, true)
 }
 
 // So many frames, one after the other.
-fn all(s: Session, payload: usize, frames: u32, buffer: &mut [u8], room: &mut [u8], bytes: &mut [u8]) -> Next {
+fn all(
+    s: Session,
+    payload: usize,
+    frames: u32,
+    buffer: &mut [u8],
+    room: &mut [u8],
+    bytes: &mut [u8],
+) -> Next {
     let mut session = s;
     let mut sender = Sender::new();
     let mut left = frames;
@@ -98,7 +96,14 @@ fn all(s: Session, payload: usize, frames: u32, buffer: &mut [u8], room: &mut [u
 }
 
 // A frame as it stands in the input: whether the sender goes on before it, its stamp, and its bytes.
-fn one(x: Sender, session: Session, payload: usize, buffer: &mut [u8], room: &mut [u8], bytes: &mut [u8]) -> Both {
+fn one(
+    x: Sender,
+    session: Session,
+    payload: usize,
+    buffer: &mut [u8],
+    room: &mut [u8],
+    bytes: &mut [u8],
+) -> Both {
     let sender = begun(x);
     let stamp = forged::stamp();
     let part = input::part(bytes);
@@ -123,7 +128,15 @@ fn begun(x: Sender) -> Sender {
 }
 
 // All transfers of a frame.
-fn sent(x: Sender, s: Session, payload: usize, stamp: Stamp, buffer: &mut [u8], room: &mut [u8], frame: &[u8]) -> Both {
+fn sent(
+    x: Sender,
+    s: Session,
+    payload: usize,
+    stamp: Stamp,
+    buffer: &mut [u8],
+    room: &mut [u8],
+    frame: &[u8],
+) -> Both {
     let mut sender = x;
     let mut session = s;
     let mut over: u8 = 0;
@@ -151,7 +164,16 @@ fn sent(x: Sender, s: Session, payload: usize, stamp: Stamp, buffer: &mut [u8], 
 }
 
 // One call of the sender, with the hash of its room; and what the receiver answers to a transfer, with that of its own.
-fn step(x: Sender, s: Session, over: u8, payload: usize, stamp: Stamp, buffer: &mut [u8], room: &mut [u8], frame: &[u8]) -> After {
+fn step(
+    x: Sender,
+    s: Session,
+    over: u8,
+    payload: usize,
+    stamp: Stamp,
+    buffer: &mut [u8],
+    room: &mut [u8],
+    frame: &[u8],
+) -> After {
     let sent = x.send(frame, payload, stamp, room);
     let sender = sent.sender;
     let sending = sent.sending;
@@ -179,7 +201,7 @@ fn step(x: Sender, s: Session, over: u8, payload: usize, stamp: Stamp, buffer: &
             print::text(b"sent");
             print::field(n as u64);
             print::hash(room);
-            let m = io::count(n as isize, room);
+            let m = within(n, room);
             let session = calls::offer(s, buffer, &room[..m]);
             print::hash(buffer);
             After {
@@ -189,6 +211,16 @@ fn step(x: Sender, s: Session, over: u8, payload: usize, stamp: Stamp, buffer: &
             }
         }
     }
+}
+
+// So many of the room's bytes, and never more than it has.
+fn within(n: usize, room: &[u8]) -> usize
+    ensures { λ r. ⌜ Counts r (now (room .entry)) ⌝ }
+{
+    if n < room.len() {
+        return n;
+    }
+    room.len()
 }
 
 fn told(x: Sender) {
