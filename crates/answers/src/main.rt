@@ -22,6 +22,9 @@
 //                four bytes length of the room that is lent to each `send`, up to 65,600: zeros at first; four bytes number of frames, and each frame:
 //                byte next (0 not, any other: the sender goes on before it), byte stamp present, four bytes stamp, part bytes. Each call of the sender is
 //                told with the hash of its room, a transfer with what the receiver answers, as in T; after the last it is asked once more
+//   L trace      byte form (0 short, any other long), byte show (1 replay, 2 frames, 3 convert, any other ledger), four bytes frame size, four bytes
+//                payload size, four bytes size of each read (at least 1 and at most 4,096 are taken), part trace: the text that the program prints of it; of
+//                convert, which has no sizes and reads short records, how many bytes it writes, their hash, and where it stops
 //   U settings   byte 0 build: part control block, bytes interface, unit, setting (0 brightness, 1 contrast, 2 hue, 3 saturation), request
 //                (0 get_cur, 1 get_min, 2 get_max, 3 get_res, 4 get_def, 5 set_cur), part room
 //                byte 1 read: part control block, byte interface, part bytes
@@ -54,6 +57,7 @@ fn case(kind: u8) -> bool {
         b'G' => forged::whole(),
         b'R' => recorded::run(),
         b'Y' => sender_cases::run(),
+        b'L' => trace_cases::run(),
         b'U' => setup_cases::run(),
         _ => {
             print::text(b"unknown kind\n");

@@ -75,3 +75,13 @@ pub fn part(room: &mut [u8]) -> Loaded
     let count = io::count(asked as isize, room);
     Loaded { fine: true, count }
 }
+
+// So many of the room's bytes, and never more than it has.
+pub fn within(n: usize, room: &[u8]) -> usize
+    ensures { λ r. ⌜ Counts r (now (room .entry)) ⌝ }
+{
+    if n < room.len() {
+        return n;
+    }
+    room.len()
+}

@@ -66,16 +66,21 @@ pub fn hex(name: &[u8], bytes: &[u8]) {
     end();
 }
 
-// A hash of the bytes: times 16,777,619 plus the byte, modulo 2^32, from 2,166,136,261.
+// A hash of the bytes, as it ends a line.
 pub fn hash(bytes: &[u8]) {
-    let mut h: u64 = 2166136261;
+    let h = hashed(2166136261, bytes);
+    text(b" hash");
+    field(h);
+    end();
+}
+
+// The hash of some bytes, from that of all before them: times 16,777,619 plus the byte, modulo 2^32. That of none is 2,166,136,261.
+pub fn hashed(from: u64, bytes: &[u8]) -> u64 {
+    let mut h: u64 = from % 4294967296;
     let mut i: usize = 0;
     while i < bytes.len() {
         h = (h * 16777619 + le::wide(bytes[i]) as u64) % 4294967296;
         i += 1;
     }
-    text(b" hash");
-    field(h);
-    end();
+    h
 }
-//

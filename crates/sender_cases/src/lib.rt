@@ -1,6 +1,5 @@
 // Case Y: a sender with its receiver. For each frame the transfers that are sent and what the receiver answers to each, up to a refusal or to the call after
 // the last, which is made twice; then the sender. At the end what is left of the receiver, as in case E.
-ghost use Rattle.io.specs.Counts.{Counts};
 use call_cases::calls;
 use call_cases::calls::Next;
 use call_cases::forged;
@@ -201,7 +200,7 @@ fn step(
             print::text(b"sent");
             print::field(n as u64);
             print::hash(room);
-            let m = within(n, room);
+            let m = input::within(n, room);
             let session = calls::offer(s, buffer, &room[..m]);
             print::hash(buffer);
             After {
@@ -211,16 +210,6 @@ fn step(
             }
         }
     }
-}
-
-// So many of the room's bytes, and never more than it has.
-fn within(n: usize, room: &[u8]) -> usize
-    ensures { λ r. ⌜ Counts r (now (room .entry)) ⌝ }
-{
-    if n < room.len() {
-        return n;
-    }
-    room.len()
 }
 
 fn told(x: Sender) {

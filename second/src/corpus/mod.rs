@@ -27,7 +27,7 @@ const SEED: u64 = 15;
 const CALLS: usize = 24;
 
 /// Whether the test program reads traces (case L).
-pub const TRACES: bool = false;
+pub const TRACES: bool = true;
 
 pub fn write(stdin: &str, stdout: &str) -> Result<(), String> {
     let mut cases = chosen();

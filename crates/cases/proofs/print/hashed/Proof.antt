@@ -1,14 +1,14 @@
 use Prim.Native.Nat.{_≤_, _<_, _-_}
 use lib.ListN.{length}
 use borrow.Author.Needs.{needs}
-use Rattle.cases.proofs.print.hash.Statement.{statement}
-use Rattle.cases.proofs.print.hash.Tie as tie
+use Rattle.cases.proofs.print.hashed.Statement.{statement}
+use Rattle.cases.proofs.print.hashed.Tie as tie
 
 abbrev Inv-loop : tie.InvT-loop
-Inv-loop bytes h₀ i₀ t4 h i = (i ≤ length bytes) × (h < 4294967296)
+Inv-loop from bytes h₀ i₀ h i = (i ≤ length bytes) × (h < 4294967296)
 
 abbrev μ-loop : tie.MeasureT-loop
-μ-loop bytes h₀ i₀ t4 h i = length bytes - i
+μ-loop from bytes h₀ i₀ h i = length bytes - i
 
 loop-holds : tie.Need-loop-holds Inv-loop μ-loop
 loop-holds c = search needs
@@ -34,23 +34,11 @@ loop-less c = search needs
 loop-again : tie.Need-loop-again Inv-loop μ-loop
 loop-again c = search needs
 
-slice-aggregate-text : tie.Need-slice-aggregate-text Inv-loop μ-loop
-slice-aggregate-text c = search needs
-
-text-requires : tie.Need-text-requires Inv-loop μ-loop
-text-requires c κs = search needs
-
-field-requires : tie.Need-field-requires Inv-loop μ-loop
-field-requires c κs = search needs
-
-end-requires : tie.Need-end-requires Inv-loop μ-loop
-end-requires c κs = search needs
-
 returns : tie.Need-returns Inv-loop μ-loop
 returns c = search needs
 
-pub hash-spec : {M : Type 1} → statement M
-hash-spec =
+pub hashed-spec : {M : Type 1} → statement M
+hashed-spec =
     tie.close
     (tie.spec
     Inv-loop
@@ -63,8 +51,4 @@ hash-spec =
     add-i
     loop-less
     loop-again
-    slice-aggregate-text
-    text-requires
-    field-requires
-    end-requires
     returns)

@@ -1,7 +1,7 @@
 use native.Mathlib.Omega.{arith}
 use lib.ListN.{length-take}
-use Rattle.sender_cases.proofs.within.Statement.{statement}
-use Rattle.sender_cases.proofs.within.Tie as tie
+use Rattle.cases.proofs.input.within.Statement.{statement}
+use Rattle.cases.proofs.input.within.Tie as tie
 
 returns : tie.Need-returns
 returns c = (omega arith, simp length-take (omega arith))
