@@ -107,9 +107,6 @@ nothing-more : (xs ys : List Ending) → xs ≡ xs ++ ys → ys ≡ []
 nothing-more xs [] e = refl
 nothing-more xs (y ∷ ys) e = absurd (omega (arith, ap length e, length-append xs (y ∷ ys)))
 
-
-
-
 module _ (f : Form) (w : Show) (o : Opening) (sizes : sizesBroken o ≡ false) (eof : byEof o ≡ true) where
   abbrev ended : List (List ℕ) → List Ending
   ended rs = endingsOf o (map (recordCall f) rs)
@@ -207,7 +204,7 @@ module _ (f : Form) (w : Show) (o : Opening) (sizes : sizesBroken o ≡ false) (
 
       go : (a : Bool) → badAfter f rs r ≡ a → (b : Bool) → pastAfter rs r ≡ b
           → (Holds f o sizes eof (rs ++ (r ∷ [])) (next s (offerOf s (recordAsk f r)))
-            → over f w (outOf (replayOf (goodOf (next s (offerOf s (recordAsk f r)))) (counted (rs ++ (r ∷ [])))) (lines (rs ++ (r ∷ [])))) more .text ≡ lines ((rs ++ (r ∷ [])) ++ goodAfter f (rs ++ (r ∷ [])) more))
+          → over f w (outOf (replayOf (goodOf (next s (offerOf s (recordAsk f r)))) (counted (rs ++ (r ∷ [])))) (lines (rs ++ (r ∷ [])))) more .text ≡ lines ((rs ++ (r ∷ [])) ++ goodAfter f (rs ++ (r ∷ [])) more))
           → over f w (outOf (replayOf (goodOf s) (counted rs)) (lines rs)) (r ∷ more) .text ≡ lines (rs ++ cond a [] (cond b [] (r ∷ goodAfter f (rs ++ (r ∷ [])) more)))
       go true e b g rec = decides s (counted rs) (lines rs) r more (ended-bad rs s h r e) (ap isDecided (step-bad s r (closed-or true e))) ∙ ap lines (sym (append-nil rs))
       go false e true g rec =
@@ -217,7 +214,7 @@ module _ (f : Form) (w : Show) (o : Opening) (sizes : sizesBroken o ≡ false) (
           let h' = goes-on f o sizes eof rs s h r e g in
           let q = ended-more rs s h r h' e in
           (λ i. over f w (outOf (replayOf (step-on s r (closed-or false e) (by52 false e g) i) ((sym (counted-more w noLines (ended rs) (endedOf f (goodOf s) r)) ∙ ap (countedAll w noLines) q) i))
-              ((sym (lines-more w noLines (ended rs) (endedOf f (goodOf s) r)) ∙ ap (linesIn w noLines) q) i)) more .text)
+          ((sym (lines-more w noLines (ended rs) (endedOf f (goodOf s) r)) ∙ ap (linesIn w noLines) q) i)) more .text)
           ∙ rec h' ∙ ap lines (append-assoc rs (r ∷ []) (goodAfter f (rs ++ (r ∷ [])) more))
 
   -- ---- in words

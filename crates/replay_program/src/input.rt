@@ -171,14 +171,7 @@ fn no_out() -> [u8; ROOM]
     [0; ROOM]
 }
 
-fn read(
-    first: Reader,
-    show: Show,
-    form: Form,
-    fd: i32,
-    name: &[u8],
-    piece: &mut [u8],
-)
+fn read(first: Reader, show: Show, form: Form, fd: i32, name: &[u8], piece: &mut [u8])
     requires { ⌜ (first .have < sizeOf form) × (length (now piece) ≡ sizeOf form) ⌝ }
 {
     let mut input = io::large_buffer();
