@@ -1,10 +1,10 @@
 -- How a reader goes on: its piece fills up, whole records go straight from the input, the rest waits; and what it has at the end.
-use Prim.Native.Nat.{ℕ, zero, suc, _+_, _-_, _*_, _≤_, _<_}
+use Prim.Native.Nat.{ℕ, suc, _+_, _-_, _*_, _<_}
 use mathlib.Core.Path.{_≡_, refl, sym, ap, _∙_}
 use mathlib.Core.List.{List, [], _∷_, _++_, append-assoc, append-nil}
 use native.Mathlib.Omega.{arith}
-use lib.ListN.{length, take, drop, length-append}
-use lib.Seq.{paste, take-paste, take-all, length-paste, length-take-le}
+use lib.ListN.{length, take, length-append}
+use lib.Seq.{paste, take-paste, take-all, length-paste}
 use Rattle.cuts.specs.Cuts.{cutOf, After, Folds}
 use Rattle.cuts.proofs.Cut.{cut-append}
 

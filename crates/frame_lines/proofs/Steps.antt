@@ -4,7 +4,7 @@ use mathlib.Core.Path.{_≡_, refl, sym, ap, subst, _∙_}
 use mathlib.Core.List.{List, [], _∷_, _++_, append-assoc, append-nil}
 use native.Mathlib.Omega.{arith}
 use lib.ListN.{length}
-use lib.Seq.{paste, paste-zero}
+use lib.Seq.{paste-zero}
 use Rattle.text.specs.Put.{Put}
 use Rattle.text.proofs.Puts.{then}
 use Rattle.payload.specs.declared.Stamp.{Stamp}

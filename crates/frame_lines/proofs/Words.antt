@@ -1,6 +1,6 @@
 -- THE LINES, as the code counts them, are those of the words: fewer than 2^64 frames end.
-use Prim.Native.Nat.{ℕ, suc, _+_, _%_, _^_, _<_}
-use mathlib.Core.Path.{_≡_, refl, sym, ap, _∙_}
+use Prim.Native.Nat.{ℕ, _+_, _^_, _<_}
+use mathlib.Core.Path.{_≡_, refl, ap, _∙_}
 use mathlib.Core.List.{List, [], _∷_, _++_}
 use native.Mathlib.Omega.{arith}
 use lib.ListN.{length}
@@ -8,7 +8,6 @@ use Rattle.payload.specs.declared.Stamp.{Stamp}
 use Rattle.endings.specs.declared.How.{How}
 use Rattle.endings.specs.declared.How.the-variants.{Delivered, Still, Dropped}
 use Rattle.endings.specs.declared.Ending.{Ending}
-use Rattle.frame_lines.specs.declared.Show.{Show}
 use Rattle.frame_lines.specs.declared.Show.the-variants.{Nothing, Replay, Frames}
 use Rattle.frame_lines.specs.declared.Since.the-variants.{Dash}
 use Rattle.frame_lines.specs.declared.Counted.{Counted}

@@ -5,7 +5,6 @@ use mathlib.Core.List.{List, [], _∷_, _++_}
 use Rattle.payload.specs.declared.Stamp.{Stamp}
 use Rattle.payload.specs.declared.Stamp.the-variants.{Absent, At}
 use Rattle.frames.specs.declared.Reason.the-variants.{Gap, Error, Clock, Mixed, Long, Cut, Empty}
-use Rattle.ledger.specs.declared.Step.{Step}
 use Rattle.ledger.specs.declared.Step.the-variants.{Forward, Backward}
 use Rattle.ledger.specs.Step.{stepOf}
 use Rattle.text.specs.Decimal.{decimal}

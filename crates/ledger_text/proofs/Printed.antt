@@ -1,5 +1,5 @@
 -- EVERY RUN prints of a file what its bytes alone say, however they come: the lines and the report are the rule's.
-use Prim.Native.Nat.{ℕ, _+_, _≤_, _<_}
+use Prim.Native.Nat.{ℕ, _+_, _<_}
 use mathlib.Core.Path.{_≡_, refl, sym, ap, subst, _∙_}
 use mathlib.Core.Bool.{Bool, true, false, _||_}
 use mathlib.Core.List.{List, [], _∷_, _++_, map, append-assoc, append-nil}
@@ -7,11 +7,11 @@ use mathlib.Core.Logic.{_⊎_, inl, inr}
 use native.Mathlib.Omega.{arith}
 use lib.ListN.{length, take, drop, replicate, length-replicate, length-drop}
 use Rattle.rules.proofs.Lists.{no-elements}
-use lib.Seq.{paste, take-length, take-paste, take-all, drop-length}
+use lib.Seq.{take-length, take-paste, take-all, drop-length}
 use Rattle.sizes.specs.declared.Opening.{Opening}
 use Rattle.sizes.specs.Framing.{byEof}
 use Rattle.sizes.specs.Sizes.{sizesBroken}
-use Rattle.cuts.specs.Cuts.{cutOf, After, leastOf}
+use Rattle.cuts.specs.Cuts.{cutOf, After}
 use Rattle.cuts.proofs.Goes.{after-none, after-more, at-end, at-rest}
 use Rattle.cuts.proofs.Feed.{feed-rest}
 use Rattle.cuts.proofs.Cut.{cut-first}
@@ -31,11 +31,10 @@ use Rattle.trace.proofs.Exactly.{print-right}
 use Rattle.frame_lines.specs.declared.Show.{Show}
 use Rattle.replay.specs.declared.Replay.{Replay}
 use Rattle.replay.specs.declared.Reader.{Reader}
-use Rattle.replay.specs.declared.Progress.{Progress}
 use Rattle.replay.specs.Lines.{linesOf}
 use Rattle.endings.specs.Inner.{listIn}
 use Rattle.frame_lines.specs.Inner.{linesIn}
-use Rattle.replay.specs.Inner.{newReplay, tellSaid, endedBy, endedOf, Out, over, outOf, Ran, Fed}
+use Rattle.replay.specs.Inner.{newReplay, tellSaid, endedBy, endedOf, Out, over, outOf}
 use Rattle.replay.proofs.Over.{records-cut, folds, over-text, over-trace, decided-stays}
 use Rattle.replay.proofs.Steps.{positive}
 use Rattle.replay.proofs.Read.{none}

@@ -9,7 +9,6 @@ use Rattle.sizes.specs.declared.Opening.{Opening}
 use Rattle.records.specs.declared.Form.{Form}
 use Rattle.records.specs.declared.Form.the-variants.{Short, Long}
 use Rattle.records.specs.Record.{recordsOf}
-use Rattle.trace.specs.declared.State.{State}
 use Rattle.trace.specs.declared.Printed.{Printed}
 use Rattle.trace.specs.Record.{recordCall}
 use Rattle.trace.specs.Trace.{ledgerSizes, replaySizes, reportOf}

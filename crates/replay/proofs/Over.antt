@@ -15,14 +15,13 @@ use Rattle.trace.specs.declared.State.{State}
 use Rattle.trace.specs.declared.State.the-variants.{Good, Bad, Refused}
 use Rattle.trace.specs.Trace as trace
 use Rattle.trace.specs.Inner.{isDecided}
-use Rattle.endings.specs.Inner.{listIn, noneTold}
 use Rattle.frame_lines.specs.declared.Show.{Show}
 use Rattle.frame_lines.specs.declared.Show.the-variants.{Nothing}
 use Rattle.frame_lines.specs.declared.Counted.{Counted}
 use Rattle.frame_lines.specs.Inner.{linesIn, countedAll}
 use Rattle.endings.specs.declared.Ending.{Ending}
 use Rattle.replay.specs.declared.Replay.{Replay}
-use Rattle.replay.specs.Inner.{replayOf, endedBy, endedOf, stepOf, textOf, Out, over, outOf}
+use Rattle.replay.specs.Inner.{replayOf, endedOf, stepOf, textOf, Out, over, outOf}
 
 -- the records of a trace are those of the stream that has its form's size
 pub records-cut : (f : Form) (l : List ℕ) → recordsOf f l ≡ cutOf (sizeOf f) l

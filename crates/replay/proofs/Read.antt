@@ -1,11 +1,11 @@
 -- A read: its whole records from some place on, what is left over, and the record that it makes whole in the piece.
-use Prim.Native.Nat.{ℕ, _+_, _-_, _*_, _%_, _≤_, _<_}
+use Prim.Native.Nat.{ℕ, _+_, _-_, _%_, _≤_, _<_}
 use mathlib.Core.Path.{_≡_, refl, sym, ap, subst, _∙_}
-use mathlib.Core.List.{List, [], _∷_, _++_}
+use mathlib.Core.List.{List, [], _++_}
 use native.Mathlib.Omega.{arith}
 use native.Mathlib.Nat.{mod-le}
 use lib.ListN.{length, take, drop, length-drop}
-use lib.Seq.{paste, length-take-le, length-paste, paste-zero}
+use lib.Seq.{paste, length-take-le, length-paste}
 use Rattle.text.specs.Put.{Put}
 use Rattle.text.proofs.Puts.{then}
 use Rattle.cuts.specs.Cuts.{cutOf, After, leastOf}
@@ -17,7 +17,7 @@ use Rattle.frame_lines.specs.declared.Show.{Show}
 use Rattle.replay.specs.declared.Replay.{Replay}
 use Rattle.replay.specs.declared.Lined.{Lined}
 use Rattle.replay.specs.declared.Progress.{Progress}
-use Rattle.replay.specs.Inner.{Out, over, roomFor, readRoom, outOf, Ran, stopOf, partOf, leftOf, Rested, Fed}
+use Rattle.replay.specs.Inner.{Out, over, outOf, Ran, stopOf, partOf, leftOf, Rested, Fed}
 use Rattle.replay.proofs.Over.{folds, over-text}
 use Rattle.replay.proofs.Steps.{positive, put-nothing}
 

@@ -1,6 +1,6 @@
 -- THE LINES ARE THE RULE'S: those of the frames that ended by the calls of the good records, for every trace, with frames that end by EOF.
 use Prim.Native.Nat.{ℕ, zero, suc, _+_, _≤_, _<_, _^_}
-use mathlib.Core.Path.{_≡_, refl, sym, ap, subst, _∙_}
+use mathlib.Core.Path.{_≡_, refl, sym, ap, _∙_}
 use mathlib.Core.Bool.{Bool, true, false, cond, _||_}
 use mathlib.Core.List.{List, [], _∷_, _++_, map, append-assoc, append-nil}
 use native.Mathlib.Omega.{arith}
@@ -10,16 +10,13 @@ use Rattle.sizes.specs.declared.Opening.{Opening}
 use Rattle.sizes.specs.Framing.{byEof}
 use Rattle.sizes.specs.Sizes.{sizesBroken}
 use Rattle.payload.specs.declared.Stamp.the-variants.{Absent}
-use Rattle.payload.specs.declared.Reading.{Reading}
-use Rattle.payload.specs.declared.Reading.the-variants.{Idle, Unreadable, Readable}
-use Rattle.payload.specs.Transfer.{readingOf}
+use Rattle.payload.specs.declared.Reading.the-variants.{Idle, Unreadable}
 use Rattle.ledger.specs.Entry.{Entry}
-use Rattle.refusals.specs.Refusals.{takenMost}
 use Rattle.session.specs.declared.Session.{Session}
 use Rattle.session.specs.Session.{fresh}
-use Rattle.session.specs.Call.{Ask, Call, transfer, lost, handed, close}
+use Rattle.session.specs.Call.{Call, transfer, lost, handed, close}
 use Rattle.session.specs.Calls.{Offer, offerWith, refusal, next, after, callOf, unless, taken}
-use Rattle.books.specs.Rule.{Event, idle, unreadable, missing, readable, mark, eventBy, events, isOpen, Seen, readables, runs, ahead, same, frameOf, dataOf, firstStamp, nothing}
+use Rattle.books.specs.Rule.{Event, idle, unreadable, missing, readable, mark, events, isOpen, Seen, readables, runs, ahead, same, frameOf, dataOf, firstStamp, nothing}
 use Rattle.books.specs.Answer.{frameEntry}
 use Rattle.books.specs.Offers.{listOf}
 use Rattle.books.proofs.Answers.{taken-more}
@@ -27,14 +24,13 @@ use Rattle.books.proofs.Theorems.{list-right}
 use Rattle.records.specs.declared.Form.{Form}
 use Rattle.records.specs.Record.{kindAt, recordBad}
 use Rattle.trace.specs.declared.State.{State}
-use Rattle.trace.specs.declared.Trace.{Trace}
 use Rattle.trace.specs.declared.Said.{Said}
 use Rattle.trace.specs.Record.{askBy, recordAsk, recordCall}
 use Rattle.trace.specs.Trace as trace
 use Rattle.trace.specs.Inner.{isDecided}
-use Rattle.trace.specs.Trace.{newTrace, goodOf, saidBy, saidFor, offerOf, roomFor, readBy, offered}
-use Rattle.trace.specs.Standing.{closedIn, badAfter, pastAfter, goodAfter, goodRecords, offersOf}
-use Rattle.trace.proofs.Standing.{offers-more, Holds, opened, lent, refuses-lent, refuses, goes-on, holds-none, held-at-end}
+use Rattle.trace.specs.Trace.{goodOf, saidBy, saidFor, offerOf, roomFor, readBy, offered}
+use Rattle.trace.specs.Standing.{badAfter, pastAfter, goodAfter, goodRecords, offersOf}
+use Rattle.trace.proofs.Standing.{offers-more, Holds, lent, refuses-lent, refuses, goes-on, holds-none, held-at-end}
 use Rattle.endings.specs.declared.Ending.{Ending}
 use Rattle.endings.specs.Inner.{listIn, toldBy}
 use Rattle.endings.specs.Endings.{endingIn, endingFrom, endingsIn, endingsOf}

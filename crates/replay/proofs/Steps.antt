@@ -1,18 +1,16 @@
 -- One record, all records of a slice, and a read.
-use Prim.Native.Nat.{ℕ, zero, suc, _+_, _-_, _*_, _%_, _≤_, _<_}
+use Prim.Native.Nat.{ℕ, _+_, _-_, _*_, _≤_, _<_}
 use mathlib.Core.Path.{_≡_, refl, sym, ap, subst, _∙_}
 use mathlib.Core.Bool.{Bool, true, false, _||_, true≢false}
-use mathlib.Core.List.{List, [], _∷_, _++_, append-nil}
+use mathlib.Core.List.{List, [], _∷_, _++_}
 use native.Mathlib.Omega.{arith}
 use lib.ListN.{length, take, drop, length-drop}
-use lib.Seq.{paste, paste-zero}
+use lib.Seq.{paste-zero}
 use Rattle.rules.proofs.Rows.{or-second}
 use Rattle.text.specs.Put.{Put}
 use Rattle.text.proofs.Puts.{then}
-use Rattle.cuts.specs.Cuts.{cutOf, After, leastOf, nextOf}
+use Rattle.cuts.specs.Cuts.{cutOf, nextOf}
 use Rattle.cuts.proofs.Walk.{Next, next-is}
-use Rattle.cuts.proofs.Goes.{under}
-use Rattle.cuts.proofs.Feed.{feed-waits, feed-fills, feed-size, feed-rest}
 use Rattle.ledger.specs.Accounts.{numberCount}
 use Rattle.session.specs.declared.Rest.{Rest}
 use Rattle.session.specs.declared.Session.{Session}
@@ -44,9 +42,8 @@ use Rattle.frame_lines.specs.declared.Counted.{Counted}
 use Rattle.frame_lines.specs.Inner.{linesIn, countedAll}
 use Rattle.replay.specs.declared.Replay.{Replay}
 use Rattle.replay.specs.declared.Lined.{Lined}
-use Rattle.replay.specs.declared.Progress.{Progress}
-use Rattle.replay.specs.Inner.{noLines, replayOf, beginOf, tellSaid, Fits, endedOf, stepOf, textOf, Out, over, twoLines, roomFor, readRoom, isSilent, outOf, Ran, stopOf, partOf, leftOf, Rested, Fed}
-use Rattle.replay.proofs.Over.{records-cut, size-least, folds, over-text, decided-stays, silent}
+use Rattle.replay.specs.Inner.{noLines, replayOf, beginOf, tellSaid, Fits, stepOf, textOf, over, twoLines, roomFor, isSilent, outOf, Ran}
+use Rattle.replay.proofs.Over.{records-cut, size-least, decided-stays, silent}
 
 -- ---- one record
 whole-size : (f : Form) → headOf f + mostOf f ≡ sizeOf f
