@@ -4,6 +4,8 @@ mod input;
 use console::print;
 use console::status;
 use libc::STDIN_FILENO;
+use session::Start;
+use trace::Trace;
 use trace_arguments::reading;
 
 // A file that cannot be opened gets one line, and nothing else is done.
@@ -25,17 +27,32 @@ fn from_file(which: usize) {
     libc::close(fd);
 }
 
-// The options say how the records that it writes are to be read: they are checked, and change nothing of them.
+// 45 or 46, before anything is read.
+fn shut(number: u8) {
+    let mut text = io::buffer();
+    let n = ledger_text::shut(&mut text, number);
+    print::answer(&text[..n], false);
+}
+
+fn read(which: usize) {
+    if which == 0 {
+        input::run(STDIN_FILENO, b"standard input");
+    } else {
+        from_file(which);
+    }
+}
+
+// The options are those of a replay: they are checked, and change nothing of what is written.
 fn main() {
     let call = reading::read(1);
     if !reading::is_right(call) {
         print::problem(b"wrong arguments: see palkodhen --help\n");
         return;
     }
-    let opening = trace_arguments::opening(call.frame, call.payload);
-    if call.file == 0 {
-        input::run(STDIN_FILENO, b"standard input");
-        return;
+    let begun = Trace::new(trace_arguments::opening(call.frame, call.payload));
+    let start = begun.start;
+    match start {
+        Start::Open => read(call.file),
+        Start::Refused(number) => shut(number),
     }
-    from_file(call.file);
 }

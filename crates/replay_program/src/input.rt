@@ -161,7 +161,7 @@ fn finish(reader: Reader, form: Form, show: Show, piece: &[u8], out: &mut [u8])
     let r = lined.replay;
     let t = r.trace;
     let state = t.state;
-    let n = ledger_text::write(out, t.finish());
+    let n = ledger_text::end(out, show, t.finish());
     print::answer(&out[..n], !trace::decided(state));
 }
 
@@ -172,7 +172,7 @@ fn no_out() -> [u8; ROOM]
 }
 
 fn read(first: Reader, show: Show, form: Form, fd: i32, name: &[u8], piece: &mut [u8])
-    requires { ⌜ (first .have < sizeOf form) × (length (now piece) ≡ sizeOf form) ⌝ }
+    requires { ⌜ (first .have < sizeOf form) × (length (now piece) ≡ sizeOf form) × (sizeOf form ≤ 3076) ⌝ }
 {
     let mut input = io::large_buffer();
     let mut out = no_out();
@@ -204,7 +204,7 @@ fn follow(replay: Replay, show: Show, form: Form, fd: i32, name: &[u8]) {
 // 45 or 46, before anything is read.
 fn shut(number: u8) {
     let mut text = io::buffer();
-    let n = 0;
+    let n = ledger_text::shut(&mut text, number);
     print::answer(&text[..n], false);
 }
 
