@@ -156,7 +156,7 @@ fn bad() -> Vec<Case> {
         let frame = send(EOF, &[1, 2, 3]);
         let close = Call::Close;
         let mut wrong = vec![
-            with(&frame, 0, 3),
+            with(&Call::Lost, 0, 3),
             with(&frame, 0, 0xFF),
             with(&Call::Transfer(vec![]), size - 1, 1),
             with(&frame, data + 5, 1),
