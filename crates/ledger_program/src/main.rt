@@ -1,10 +1,9 @@
 // Prints the ledger of a trace, from the named file or from standard input.
-mod input;
-mod print;
-
 use console::status;
+use frame_lines::Show;
 use libc::STDERR_FILENO;
 use libc::STDIN_FILENO;
+use records::Form;
 
 // A file that cannot be opened gets one line, and nothing else is done.
 fn from_file() {
@@ -21,7 +20,7 @@ fn from_file() {
         status::failed();
         return;
     }
-    input::run(fd, &path[..n]);
+    trace_console::run(Show::Nothing, trace::LEDGER, Form::Short, fd, &path[..n]);
     libc::close(fd);
 }
 
@@ -36,5 +35,11 @@ fn main() {
         from_file();
         return;
     }
-    input::run(STDIN_FILENO, b"standard input");
+    trace_console::run(
+        Show::Nothing,
+        trace::LEDGER,
+        Form::Short,
+        STDIN_FILENO,
+        b"standard input",
+    );
 }

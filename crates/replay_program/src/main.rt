@@ -1,6 +1,4 @@
 // `replay` or `frames`, options and a file: what the frames of a trace came to, from the named file or from standard input.
-mod input;
-
 use console::print;
 use console::status;
 use frame_lines::Show;
@@ -29,7 +27,7 @@ fn from_file(show: Show, opening: Opening, call: Call) {
         return;
     }
     let form = call.form;
-    input::run(show, opening, form, fd, &path[..n]);
+    trace_console::run(show, opening, form, fd, &path[..n]);
     libc::close(fd);
 }
 
@@ -42,7 +40,7 @@ fn start(show: Show) {
     let opening = trace_arguments::opening(call.frame, call.payload);
     if call.file == 0 {
         let form = call.form;
-        input::run(show, opening, form, STDIN_FILENO, b"standard input");
+        trace_console::run(show, opening, form, STDIN_FILENO, b"standard input");
         return;
     }
     from_file(show, opening, call);

@@ -3,8 +3,8 @@ use mathlib.Core.Path.{_≡_}
 use lib.ListN.{length}
 use Rattle.records.specs.Form.{sizeOf}
 use borrow.Author.Needs.{needs}
-use Rattle.replay_program.proofs.input.read_all.Statement.{statement}
-use Rattle.replay_program.proofs.input.read_all.Tie as tie
+use Rattle.trace_console.proofs.read_all.Statement.{statement}
+use Rattle.trace_console.proofs.read_all.Tie as tie
 
 abbrev Inv-loop : tie.InvT-loop
 Inv-loop fd form show piece₀ input₀ out₀ reader₀ turns₀ piece input out reader turns =

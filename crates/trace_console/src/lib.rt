@@ -1,4 +1,4 @@
-// Reads a trace in constant memory, and prints the lines of each read behind it.
+// What the programs that read a trace share: it is read in constant memory, and the lines of each read are printed behind it. No contract can say what is read or written.
 ghost use mathlib.Core.Path.{_≡_};
 ghost use Prim.Native.Nat.{_+_, _*_, _≤_, _<_};
 ghost use lib.ListN.{length};

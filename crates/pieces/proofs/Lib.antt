@@ -1,4 +1,0 @@
-pub mod Joined
-pub mod Steps
-pub mod Right
-pub mod Unique
