@@ -29,8 +29,9 @@ struct Run {
     wanted: Printed,
 }
 
-/// Whether the launcher has `replay`, `frames`, `convert` and `send`.
+/// Whether the launcher has `replay`, `frames` and `convert`; and whether it has `send`.
 const TRACES: bool = false;
+const SENDER: bool = false;
 
 /// A short trace, mostly of some records.
 fn trace(r: &mut Random, form: &Form, opening: &Opening) -> Vec<u8> {
@@ -219,7 +220,14 @@ fn after(it: &Run, said: &Words) -> Option<Run> {
 
 fn run(r: &mut Random, said: &Words) -> Run {
     let describe = |words: &[&str], files, wanted| Run { words: named(&[&["describe"], words].concat()), files, pieces: vec![], wanted };
-    match r.below(if TRACES { 26 } else { 17 }) {
+    let sorts = if SENDER {
+        26
+    } else if TRACES {
+        24
+    } else {
+        17
+    };
+    match r.below(sorts) {
         10 | 11 => {
             let s = configurations::maybe_damaged(r);
             let s = long(r, s, CONFIGURATION_MOST, CONFIGURATION_TOTAL);
