@@ -30,7 +30,7 @@ struct Run {
 }
 
 /// Whether the launcher has `replay`, `frames` and `convert`; and whether it has `send`.
-const TRACES: bool = false;
+const TRACES: bool = true;
 const SENDER: bool = false;
 
 /// A short trace, mostly of some records.

@@ -12,8 +12,6 @@ use replay::Reader;
 use replay::Replay;
 use session::Start;
 use sizes::Opening;
-use trace::Printed;
-use trace::State;
 use trace::Trace;
 
 pub fn run(form: Form, show: Show, opening: Opening, trace: &[u8], read: usize)
@@ -92,23 +90,8 @@ fn fed(
     replay::feed(r, form, show, piece, input, out)
 }
 
-// The ledger, or the bad record in its place. The list of frames has no ledger.
+// What stands after the lines.
 fn end(show: Show, t: Trace, out: &mut [u8]) {
-    let printed = t.finish();
-    if is_left_out(show, printed) {
-        return;
-    }
-    let n = ledger_text::write(out, printed);
+    let n = ledger_text::end(out, show, t.finish());
     print::text(&out[..n]);
-}
-
-fn is_left_out(show: Show, printed: Printed) -> bool {
-    let state = printed.state;
-    match show {
-        Show::Frames => match state {
-            State::Good => true,
-            _ => false,
-        },
-        _ => false,
-    }
 }
