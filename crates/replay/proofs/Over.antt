@@ -10,18 +10,14 @@ use Rattle.records.specs.declared.Form.{Form}
 use Rattle.records.specs.declared.Form.the-variants.{Short, Long}
 use Rattle.records.specs.Form.{sizeOf}
 use Rattle.records.specs.Record.{recordsBy, recordsOf}
-use Rattle.trace.specs.declared.Trace.{Trace}
 use Rattle.trace.specs.declared.State.{State}
 use Rattle.trace.specs.declared.State.the-variants.{Good, Bad, Refused}
 use Rattle.trace.specs.Trace as trace
 use Rattle.trace.specs.Inner.{isDecided}
 use Rattle.frame_lines.specs.declared.Show.{Show}
-use Rattle.frame_lines.specs.declared.Show.the-variants.{Nothing}
 use Rattle.frame_lines.specs.declared.Counted.{Counted}
-use Rattle.frame_lines.specs.Inner.{linesIn, countedAll}
-use Rattle.endings.specs.declared.Ending.{Ending}
 use Rattle.replay.specs.declared.Replay.{Replay}
-use Rattle.replay.specs.Inner.{replayOf, endedOf, stepOf, textOf, Out, over, outOf}
+use Rattle.replay.specs.Inner.{replayOf, stepOf, textOf, Out, over, outOf}
 
 -- the records of a trace are those of the stream that has its form's size
 pub records-cut : (f : Form) (l : List ℕ) → recordsOf f l ≡ cutOf (sizeOf f) l
@@ -78,14 +74,3 @@ module _ (f : Form) (w : Show) where
 
   pub decided-stays : (rs : List (List ℕ)) (p : Replay) (t : List ℕ) → isDecided (p .trace .state) ≡ true → over f w (outOf p t) rs ≡ outOf p t
   decided-stays rs p t e = stays (p .trace .state) rs (p .trace .session) (p .counted) t e
-
--- with no lines there is the trace alone
-module _ (f : Form) where
-  no-lines : (es : List Ending) (c : Counted) → (linesIn Nothing c es ≡ []) × (countedAll Nothing c es ≡ c)
-  no-lines [] c = (refl, refl)
-  no-lines (e ∷ es) c = no-lines es c
-
-  pub silent : (rs : List (List ℕ)) (t : Trace) (c : Counted) → over f Nothing (outOf (replayOf t c) []) rs ≡ outOf (replayOf (trace.traced f t rs) c) []
-  silent [] t c = refl
-  silent (r ∷ rs) t c =
-      (λ i. over f Nothing (outOf (replayOf (trace.stepOf f t r) (no-lines (endedOf f t r) c .1 i)) (no-lines (endedOf f t r) c .0 i)) rs) ∙ silent rs (trace.stepOf f t r) c

@@ -21,7 +21,7 @@ use Rattle.session.specs.Call.{Ask}
 use Rattle.records.specs.declared.Form.{Form}
 use Rattle.records.specs.declared.Form.the-variants.{Short, Long}
 use Rattle.records.specs.Form.{sizeOf, headOf, mostOf}
-use Rattle.records.specs.Record.{lengthAt, recordBad, recordsOf}
+use Rattle.records.specs.Record.{lengthAt, recordBad}
 use Rattle.records.proofs.Fine.{Fine, fine}
 use Rattle.trace.specs.declared.State.{State}
 use Rattle.trace.specs.declared.State.the-variants.{Good, Bad, Refused}
@@ -34,6 +34,7 @@ use Rattle.trace.specs.Record.{recordAsk}
 use Rattle.trace.specs.Trace as trace
 use Rattle.trace.specs.Inner.{goingWith, goodWith, isDecided}
 use Rattle.trace.proofs.Runs.{step-sized}
+use Rattle.endings.specs.declared.Ending.{Ending}
 use Rattle.endings.specs.declared.Endings.{Endings}
 use Rattle.endings.specs.Inner.{noneTold, tellTaken, tellClosed, listIn}
 use Rattle.frame_lines.specs.declared.Show.{Show}
@@ -43,7 +44,7 @@ use Rattle.frame_lines.specs.Inner.{linesIn, countedAll}
 use Rattle.replay.specs.declared.Replay.{Replay}
 use Rattle.replay.specs.declared.Lined.{Lined}
 use Rattle.replay.specs.Inner.{noLines, replayOf, beginOf, tellSaid, Fits, stepOf, textOf, over, twoLines, roomFor, isSilent, outOf, Ran}
-use Rattle.replay.proofs.Over.{records-cut, size-least, decided-stays, silent}
+use Rattle.replay.proofs.Over.{size-least, decided-stays}
 
 -- ---- one record
 whole-size : (f : Form) → headOf f + mostOf f ≡ sizeOf f
@@ -89,14 +90,36 @@ tells-nothing f s r said e = ap (tellSaid f s r) (sym e)
 
 module _ (f : Form) (w : Show) (s : Rest) (m : List ℕ) (c : Counted) (r : List ℕ) where
   -- what the call answered, the frames that it ended, and their lines
-  pub one-leads : (g : Going) (m' : List ℕ) (x : Endings) (d : Counted) → goingWith g m' ≡ trace.stepOf f (goodWith s m) r → g .said ≡ trace.saidOf f (wholeOf s m) r
-      → x ≡ tellSaid f s r (g .said) → d ≡ countedAll w c (listIn x)
+  pub one-leads : (g : Going) (m' : List ℕ) (d : Counted) → goingWith g m' ≡ trace.stepOf f (goodWith s m) r → g .said ≡ trace.saidOf f (wholeOf s m) r
+      → d ≡ countedAll w c (listIn (tellSaid f s r (g .said)))
       → replayOf (record { session = wholeOf (g .rest) m'; state = g .state }) d ≡ stepOf f w (goodWith s m) c r
-  one-leads g m' x d e q t u = λ i. replayOf (e i) ((u ∙ ap (λ (y : Endings). countedAll w c (listIn y)) (t ∙ ap (tellSaid f s r) q)) i)
+  one-leads g m' d e q u = λ i. replayOf (e i) ((u ∙ ap (λ (y : Said). countedAll w c (listIn (tellSaid f s r y))) q) i)
 
-  pub one-text : (g : Going) (x : Endings) {old new : List ℕ} {at k : ℕ} → g .said ≡ trace.saidOf f (wholeOf s m) r → x ≡ tellSaid f s r (g .said)
-      → Put old at (linesIn w c (listIn x)) k new → Put old at (textOf f w (goodWith s m) c r) k new
-  one-text g x {old} {new} {at} {k} q t p = subst (λ (y : Endings). Put old at (linesIn w c (listIn y)) k new) (t ∙ ap (tellSaid f s r) q) p
+  pub one-text : (g : Going) {old new : List ℕ} {at k : ℕ} → g .said ≡ trace.saidOf f (wholeOf s m) r
+      → Put old at (linesIn w c (listIn (tellSaid f s r (g .said)))) k new → Put old at (textOf f w (goodWith s m) c r) k new
+  one-text g {old} {new} {at} {k} q p = subst (λ (y : Said). Put old at (linesIn w c (listIn (tellSaid f s r y))) k new) q p
+
+pub put-nothing : (old : List ℕ) (at : ℕ) → at ≤ length old → Put old at [] at old
+put-nothing old at h = record { next = omega arith; fits = h; bytes = paste-zero old at []; size = refl }
+
+-- the lines of the frames that a call ended, or none where none is shown
+module _ (w : Show) (c : Counted) (old : List ℕ) (at : ℕ) where
+  abbrev Lined' : List Ending → ℕ → List ℕ → Counted → Type 0
+  Lined' es r new d = Put old at (linesIn w c es) r new × ((d ≡ countedAll w c es) × (r ≤ at + twoLines))
+
+  pub lined-silent : (es : List Ending) (x : Bool) → x ≡ isSilent w → x ≡ true → at + twoLines ≤ length old → Lined' es at old c
+  lined-silent es x e q h =
+      let n = quiet w (sym e ∙ q) es c in
+      (subst (λ (l : List ℕ). Put old at l at old) (sym (n .0)) (put-nothing old at (omega arith)), (sym (n .1), omega arith))
+    where
+      quiet : (v : Show) → isSilent v ≡ true → (es : List Ending) (c : Counted) → (linesIn v c es ≡ []) × (countedAll v c es ≡ c)
+      quiet Nothing e [] c = (refl, refl)
+      quiet Nothing e (y ∷ ys) c = quiet Nothing e ys c
+      quiet Lines e es c = absurd (true≢false (sym e))
+      quiet Frames e es c = absurd (true≢false (sym e))
+
+  pub lined-told : (x y : Endings) (r : ℕ) (new : List ℕ) (d : Counted) → x ≡ y → Lined' (listIn x) r new d → Lined' (listIn y) r new d
+  lined-told x y r new d e l = subst (λ (z : Endings). Lined' (listIn z) r new d) e l
 
 pub begins : (o : Opening) (b : trace-begun.Begun) → b ≡ trace.beginOf o → record { replay = replayOf (b .trace) noLines; start = b .start } ≡ beginOf o
 begins o b e = ap (λ (y : trace-begun.Begun). record { replay = replayOf (y .trace) noLines; start = y .start }) e
@@ -113,9 +136,6 @@ pub record Following (f : Form) (w : Show) (p : Replay) (records old : List ℕ)
 
 pub ends-at : (f : Form) (size from len end : ℕ) → size ≡ sizeOf f → end ≡ nextOf size from len → end ≡ nextOf (sizeOf f) from len
 ends-at f size from len end e q = q ∙ ap (λ (n : ℕ). nextOf n from len) e
-
-pub put-nothing : (old : List ℕ) (at : ℕ) → at ≤ length old → Put old at [] at old
-put-nothing old at h = record { next = omega arith; fits = h; bytes = paste-zero old at []; size = refl }
 
 good-state : (z : State) → isDecided z ≡ false → z ≡ Good
 good-state Good e = refl
@@ -207,19 +227,6 @@ module _ (f : Form) (w : Show) (p : Replay) (records old : List ℕ) (start : �
     put = put-nothing old start (omega arith);
     most = omega arith;
   }
-
-  pub run-silent : (t : Trace) → isSilent w ≡ true → t ≡ trace.traced f (p .trace) (recordsOf f records) → Ran f w p records old start (record { replay = replayOf t (p .counted); at = start }) old
-  run-silent t e q = record {
-    text = [];
-    leads = ap (λ (y : Trace). outOf (replayOf y (p .counted)) []) (q ∙ ap (trace.traced f (p .trace)) (records-cut f records)) ∙ quiet w e;
-    put = put-nothing old start (omega arith);
-    most = omega arith;
-  }
-    where
-      quiet : (w : Show) → isSilent w ≡ true → outOf (replayOf (trace.traced f (p .trace) (cutOf (sizeOf f) records)) (p .counted)) [] ≡ over f w (outOf p []) (cutOf (sizeOf f) records)
-      quiet Nothing e = sym (silent f (cutOf (sizeOf f) records) (p .trace) (p .counted))
-      quiet Lines e = absurd (true≢false (sym e))
-      quiet Frames e = absurd (true≢false (sym e))
 
   pub run-follows : (x : Lined) (new : List ℕ) → isDecided (p .trace .state) ≡ false
       → Ran f w (replayOf (trace.goodOf (p .trace .session)) (p .counted)) records old start x new → Ran f w p records old start x new

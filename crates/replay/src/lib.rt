@@ -6,13 +6,15 @@ ghost use lib.ListN.{length, take};
 ghost use Rattle.text.specs.Put.{Put};
 ghost use Rattle.ledger.specs.Accounts.{numberCount};
 ghost use Rattle.records.specs.Form.{sizeOf};
-ghost use Rattle.session.specs.Inner.{wholeOf};
+ghost use Rattle.endings.specs.Inner.{listIn};
+ghost use Rattle.frame_lines.specs.Inner.{linesIn, countedAll};
 ghost use Rattle.trace.specs.Inner.{goodWith};
 ghost use Rattle.trace.specs.Trace.{goodOf};
 ghost use Rattle.replay.specs.Inner.{replayOf, beginOf, tellSaid, Fits, stepOf, textOf, stepWith, twoLines, roomFor, readRoom, isSilent, Ran, Rested, Fed};
 use endings::Endings;
 use endings::Told;
 use frame_lines::Counted;
+use frame_lines::Lines;
 use frame_lines::Show;
 use ledger::Numbers;
 use payload::Stamp;
@@ -101,6 +103,39 @@ fn told(form: Form, before: Rest, r: &[u8], said: Said) -> Endings
     }
 }
 
+// No line is printed of any frame.
+fn is_silent(show: Show) -> bool
+    ensures { λ r. ⌜ r ≡ isSilent show ⌝ }
+{
+    match show {
+        Show::Nothing => true,
+        Show::Replay => false,
+        Show::Frames => false,
+    }
+}
+
+// Their lines. Where none is printed, nothing is asked.
+fn put_lines(
+    form: Form,
+    show: Show,
+    before: Rest,
+    r: &[u8],
+    said: Said,
+    c: Counted,
+    out: &mut [u8],
+    at: usize,
+) -> Lines
+    requires { ⌜ Fits form (now r) said × (at + twoLines ≤ length (now out)) ⌝ }
+    ensures { λ x. ⌜ Put (now (out .entry)) at (linesIn show c (listIn (tellSaid form before (now (r .entry)) said))) (x .at) (now (out .exit)) ⌝ }
+    ensures { λ x. ⌜ (x .counted ≡ countedAll show c (listIn (tellSaid form before (now (r .entry)) said))) × (x .at ≤ at + twoLines) ⌝ }
+{
+    if is_silent(show) {
+        return Lines { counted: c, at };
+    }
+    let ended = told(form, before, r, said);
+    frame_lines::tell(out, at, show, c, ended)
+}
+
 // One record more of a good trace, and its lines.
 fn one(
     form: Form,
@@ -119,8 +154,7 @@ fn one(
 {
     let going = trace::step(form, s, m, r);
     let said = going.said;
-    let ended = told(form, s, r, said);
-    let lines = frame_lines::tell(out, at, show, c, ended);
+    let lines = put_lines(form, show, s, r, said, c, out, at);
     let rest = going.rest;
     let state = going.state;
     let counted = lines.counted;
@@ -192,17 +226,6 @@ fn follow(
     }
 }
 
-// No line is printed of any frame.
-fn is_silent(show: Show) -> bool
-    ensures { λ r. ⌜ r ≡ isSilent show ⌝ }
-{
-    match show {
-        Show::Nothing => true,
-        Show::Replay => false,
-        Show::Frames => false,
-    }
-}
-
 // So many records more, the last of which may be partial, and their lines.
 fn run(form: Form, show: Show, p: Replay, records: &[u8], out: &mut [u8], start: usize) -> Lined
     requires { ⌜ start + roomFor (length (now records)) ≤ length (now out) ⌝ }
@@ -214,15 +237,6 @@ fn run(form: Form, show: Show, p: Replay, records: &[u8], out: &mut [u8], start:
     if trace::decided(state) {
         return Lined {
             replay: p,
-            at: start,
-        };
-    }
-    if is_silent(show) {
-        return Lined {
-            replay: Replay {
-                trace: t.run(form, records),
-                counted: c,
-            },
             at: start,
         };
     }
