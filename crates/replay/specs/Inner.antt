@@ -9,7 +9,6 @@ use Rattle.sizes.specs.declared.Opening.{Opening}
 use Rattle.payload.specs.declared.Stamp.the-variants.{Absent}
 use Rattle.session.specs.declared.Rest.{Rest}
 use Rattle.session.specs.declared.Session.{Session}
-use Rattle.session.specs.Inner.{wholeOf}
 use Rattle.records.specs.declared.Form.{Form}
 use Rattle.records.specs.Form.{sizeOf, headOf}
 use Rattle.records.specs.Record.{lengthAt, bytesAt}
@@ -27,7 +26,6 @@ use Rattle.frame_lines.specs.declared.Counted.{Counted}
 use Rattle.frame_lines.specs.Inner.{lineMost, linesIn, countedAll}
 use Rattle.replay.specs.declared.Replay.{Replay}
 use Rattle.replay.specs.declared.Begun.{Begun}
-use Rattle.replay.specs.declared.Step.{Step}
 use Rattle.replay.specs.declared.Lined.{Lined}
 use Rattle.replay.specs.declared.Progress.{Progress}
 use Rattle.text.specs.Put.{Put}
@@ -83,10 +81,6 @@ over f w x [] = x
 over f w x (r ∷ rs) =
     over f w
     (record { replay = stepOf f w (x .replay .trace) (x .replay .counted) r; text = x .text ++ textOf f w (x .replay .trace) (x .replay .counted) r }) rs
-
--- a replay in two parts
-abbrev pub stepWith : Step → List ℕ → Replay
-stepWith x numbers = replayOf (record { session = wholeOf (x .rest) numbers; state = x .state }) (x .counted)
 
 -- the lines of a record have at most so many bytes; those of so many bytes of records
 abbrev pub twoLines : ℕ

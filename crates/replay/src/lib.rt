@@ -1,22 +1,19 @@
 // A trace that comes in reads of any size, read in constant memory, with a line for each frame that ended as it is shown.
 ghost use mathlib.Core.Path.{_≡_};
-ghost use Prim.Native.Nat.{_+_, _*_, _≤_, _<_};
-ghost use mathlib.Core.List.{[], _++_};
+ghost use Prim.Native.Nat.{_+_, _≤_, _<_};
+ghost use mathlib.Core.List.{_++_};
 ghost use lib.ListN.{length, take};
 ghost use Rattle.text.specs.Put.{Put};
-ghost use Rattle.ledger.specs.Accounts.{numberCount};
 ghost use Rattle.records.specs.Form.{sizeOf};
 ghost use Rattle.endings.specs.Inner.{listIn};
 ghost use Rattle.frame_lines.specs.Inner.{linesIn, countedAll};
-ghost use Rattle.trace.specs.Inner.{goodWith};
 ghost use Rattle.trace.specs.Trace.{goodOf};
-ghost use Rattle.replay.specs.Inner.{replayOf, beginOf, tellSaid, Fits, stepOf, textOf, stepWith, twoLines, roomFor, readRoom, isSilent, Ran, Rested, Fed};
+ghost use Rattle.replay.specs.Inner.{replayOf, beginOf, tellSaid, Fits, twoLines, roomFor, readRoom, isSilent, Ran, Rested, Fed};
 use endings::Endings;
 use endings::Told;
 use frame_lines::Counted;
 use frame_lines::Lines;
 use frame_lines::Show;
-use ledger::Numbers;
 use payload::Stamp;
 use records::Form;
 use session::Rest;
@@ -55,14 +52,6 @@ pub struct Lined {
 pub struct Progress {
     pub reader: Reader,
     pub wrote: usize,
-}
-
-// A replay but for its ledger's numbers, and the place after the lines.
-struct Step {
-    rest: Rest,
-    state: State,
-    counted: Counted,
-    at: usize,
 }
 
 // No records yet.
@@ -136,36 +125,6 @@ fn put_lines(
     frame_lines::tell(out, at, show, c, ended)
 }
 
-// One record more of a good trace, and its lines.
-fn one(
-    form: Form,
-    show: Show,
-    s: Rest,
-    m: &mut Numbers,
-    c: Counted,
-    r: &[u8],
-    out: &mut [u8],
-    at: usize,
-) -> Step
-    requires { ⌜ (length (now m) ≡ numberCount) × (at + twoLines ≤ length (now out)) ⌝ }
-    ensures { λ x. ⌜ stepWith x (now (m .exit)) ≡ stepOf form show (goodWith s (now (m .entry))) c (now (r .entry)) ⌝ }
-    ensures { λ x. ⌜ Put (now (out .entry)) at (textOf form show (goodWith s (now (m .entry))) c (now (r .entry))) (x .at) (now (out .exit)) ⌝ }
-    ensures { λ x. ⌜ x .at ≤ at + twoLines ⌝ }
-{
-    let going = trace::step(form, s, m, r);
-    let said = going.said;
-    let lines = put_lines(form, show, s, r, said, c, out, at);
-    let rest = going.rest;
-    let state = going.state;
-    let counted = lines.counted;
-    Step {
-        rest,
-        state,
-        counted,
-        at: lines.at,
-    }
-}
-
 // A good trace goes on, record by record. Its ledger's numbers are taken out once, for all of them.
 fn follow(
     form: Form,
@@ -186,20 +145,22 @@ fn follow(
     let mut from = 0;
     while from < records.len() {
         let end = cuts::next(form.size(), from, records.len());
-        let step = one(
+        let going = trace::step(form, rest, &mut numbers, &records[from..end]);
+        let said = going.said;
+        let lines = put_lines(
             form,
             show,
             rest,
-            &mut numbers,
-            counted,
             &records[from..end],
+            said,
+            counted,
             out,
             at,
         );
-        rest = step.rest;
-        counted = step.counted;
-        at = step.at;
-        let state = step.state;
+        rest = going.rest;
+        counted = lines.counted;
+        at = lines.at;
+        let state = going.state;
         if trace::decided(state) {
             return Lined {
                 replay: Replay {

@@ -1,10 +1,10 @@
 use Prim.Native.Nat.{_-_}
 use mathlib.Core.Path.{_∙_}
+use native.Mathlib.Omega.{arith}
 use lib.ListN.{length}
 use Rattle.trace.specs.Inner.{goodWith}
 use Rattle.replay.specs.Inner.{replayOf}
-use native.Mathlib.Omega.{arith}
-use Rattle.replay.proofs.Steps.{Following, ends-at, follow-begins, follow-room, next-here, follow-decides, follow-on, follow-ends}
+use Rattle.replay.proofs.Steps.{Following, fits-said, one-leads, one-text, ends-at, follow-begins, follow-room, next-here, follow-decides, follow-on, follow-ends}
 use borrow.Author.Needs.{needs}
 use Rattle.replay.proofs.follow.Statement.{statement}
 use Rattle.replay.proofs.follow.Tie as tie
@@ -17,59 +17,75 @@ abbrev μ-loop : tie.MeasureT-loop
 μ-loop form show records out₀ start numbers₀ rest₀ counted₀ at₀ from₀ out numbers rest counted at from =
     length records - from
 
--- src/lib.rt:136:5
+-- src/lib.rt:149:5
 loop-holds : tie.Need-loop-holds Inv-loop μ-loop
 loop-holds c = follow-begins _ _ _ _ _ _ _ _ (c .before .before .before .before .pre) (search needs)
 
--- src/lib.rt:137:30
+-- src/lib.rt:150:30
 size-requires : tie.Need-size-requires Inv-loop μ-loop
 size-requires c κs = search needs
 
--- src/lib.rt:137:13
+-- src/lib.rt:150:13
 next-requires : tie.Need-next-requires Inv-loop μ-loop
 next-requires c κs = search needs
 
--- src/lib.rt:138:65
-sub-one : tie.Need-sub-one Inv-loop μ-loop
-sub-one c = let u = next-here _ _ _ _ _ _ _ _ _ _ _ _ (c .before .before .before .before .loop .inv) (c .before .before .before .loop-test .taken) _ (ends-at (c .before .before .before .before .before .before .before .before .before .args .form) _ _ _ _ (c .before .before .size .ensures) (c .before .next .ensures)) in omega (arith, u .on)
+-- src/lib.rt:151:59
+sub-step : tie.Need-sub-step Inv-loop μ-loop
+sub-step c = let u = next-here _ _ _ _ _ _ _ _ _ _ _ _ (c .before .before .before .before .loop .inv) (c .before .before .before .loop-test .taken) _ (ends-at (c .before .before .before .before .before .before .before .before .before .args .form) _ _ _ _ (c .before .before .size .ensures) (c .before .next .ensures)) in omega (arith, u .on)
 
--- src/lib.rt:138:65
-part-one-start : tie.Need-part-one-start Inv-loop μ-loop
-part-one-start c = let u = next-here _ _ _ _ _ _ _ _ _ _ _ _ (c .before .before .before .before .loop .inv) (c .before .before .before .loop-test .taken) _ (ends-at (c .before .before .before .before .before .before .before .before .before .args .form) _ _ _ _ (c .before .before .size .ensures) (c .before .next .ensures)) in omega (arith, u .on)
+-- src/lib.rt:151:59
+part-step-start : tie.Need-part-step-start Inv-loop μ-loop
+part-step-start c = let u = next-here _ _ _ _ _ _ _ _ _ _ _ _ (c .before .before .before .before .loop .inv) (c .before .before .before .loop-test .taken) _ (ends-at (c .before .before .before .before .before .before .before .before .before .args .form) _ _ _ _ (c .before .before .size .ensures) (c .before .next .ensures)) in omega (arith, u .on)
 
--- src/lib.rt:138:65
-part-one-end : tie.Need-part-one-end Inv-loop μ-loop
-part-one-end c = let u = next-here _ _ _ _ _ _ _ _ _ _ _ _ (c .before .before .before .before .loop .inv) (c .before .before .before .loop-test .taken) _ (ends-at (c .before .before .before .before .before .before .before .before .before .args .form) _ _ _ _ (c .before .before .size .ensures) (c .before .next .ensures)) in omega (arith, u .within)
+-- src/lib.rt:151:59
+part-step-end : tie.Need-part-step-end Inv-loop μ-loop
+part-step-end c = let u = next-here _ _ _ _ _ _ _ _ _ _ _ _ (c .before .before .before .before .loop .inv) (c .before .before .before .loop-test .taken) _ (ends-at (c .before .before .before .before .before .before .before .before .before .args .form) _ _ _ _ (c .before .before .size .ensures) (c .before .next .ensures)) in omega (arith, u .within)
 
--- src/lib.rt:138:13
-one-requires : tie.Need-one-requires Inv-loop μ-loop
-one-requires c κs = (c .before .before .before .before .before .before .loop .inv .places, follow-room _ _ _ _ _ _ _ _ _ _ _ _ (c .before .before .before .before .before .before .loop .inv) (c .before .before .before .before .before .loop-test .taken) (c .before .before .before .before .before .before .before .before .before .before .before .pre))
+-- src/lib.rt:151:13
+step-requires : tie.Need-step-requires Inv-loop μ-loop
+step-requires c κs = c .before .before .before .before .before .loop .inv .places
 
--- src/lib.rt:143:12
+-- src/lib.rt:153:49
+sub-put-lines : tie.Need-sub-put-lines Inv-loop μ-loop
+sub-put-lines c = let u = next-here _ _ _ _ _ _ _ _ _ _ _ _ (c .before .before .before .before .before .before .loop .inv) (c .before .before .before .before .before .loop-test .taken) _ (ends-at (c .before .before .before .before .before .before .before .before .before .before .before .args .form) _ _ _ _ (c .before .before .before .before .size .ensures) (c .before .before .before .next .ensures)) in omega (arith, u .on)
+
+-- src/lib.rt:153:49
+part-put-lines-start : tie.Need-part-put-lines-start Inv-loop μ-loop
+part-put-lines-start c = let u = next-here _ _ _ _ _ _ _ _ _ _ _ _ (c .before .before .before .before .before .before .loop .inv) (c .before .before .before .before .before .loop-test .taken) _ (ends-at (c .before .before .before .before .before .before .before .before .before .before .before .args .form) _ _ _ _ (c .before .before .before .before .size .ensures) (c .before .before .before .next .ensures)) in omega (arith, u .on)
+
+-- src/lib.rt:153:49
+part-put-lines-end : tie.Need-part-put-lines-end Inv-loop μ-loop
+part-put-lines-end c = let u = next-here _ _ _ _ _ _ _ _ _ _ _ _ (c .before .before .before .before .before .before .loop .inv) (c .before .before .before .before .before .loop-test .taken) _ (ends-at (c .before .before .before .before .before .before .before .before .before .before .before .args .form) _ _ _ _ (c .before .before .before .before .size .ensures) (c .before .before .before .next .ensures)) in omega (arith, u .within)
+
+-- src/lib.rt:153:13
+put-lines-requires : tie.Need-put-lines-requires Inv-loop μ-loop
+put-lines-requires c κs = (fits-said _ _ _ _ (c .before .before .step .ensures .1), follow-room _ _ _ _ _ _ _ _ _ _ _ _ (c .before .before .before .before .before .before .before .before .loop .inv) (c .before .before .before .before .before .before .before .loop-test .taken) (c .before .before .before .before .before .before .before .before .before .before .before .before .before .pre))
+
+-- src/lib.rt:158:12
 decided-requires : tie.Need-decided-requires Inv-loop μ-loop
 decided-requires c κs = search needs
 
--- src/lib.rt:144:13
+-- src/lib.rt:159:13
 same-length : tie.Need-same-length Inv-loop μ-loop
-same-length c = c .before .before .before .before .before .before .one .ensures .1 .0 .size ∙ c .before .before .before .before .before .before .before .before .before .before .before .before .before .loop .inv .put .size
+same-length c = c .before .before .before .before .before .before .put-lines .ensures .0 .size ∙ c .before .before .before .before .before .before .before .before .before .before .before .before .before .before .before .loop .inv .put .size
 
--- src/lib.rt:144:13
+-- src/lib.rt:159:13
 returns : tie.Need-returns Inv-loop μ-loop
-returns c = follow-decides _ _ _ _ _ _ _ _ _ _ _ _ (c .before .before .before .before .before .before .before .before .before .before .before .before .before .loop .inv) (c .before .before .before .before .before .before .before .before .before .before .before .before .loop-test .taken) _ (ends-at (c .before .before .before .before .before .before .before .before .before .before .before .before .before .before .before .before .before .before .args .form) _ _ _ _ (c .before .before .before .before .before .before .before .before .before .before .before .size .ensures) (c .before .before .before .before .before .before .before .before .before .before .next .ensures)) _ _ _ _ _ _ (c .before .before .before .before .before .before .one .ensures .0) (c .before .before .before .before .before .before .one .ensures .1 .0) (c .before .before .before .before .before .before .one .ensures .1 .1) _ (c .before .decided .ensures) (c .if1 .taken)
+returns c = follow-decides _ _ _ _ _ _ _ _ _ _ _ _ (c .before .before .before .before .before .before .before .before .before .before .before .before .before .before .before .loop .inv) (c .before .before .before .before .before .before .before .before .before .before .before .before .before .before .loop-test .taken) _ (ends-at (c .before .before .before .before .before .before .before .before .before .before .before .before .before .before .before .before .before .before .before .before .args .form) _ _ _ _ (c .before .before .before .before .before .before .before .before .before .before .before .before .before .size .ensures) (c .before .before .before .before .before .before .before .before .before .before .before .before .next .ensures)) _ _ _ _ _ _ (one-leads _ _ _ _ _ _ (c .before .before .before .before .before .before .before .before .before .step .result) _ _ (c .before .before .before .before .before .before .before .before .before .step .ensures .0) (c .before .before .before .before .before .before .before .before .before .step .ensures .1) (c .before .before .before .before .before .before .put-lines .ensures .1 .0)) (one-text _ _ _ _ _ _ (c .before .before .before .before .before .before .before .before .before .step .result) (c .before .before .before .before .before .before .before .before .before .step .ensures .1) (c .before .before .before .before .before .before .put-lines .ensures .0)) (c .before .before .before .before .before .before .put-lines .ensures .1 .1) _ (c .before .decided .ensures) (c .if1 .taken)
 
--- src/lib.rt:136:5
+-- src/lib.rt:149:5
 loop-less : tie.Need-loop-less Inv-loop μ-loop
-loop-less c = let u = next-here _ _ _ _ _ _ _ _ _ _ _ _ (c .before .before .before .before .before .before .before .before .before .before .before .before .before .loop .inv) (c .before .before .before .before .before .before .before .before .before .before .before .before .loop-test .taken) _ (ends-at (c .before .before .before .before .before .before .before .before .before .before .before .before .before .before .before .before .before .before .args .form) _ _ _ _ (c .before .before .before .before .before .before .before .before .before .before .before .size .ensures) (c .before .before .before .before .before .before .before .before .before .before .next .ensures)) in omega (arith, u .on, u .within)
+loop-less c = let u = next-here _ _ _ _ _ _ _ _ _ _ _ _ (c .before .before .before .before .before .before .before .before .before .before .before .before .before .before .before .loop .inv) (c .before .before .before .before .before .before .before .before .before .before .before .before .before .before .loop-test .taken) _ (ends-at (c .before .before .before .before .before .before .before .before .before .before .before .before .before .before .before .before .before .before .before .before .args .form) _ _ _ _ (c .before .before .before .before .before .before .before .before .before .before .before .before .before .size .ensures) (c .before .before .before .before .before .before .before .before .before .before .before .before .next .ensures)) in omega (arith, u .on, u .within)
 
--- src/lib.rt:136:5
+-- src/lib.rt:149:5
 loop-again : tie.Need-loop-again Inv-loop μ-loop
-loop-again c = follow-on _ _ _ _ _ _ _ _ _ _ _ _ (c .before .before .before .before .before .before .before .before .before .before .before .before .before .loop .inv) (c .before .before .before .before .before .before .before .before .before .before .before .before .loop-test .taken) _ (ends-at (c .before .before .before .before .before .before .before .before .before .before .before .before .before .before .before .before .before .before .args .form) _ _ _ _ (c .before .before .before .before .before .before .before .before .before .before .before .size .ensures) (c .before .before .before .before .before .before .before .before .before .before .next .ensures)) _ _ _ _ _ _ (c .before .before .before .before .before .before .one .ensures .0) (c .before .before .before .before .before .before .one .ensures .1 .0) (c .before .before .before .before .before .before .one .ensures .1 .1) _ (c .before .decided .ensures) (c .if1 .left)
+loop-again c = follow-on _ _ _ _ _ _ _ _ _ _ _ _ (c .before .before .before .before .before .before .before .before .before .before .before .before .before .before .before .loop .inv) (c .before .before .before .before .before .before .before .before .before .before .before .before .before .before .loop-test .taken) _ (ends-at (c .before .before .before .before .before .before .before .before .before .before .before .before .before .before .before .before .before .before .before .before .args .form) _ _ _ _ (c .before .before .before .before .before .before .before .before .before .before .before .before .before .size .ensures) (c .before .before .before .before .before .before .before .before .before .before .before .before .next .ensures)) _ _ _ _ _ _ (one-leads _ _ _ _ _ _ (c .before .before .before .before .before .before .before .before .before .step .result) _ _ (c .before .before .before .before .before .before .before .before .before .step .ensures .0) (c .before .before .before .before .before .before .before .before .before .step .ensures .1) (c .before .before .before .before .before .before .put-lines .ensures .1 .0)) (one-text _ _ _ _ _ _ (c .before .before .before .before .before .before .before .before .before .step .result) (c .before .before .before .before .before .before .before .before .before .step .ensures .1) (c .before .before .before .before .before .before .put-lines .ensures .0)) (c .before .before .before .before .before .before .put-lines .ensures .1 .1) _ (c .before .decided .ensures) (c .if1 .left)
 
--- src/lib.rt:127:1
+-- src/lib.rt:132:1
 same-length-2 : tie.Need-same-length-2 Inv-loop μ-loop
 same-length-2 c = c .before .loop .inv .put .size
 
--- src/lib.rt:127:1
+-- src/lib.rt:132:1
 returns-2 : tie.Need-returns-2 Inv-loop μ-loop
 returns-2 c = follow-ends _ _ _ _ _ _ _ _ _ _ _ _ (c .before .loop .inv) (c .loop-test .left)
 
@@ -82,10 +98,14 @@ follow-spec =
     loop-holds
     size-requires
     next-requires
-    sub-one
-    part-one-start
-    part-one-end
-    one-requires
+    sub-step
+    part-step-start
+    part-step-end
+    step-requires
+    sub-put-lines
+    part-put-lines-start
+    part-put-lines-end
+    put-lines-requires
     decided-requires
     same-length
     returns
