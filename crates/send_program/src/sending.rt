@@ -39,7 +39,14 @@ fn no_record() -> [u8; 3076]
 }
 
 // The transfers of one frame, to its last.
-fn one(first: Sender, frame: &[u8], payload: usize, stamp: Stamp, room: &mut [u8], out: &mut [u8]) -> Went
+fn one(
+    first: Sender,
+    frame: &[u8],
+    payload: usize,
+    stamp: Stamp,
+    room: &mut [u8],
+    out: &mut [u8],
+) -> Went
     requires { ⌜ (length (now room) ≡ dataMost) × (length (now out) ≡ longSize) ⌝ }
 {
     let mut x = first;
@@ -113,25 +120,42 @@ fn is_sent(went: Went) -> bool {
 }
 
 // The files of the arguments from `first` on; whether all were sent.
-fn frames(payload: usize, stamped: bool, ticks: u32, first: usize, count: usize, buffer: &mut [u8], room: &mut [u8], out: &mut [u8]) -> bool
+fn frames(
+    payload: usize,
+    stamped: bool,
+    ticks: u32,
+    first: usize,
+    count: usize,
+    buffer: &mut [u8],
+    room: &mut [u8],
+    out: &mut [u8],
+) -> bool
     requires { ⌜ (length (now room) ≡ dataMost) × (length (now out) ≡ longSize) ⌝ }
 {
     let mut x = Sender::new();
     let mut stamp: u32 = 0;
     let mut i = first;
     while i < count {
+        let after = i + 1;
         let file = files::load(i, buffer);
         if !file.fine {
             return false;
         }
         let n = file.count;
-        let went = one(x, &buffer[..n], payload, stamp_of(stamped, stamp), room, out);
+        let went = one(
+            x,
+            &buffer[..n],
+            payload,
+            stamp_of(stamped, stamp),
+            room,
+            out,
+        );
         if !is_sent(went) {
             return false;
         }
         x = x.next();
         stamp = send_records::later(stamp, ticks);
-        i += 1;
+        i = after;
     }
     true
 }
@@ -140,7 +164,16 @@ pub fn all(payload: usize, stamped: bool, ticks: u32, first: usize, count: usize
     let mut buffer = no_frame();
     let mut room = no_room();
     let mut out = no_record();
-    if frames(payload, stamped, ticks, first, count, &mut buffer, &mut room, &mut out) {
+    if frames(
+        payload,
+        stamped,
+        ticks,
+        first,
+        count,
+        &mut buffer,
+        &mut room,
+        &mut out,
+    ) {
         close(&mut out);
     }
 }

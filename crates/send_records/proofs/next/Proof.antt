@@ -22,9 +22,10 @@ same-length-2 : tie.Need-same-length-2
 same-length-2 c = search needs
 
 returns : tie.Need-returns
-returns c =
-    (sized _ _ _ _ _ _ (c .before .before .before .before .before .before .before .before .before .before .before .before .before .before .pre .0) (c .before .before .before .before .before .before .before .before .before .send .ensures .0),
-    recorded _ _ _ _ _ _ _ _ _ _ _ (c .before .before .before .before .before .before .before .before .before .send .ensures .0) (c .before .before .before .before .before .before .before .before .before .send .ensures .1) (c .before .before .before .before .before .before .is-wrote .ensures) (c .before .before .before .before .before .size-in .ensures) (c .before .before .«record» .ensures))
+returns c = (
+  sized _ _ _ _ _ _ (c .before .before .before .before .before .before .before .before .before .before .before .before .before .before .pre .0) (c .before .before .before .before .before .before .before .before .before .send .ensures .0),
+  recorded _ _ _ _ _ _ _ _ _ _ _ (c .before .before .before .before .before .before .before .before .before .send .ensures .0) (c .before .before .before .before .before .before .before .before .before .send .ensures .1) (c .before .before .before .before .before .before .is-wrote .ensures) (c .before .before .before .before .before .size-in .ensures) (c .before .before .«record» .ensures),
+)
 
 pub next-spec : {M : Type 1} → statement M
 next-spec =
