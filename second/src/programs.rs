@@ -31,7 +31,7 @@ struct Run {
 
 /// Whether the launcher has `replay`, `frames` and `convert`; and whether it has `send`.
 const TRACES: bool = true;
-const SENDER: bool = false;
+const SENDER: bool = true;
 
 /// A short trace, mostly of some records.
 fn trace(r: &mut Random, form: &Form, opening: &Opening) -> Vec<u8> {

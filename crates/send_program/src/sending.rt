@@ -74,6 +74,12 @@ fn one(
     Went::Sent
 }
 
+// One byte FF behind what was written, so that a trace which breaks off does not pass for a whole one.
+fn break_off() {
+    let stop = [255u8];
+    io::write_all(STDOUT_FILENO, &stop);
+}
+
 // The number and its words.
 fn refused(number: u8) {
     let mut text = io::buffer();
@@ -175,5 +181,7 @@ pub fn all(payload: usize, stamped: bool, ticks: u32, first: usize, count: usize
         &mut out,
     ) {
         close(&mut out);
+    } else {
+        break_off();
     }
 }
