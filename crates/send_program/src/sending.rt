@@ -1,6 +1,5 @@
 // Each file is a frame: its transfers are written as records, one by one.
 ghost use mathlib.Core.Path.{_≡_};
-ghost use Prim.Native.Nat.{_≤_};
 ghost use lib.ListN.{length};
 ghost use Rattle.long_records.specs.Long.{longSize, dataMost};
 use console::files;

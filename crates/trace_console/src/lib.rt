@@ -1,6 +1,6 @@
 // What the programs that read a trace share: it is read in constant memory, and the lines of each read are printed behind it. No contract can say what is read or written.
 ghost use mathlib.Core.Path.{_≡_};
-ghost use Prim.Native.Nat.{_+_, _*_, _≤_, _<_};
+ghost use Prim.Native.Nat.{_≤_, _<_};
 ghost use lib.ListN.{length};
 ghost use Rattle.records.specs.Form.{sizeOf};
 ghost use Rattle.replay.specs.Inner.{readRoom};
