@@ -1,4 +1,7 @@
 // A call's words, one after another. No contract can say what an argument is: each step is one word.
+ghost use mathlib.Core.Path.{_≡_};
+ghost use Rattle.trace.specs.Trace.{replaySizes};
+ghost use Rattle.trace_arguments.specs.Words.{openingOf};
 use crate::Word;
 use arguments::Number;
 use records::Form;
@@ -32,16 +35,23 @@ pub fn is_right(call: Call) -> bool {
     }
 }
 
-// The call of the arguments from `first` on. Options stand in any order, before or behind the file; a later one takes an earlier one's place.
-pub fn read(first: usize) -> Call {
-    let mut text = io::buffer();
-    let mut call = Call {
+// No word yet: a replay's own sizes, and long records.
+fn no_word() -> Call
+    ensures { λ r. ⌜ openingOf (r .frame) (r .payload) ≡ replaySizes ⌝ }
+{
+    Call {
         awaits: Awaits::Any,
         frame: 61_440,
         payload: 3_072,
         form: Form::Long,
         file: 0,
-    };
+    }
+}
+
+// The call of the arguments from `first` on. Options stand in any order, before or behind the file; a later one takes an earlier one's place.
+pub fn read(first: usize) -> Call {
+    let mut text = io::buffer();
+    let mut call = no_word();
     let count = os::arg_count();
     let mut i = first;
     while i < count {

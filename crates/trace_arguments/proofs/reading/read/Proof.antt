@@ -11,39 +11,55 @@ Inv-loop first text₀ call₀ count i₀ text call i = length text ≡ 4096
 abbrev μ-loop : tie.MeasureT-loop
 μ-loop first text₀ call₀ count i₀ text call i = count - i
 
+-- src/reading.rt:53:20
 buffer-requires : tie.Need-buffer-requires Inv-loop μ-loop
 buffer-requires c κs = search needs
 
+-- src/reading.rt:54:9
+no-word-requires : tie.Need-no-word-requires Inv-loop μ-loop
+no-word-requires c κs = search needs
+
+-- src/reading.rt:55:9
 arg-count-requires : tie.Need-arg-count-requires Inv-loop μ-loop
 arg-count-requires c κs = search needs
 
+-- src/reading.rt:57:5
 loop-holds : tie.Need-loop-holds Inv-loop μ-loop
 loop-holds c = search needs
 
+-- src/reading.rt:58:28
 slice-aggregate-arg : tie.Need-slice-aggregate-arg Inv-loop μ-loop
 slice-aggregate-arg c = search needs
 
+-- src/reading.rt:58:13
 arg-requires : tie.Need-arg-requires Inv-loop μ-loop
 arg-requires c κs = search needs
 
+-- src/reading.rt:59:30
 array-share-prefix-text : tie.Need-array-share-prefix-text Inv-loop μ-loop
 array-share-prefix-text c = search needs
 
+-- src/reading.rt:59:30
 slice-aggregate-take : tie.Need-slice-aggregate-take Inv-loop μ-loop
 slice-aggregate-take c = search needs
 
+-- src/reading.rt:59:9
 take-requires : tie.Need-take-requires Inv-loop μ-loop
 take-requires c κs = search needs
 
+-- src/reading.rt:60:9
 add-i : tie.Need-add-i Inv-loop μ-loop
 add-i c = search needs
 
+-- src/reading.rt:57:5
 loop-less : tie.Need-loop-less Inv-loop μ-loop
 loop-less c = search needs
 
+-- src/reading.rt:57:5
 loop-again : tie.Need-loop-again Inv-loop μ-loop
 loop-again c = search needs
 
+-- src/reading.rt:52:1
 returns : tie.Need-returns Inv-loop μ-loop
 returns c = search needs
 
@@ -54,6 +70,7 @@ read-spec =
     Inv-loop
     μ-loop
     buffer-requires
+    no-word-requires
     arg-count-requires
     loop-holds
     slice-aggregate-arg
