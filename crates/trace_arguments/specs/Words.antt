@@ -9,6 +9,8 @@ use Rattle.sizes.specs.declared.Opening.{Opening}
 use Rattle.sizes.specs.declared.HeaderKind.the-variants.{Old}
 use Rattle.trace_arguments.specs.declared.Word.{Word}
 use Rattle.trace_arguments.specs.declared.Word.the-variants.{Sizes, Short, Stamp, Unknown, File}
+use Rattle.trace_arguments.specs.declared.reading.Awaits.{Awaits}
+use Rattle.trace_arguments.specs.declared.reading.Awaits.the-variants.{Any, Frame, Payload, Nothing}
 
 -- two dashes at its front
 abbrev pub dashed : List ℕ → Bool
@@ -27,3 +29,10 @@ pub data Reads (word : List ℕ) : Word → Type 0 where
 -- frames that end by EOF, the old kind of header, and these sizes
 abbrev pub openingOf : ℕ → ℕ → Opening
 openingOf frame payload = record { frame = frame; payload = payload; framing = 3; kind = Old }
+
+-- a call is right where no word was wrong, and none is missing behind `--sizes`
+abbrev pub isRight : Awaits → Bool
+isRight Any = true
+isRight Frame = false
+isRight Payload = false
+isRight Nothing = false

@@ -1,7 +1,7 @@
 // A call's words, one after another. No contract can say what an argument is: each step is one word.
 ghost use mathlib.Core.Path.{_≡_};
 ghost use Rattle.trace.specs.Trace.{replaySizes};
-ghost use Rattle.trace_arguments.specs.Words.{openingOf};
+ghost use Rattle.trace_arguments.specs.Words.{openingOf, isRight};
 use crate::Word;
 use arguments::Number;
 use records::Form;
@@ -25,7 +25,9 @@ pub struct Call {
 }
 
 // Whether no word is wrong and none is missing.
-pub fn is_right(call: Call) -> bool {
+pub fn is_right(call: Call) -> bool
+    ensures { λ r. ⌜ r ≡ isRight (call .awaits) ⌝ }
+{
     let awaits = call.awaits;
     match awaits {
         Awaits::Any => true,

@@ -4,6 +4,19 @@ use crate::blocks::*;
 use crate::cases::Case;
 use crate::frames::{Call, HeaderKind, Opening};
 
+/// The calls of document 01's ledger sample.
+pub fn ledger_sample() -> Vec<Call> {
+    vec![
+        send(0, &[0xAA, 0xBB]),
+        send(EOF, &[0xCC]),
+        send(EOF, &[0xDD]),
+        send(FID, &[0xEE]),
+        send(0, &[0x11]),
+        Call::Transfer(vec![2]),
+        send(EOF, &[0x22]),
+    ]
+}
+
 pub fn all() -> Vec<Case> {
     let mut all = transfers();
     all.extend(frames());
@@ -93,16 +106,7 @@ fn frames() -> Vec<Case> {
         closed.push(Call::Close);
         all.push(session(8, 32, 12, closed));
     };
-    // The ledger of document 01.
-    add(vec![
-        send(0, &[0xAA, 0xBB]),
-        send(EOF, &[0xCC]),
-        send(EOF, &[0xDD]),
-        send(FID, &[0xEE]),
-        send(0, &[0x11]),
-        Call::Transfer(vec![2]),
-        send(EOF, &[0x22]),
-    ]);
+    add(ledger_sample());
     add(vec![]);
     add(vec![send(EOF, &[])]);
     add(vec![send(0, &[]), send(EOF, &[])]);

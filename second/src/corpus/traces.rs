@@ -2,6 +2,7 @@
 
 use crate::blocks::*;
 use crate::cases::{Case, Traced, SHOWS};
+use crate::corpus::calls::ledger_sample;
 use crate::frames::{Call, Opening};
 use crate::traces::{Form, Show, LEDGER, LONG, REPLAY, SHORT};
 
@@ -47,15 +48,7 @@ fn sample() -> Vec<Call> {
 
 /// The samples of both documents, in both forms, in reads that split a record and in ones that hold several; and no records.
 fn samples() -> Vec<Case> {
-    let bill = vec![
-        send(0, &[0xAA, 0xBB]),
-        send(EOF, &[0xCC]),
-        send(EOF, &[0xDD]),
-        send(FID, &[0xEE]),
-        send(0, &[0x11]),
-        Call::Transfer(vec![2]),
-        send(EOF, &[0x22]),
-    ];
+    let bill = ledger_sample();
     let mut all = Vec::new();
     for show in SHOWS {
         for calls in [&bill[..], &sample(), &[], &[Call::Close]] {
