@@ -7,7 +7,7 @@ use mathlib.Core.Logic.{_↔_}
 use native.Mathlib.Omega.{arith}
 use lib.Dec.{ltb}
 use borrow.Author.Tests.{ltb-false}
-use Rattle.rules.specs.Pick.{pick}
+use Rattle.rules.specs.IfElse.{ifElse}
 use Rattle.arguments.specs.Digits.{noDigit, next, spelt, numberOf, numberOr, byteOf}
 use Rattle.arguments.specs.declared.Number.{Number}
 use Rattle.arguments.specs.declared.Number.the-variants.{Is, None}
@@ -21,11 +21,11 @@ second-down true b e = absurd (let z : _≡_ {A = ℕ} 0 1 = cc in omega arith)
 
 module _ (most : ℕ) where
   spelt-most : (v : ℕ) (l : List ℕ) (n : ℕ) → v ≤ most → spelt most v l ≡ Is n → n ≤ most
-  unfolding spelt pick
+  unfolding spelt ifElse
   spelt-most v [] n h e = let q : v ≡ n = cc in omega arith
   spelt-most v (d ∷ l) n h e = go (noDigit d || ltb most (next v d)) refl e (λ k q. spelt-most (next v d) l n k q)
     where
-      go : (b : Bool) → (noDigit d || ltb most (next v d)) ≡ b → pick b None (spelt most (next v d) l) ≡ Is n →
+      go : (b : Bool) → (noDigit d || ltb most (next v d)) ≡ b → ifElse b None (spelt most (next v d) l) ≡ Is n →
           (next v d ≤ most → spelt most (next v d) l ≡ Is n → n ≤ most) → n ≤ most
       go true p q rest = absurd (not-none n q)
       go false p q rest = rest (ltb-false most (next v d) (second-down (noDigit d) (ltb most (next v d)) p)) q

@@ -9,7 +9,7 @@ use lib.Dec.{ltb}
 use borrow.Author.Tests.{lt-ltb, le-ltb}
 use native.Mathlib.Numerals.{add-one}
 use native.Mathlib.Omega.{arith}
-use Rattle.rules.specs.Pick.{pick}
+use Rattle.rules.specs.IfElse.{ifElse}
 use Rattle.arguments.specs.Digits.{noDigit, next, spelt, numberOf}
 use Rattle.arguments.specs.declared.Number.the-variants.{Is, None}
 
@@ -46,26 +46,26 @@ module _ (most : ℕ) (l : List ℕ) where
         go (d ∷ m) e q = absurd (omega arith)
 
     module _ (h : i < length l) where
-      here : pick (noDigit (getD l i 0) || ltb most (next v (getD l i 0))) None (spelt most (next v (getD l i 0)) (drop (suc i) l)) ≡ numberOf most l
+      here : ifElse (noDigit (getD l i 0) || ltb most (next v (getD l i 0))) None (spelt most (next v (getD l i 0)) (drop (suc i) l)) ≡ numberOf most l
       unfolding spelt
       here = rw (drop-cons l i 0 h) at (w .same)
 
       pub below-digits : getD l i 0 < 48 → None ≡ numberOf most l
-      unfolding pick
+      unfolding ifElse
       below-digits k = rw (lt-ltb (getD l i 0) 48 k) at here
 
       module _ (a : 48 ≤ getD l i 0) where
         pub above-digits : 57 < getD l i 0 → None ≡ numberOf most l
-        unfolding pick
+        unfolding ifElse
         above-digits k = rw (le-ltb (getD l i 0) 48 a, lt-ltb 57 (getD l i 0) k) at here
 
         module _ (b : getD l i 0 ≤ 57) where
           pub too-large : most < next v (getD l i 0) → None ≡ numberOf most l
-          unfolding pick
+          unfolding ifElse
           too-large k = rw (le-ltb (getD l i 0) 48 a, le-ltb 57 (getD l i 0) b, lt-ltb most (next v (getD l i 0)) k) at here
 
           pub one-more : next v (getD l i 0) ≤ most → Spelling most l (next v (getD l i 0)) (i + 1)
-          unfolding pick
+          unfolding ifElse
           one-more k =
               let q = rw (le-ltb (getD l i 0) 48 a, le-ltb 57 (getD l i 0) b, le-ltb most (next v (getD l i 0)) k) at here in
               record { within = omega arith; low = k; same = rw (add-one i) q }

@@ -3,7 +3,7 @@ use Prim.Native.Nat.{ℕ, _+_, _-_, _*_}
 use mathlib.Core.List.{List, [], _∷_}
 use mathlib.Core.Bool.{Bool, _||_}
 use lib.Dec.{ltb}
-use Rattle.rules.specs.Pick.{pick}
+use Rattle.rules.specs.IfElse.{ifElse}
 use Rattle.arguments.specs.declared.Number.{Number}
 use Rattle.arguments.specs.declared.Number.the-variants.{Is, None}
 
@@ -17,7 +17,7 @@ next v d = v * 10 + (d - 48)
 
 unfoldable pub spelt : ℕ → ℕ → List ℕ → Number
 spelt most v [] = Is v
-spelt most v (d ∷ l) = pick (noDigit d || ltb most (next v d)) None (spelt most (next v d) l)
+spelt most v (d ∷ l) = ifElse (noDigit d || ltb most (next v d)) None (spelt most (next v d) l)
 
 unfoldable pub numberOf : ℕ → List ℕ → Number
 numberOf most [] = None

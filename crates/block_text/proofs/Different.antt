@@ -19,7 +19,7 @@ use Rattle.streaming.specs.declared.Streaming.{Streaming}
 use Rattle.probe.specs.declared.Probe.{Probe}
 use Rattle.text.specs.Text.{bytes, number, numbers, line, texts}
 use Rattle.text.proofs.Different.{Low, number-split, line-split, texts-different}
-use Rattle.words.specs.Words.{wordsOf}
+use Rattle.refusal_words.specs.Words.{wordsOf}
 use Rattle.block_lines.specs.Lines.{entityLine, formatLine, frameLine, controlsLine, revisionLine, acceptedLine}
 use Rattle.probe_lines.specs.Fields.{fieldsText}
 use Rattle.block_lines.proofs.Different.{entity-split, format-split, frame-split}

@@ -6,7 +6,7 @@ use lib.ListN.{replicate}
 use Rattle.entities.specs.declared.Revision.the-variants.{R10}
 use Rattle.text.specs.Decimal.{decimal}
 use Rattle.text.specs.Text.{bytes}
-use Rattle.words.specs.Words.{wordsOf}
+use Rattle.refusal_words.specs.Words.{wordsOf}
 use Rattle.block_lines.specs.Lines.{frameLine}
 use Rattle.block_text.specs.Answers.{refusedText, controlBy, mapText}
 

@@ -14,7 +14,7 @@ use Rattle.probe.specs.declared.Probe.{Probe}
 use Rattle.text.specs.Text.{bytes, line, texts, lineMost}
 use Rattle.block_lines.specs.Lines.{entityLine, formatLine, frameLine, controlsLine, revisionLine, refusedLine, acceptedLine}
 use Rattle.probe_lines.specs.Fields.{fieldsText}
-use Rattle.words.specs.Words.{wordsOf}
+use Rattle.refusal_words.specs.Words.{wordsOf}
 
 -- whether an answer is one, and no refusal: what the status tells
 abbrev pub isAccepted : Verdict → Bool

@@ -160,7 +160,7 @@ pub fn refused(buf: &mut [u8], number: u8, offset: usize) -> usize
     ensures { λ r. ⌜ Put (now (buf .entry)) 0 (refusedText number offset) r (now (buf .exit)) ⌝ }
 {
     let at = block_lines::refused(buf, 0, number, offset);
-    words::put(buf, at, number)
+    refusal_words::put(buf, at, number)
 }
 
 // Whether a verdict is no refusal.

@@ -4,7 +4,7 @@ use mathlib.Core.Path.{_≡_, refl, sym, ap, _∙_}
 use mathlib.Core.Bool.{Bool, true, false, true≢false, Bool·beq}
 use mathlib.Core.List.{List, [], _∷_, _++_, append-assoc, append-nil}
 use lib.ListN.{length}
-use Rattle.rules.specs.Pick.{pick}
+use Rattle.rules.specs.IfElse.{ifElse}
 use Rattle.sizes.specs.declared.Opening.{Opening}
 use Rattle.payload.specs.declared.Header.{Header}
 use Rattle.payload.specs.declared.Reading.{Reading}
@@ -52,17 +52,17 @@ ended-fid true x = refl
 ended-fid false x = refl
 
 turn-fid : (o : Opening) (h : Header) (n : ℕ) (ph : Phase) (b : Bool) → phaseFid (turnBy ph o b h n .track .phase) ≡ of (h .fid)
-unfolding pick
+unfolding ifElse
 turn-fid o h n Fresh b = ended-fid (endsOf o h) _
 turn-fid o h n (Past f) b = go (sameOf f (h .fid)) refl
   where
-    go : (c : Bool) → sameOf f (h .fid) ≡ c → phaseFid (pick c (strayTurn f n) (joinTurn o (begunOf b (h .fid) (h .still)) h n Nothing 0) .track .phase) ≡ of (h .fid)
+    go : (c : Bool) → sameOf f (h .fid) ≡ c → phaseFid (ifElse c (strayTurn f n) (joinTurn o (begunOf b (h .fid) (h .still)) h n Nothing 0) .track .phase) ≡ of (h .fid)
     go true e = ap of (same-fid f (h .fid) e)
     go false e = ended-fid (endsOf o h) _
 turn-fid o h n (Under x) b = go (sameOf (x .fid) (h .fid)) refl
   where
     go : (c : Bool) → sameOf (x .fid) (h .fid) ≡ c →
-        phaseFid (pick c (joinTurn o x h n Nothing 0) (joinTurn o (begunOf b (h .fid) (h .still)) h n (Frame (whyOf (x .fault) (turnedWhy o))) (x .bytes)) .track .phase) ≡ of (h .fid)
+        phaseFid (ifElse c (joinTurn o x h n Nothing 0) (joinTurn o (begunOf b (h .fid) (h .still)) h n (Frame (whyOf (x .fault) (turnedWhy o))) (x .bytes)) .track .phase) ≡ of (h .fid)
     go true e = ended-fid (endsOf o h) _ ∙ ap of (same-fid (x .fid) (h .fid) e)
     go false e = ended-fid (endsOf o h) _
 
@@ -135,7 +135,7 @@ pub record Begun (x y : Turn) : Type 0 where
 
 module _ (o : Opening) (h : Header) (n : ℕ) where
   pub turn-begun : (ph : Phase) → Other (h .fid) (phaseFid ph) → Begun (turnBy ph o false h n) (turnBy Fresh o false h n)
-  unfolding pick
+  unfolding ifElse
   turn-begun Fresh p = record { track = refl; fate = refl; bytes = refl; at = refl; len = refl }
   turn-begun (Past f) p = rw (other-fid f (h .fid) p .0) (record { track = refl; fate = refl; bytes = refl; at = refl; len = refl })
   turn-begun (Under x) p = rw (other-fid (x .fid) (h .fid) p .0) (record { track = refl; fate = refl; bytes = refl; at = refl; len = refl })
@@ -152,11 +152,11 @@ NotUnder (Past f) = Unit {0}
 NotUnder (Under x) = ⊥
 
 none-ended : (o : Opening) (h : Header) (n : ℕ) (ph : Phase) → NotUnder ph → turnBy ph o false h n .answer .ended ≡ Nothing
-unfolding pick
+unfolding ifElse
 none-ended o h n Fresh p = refl
 none-ended o h n (Past f) p = go (sameOf f (h .fid))
   where
-    go : (c : Bool) → pick c (strayTurn f n) (joinTurn o (begunOf false (h .fid) (h .still)) h n Nothing 0) .answer .ended ≡ Nothing
+    go : (c : Bool) → ifElse c (strayTurn f n) (joinTurn o (begunOf false (h .fid) (h .still)) h n Nothing 0) .answer .ended ≡ Nothing
     go true = refl
     go false = refl
 none-ended o h n (Under x) p = absurd p

@@ -6,7 +6,7 @@ use mathlib.Core.List.{List, [], _∷_, _++_, append-assoc, append-nil}
 use lib.ListN.{length, length-append}
 use lib.Dec.{ltb, eqb}
 use borrow.Author.Tests.{eq-eqb}
-use Rattle.rules.specs.Pick.{pick}
+use Rattle.rules.specs.IfElse.{ifElse}
 use Rattle.sizes.specs.declared.Opening.{Opening}
 use Rattle.sizes.specs.Framing.{byEof}
 use Rattle.payload.specs.declared.Header.{Header}
@@ -154,7 +154,7 @@ module _ (o : Opening) (p : Bool) (r : List Seen) (rs : List (List Seen)) where
   -- a complete frame
   end-law : (q : Fault) (s : Stamp) (y : Layer) (b : Bool) (n : ℕ) (D : List ℕ) (way : Bool) (rest : List Item) → n ≡ length D
       → settled way true q s y b D ∷ rest ≡ fateItems (completeOf q n s y b) n D ++ rest
-  unfolding pick
+  unfolding ifElse
   end-law (Bad w) s y b n D way rest e = rw e
   end-law Sound s y b n D way rest e = rw e (go (eqb (length D) 0) b)
     where
@@ -162,7 +162,7 @@ module _ (o : Opening) (p : Bool) (r : List Seen) (rs : List (List Seen)) where
       d = record { len = length D; stamp = s; layer = y }
 
       go : (c b : Bool) → record { entry = cond c (Entry.Dropped Empty (length D)) (handedOut b d); load = D } ∷ rest
-          ≡ fateItems (pick c (Fate.Dropped Empty) (pick b (Fate.Still d) (Fate.Delivered d))) (length D) D ++ rest
+          ≡ fateItems (ifElse c (Fate.Dropped Empty) (ifElse b (Fate.Still d) (Fate.Delivered d))) (length D) D ++ rest
       go true b = refl
       go false true = refl
       go false false = refl

@@ -5,7 +5,7 @@ use mathlib.Core.Bool.{Bool, true, false, not, true≢false}
 use mathlib.Core.List.{List, [], _∷_, _++_, map, append-assoc, append-nil}
 use native.Mathlib.Omega.{arith}
 use lib.ListN.{length, drop, length-drop}
-use Rattle.rules.specs.Pick.{pick}
+use Rattle.rules.specs.IfElse.{ifElse}
 use Rattle.sizes.specs.declared.Opening.{Opening}
 use Rattle.sizes.specs.Framing.{byEof}
 use Rattle.payload.specs.declared.Header.{Header}
@@ -101,16 +101,16 @@ closed-afoot (Past f) b D = refl
 closed-afoot (Under x) b D = refl
 
 pub turn-gap : (o : Opening) (h : Header) (n : ℕ) (ph : Phase) (b : Bool) → turnBy ph o b h n .track .gap ≡ false
-unfolding pick
+unfolding ifElse
 turn-gap o h n Fresh b = refl
 turn-gap o h n (Past f) b = go (sameOf f (h .fid))
   where
-    go : (c : Bool) → pick c (strayTurn f n) (joinTurn o (begunOf b (h .fid) (h .still)) h n Nothing 0) .track .gap ≡ false
+    go : (c : Bool) → ifElse c (strayTurn f n) (joinTurn o (begunOf b (h .fid) (h .still)) h n Nothing 0) .track .gap ≡ false
     go true = refl
     go false = refl
 turn-gap o h n (Under x) b = go (sameOf (x .fid) (h .fid))
   where
-    go : (c : Bool) → pick c (joinTurn o x h n Nothing 0) (joinTurn o (begunOf b (h .fid) (h .still)) h n (Frame (whyOf (x .fault) (turnedWhy o))) (x .bytes)) .track .gap ≡ false
+    go : (c : Bool) → ifElse c (joinTurn o x h n Nothing 0) (joinTurn o (begunOf b (h .fid) (h .still)) h n (Frame (whyOf (x .fault) (turnedWhy o))) (x .bytes)) .track .gap ≡ false
     go true = refl
     go false = refl
 

@@ -3,7 +3,7 @@ use Prim.Native.Nat.{ℕ}
 use mathlib.Core.Bool.{Bool, true, false, cond, Bool·beq}
 use mathlib.Core.List.{List, [], _++_}
 use lib.Dec.{eqb}
-use Rattle.rules.specs.Pick.{pick}
+use Rattle.rules.specs.IfElse.{ifElse}
 use Rattle.sizes.specs.declared.Opening.{Opening}
 use Rattle.payload.specs.declared.Header.{Header}
 use Rattle.payload.specs.declared.Stamp.{Stamp}
@@ -41,11 +41,11 @@ Framed (Fate.Dropped w) = Unit {0}
 Framed (Fate.Unreadable k) = ⊥
 
 complete-framed : (q : Fault) (n : ℕ) (s : Stamp) (y : Layer) (b : Bool) → Framed (completeOf q n s y b)
-unfolding pick
+unfolding ifElse
 complete-framed (Bad w) n s y b = tt
 complete-framed Sound n s y b = go (eqb n 0) b
   where
-    go : (c b : Bool) → Framed (pick c (Fate.Dropped Empty) (pick b (Fate.Still (record { len = n; stamp = s; layer = y })) (Fate.Delivered (record { len = n; stamp = s; layer = y }))))
+    go : (c b : Bool) → Framed (ifElse c (Fate.Dropped Empty) (ifElse b (Fate.Still (record { len = n; stamp = s; layer = y })) (Fate.Delivered (record { len = n; stamp = s; layer = y }))))
     go true b = tt
     go false true = tt
     go false false = tt
@@ -55,15 +55,15 @@ fate-framed true x = complete-framed (x .fault) (x .bytes) (x .stamp) (x .layer)
 fate-framed false x = tt
 
 pub turn-framed : (o : Opening) (h : Header) (n : ℕ) (ph : Phase) (b : Bool) → Framed (turnBy ph o b h n .answer .fate)
-unfolding pick
+unfolding ifElse
 turn-framed o h n Fresh b = fate-framed (endsOf o h) (joinedOf o (begunOf b (h .fid) (h .still)) h n)
 turn-framed o h n (Past f) b = go (sameOf f (h .fid))
   where
-    go : (c : Bool) → Framed (pick c (strayTurn f n) (joinTurn o (begunOf b (h .fid) (h .still)) h n Nothing 0) .answer .fate)
+    go : (c : Bool) → Framed (ifElse c (strayTurn f n) (joinTurn o (begunOf b (h .fid) (h .still)) h n Nothing 0) .answer .fate)
     go true = tt
     go false = fate-framed (endsOf o h) (joinedOf o (begunOf b (h .fid) (h .still)) h n)
 turn-framed o h n (Under x) b = go (sameOf (x .fid) (h .fid))
   where
-    go : (c : Bool) → Framed (pick c (joinTurn o x h n Nothing 0) (joinTurn o (begunOf b (h .fid) (h .still)) h n (Frame (whyOf (x .fault) (turnedWhy o))) (x .bytes)) .answer .fate)
+    go : (c : Bool) → Framed (ifElse c (joinTurn o x h n Nothing 0) (joinTurn o (begunOf b (h .fid) (h .still)) h n (Frame (whyOf (x .fault) (turnedWhy o))) (x .bytes)) .answer .fate)
     go true = fate-framed (endsOf o h) (joinedOf o x h n)
     go false = fate-framed (endsOf o h) (joinedOf o (begunOf b (h .fid) (h .still)) h n)

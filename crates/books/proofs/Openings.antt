@@ -3,11 +3,11 @@ use Prim.Native.Nat.{ℕ, _+_}
 use mathlib.Core.Path.{_≡_, refl, sym, ap, subst}
 use mathlib.Core.Bool.{Bool, false, not, _&&_}
 use mathlib.Core.List.{List, [], _∷_}
-use Rattle.rules.specs.Pick.{pick}
+use Rattle.rules.specs.IfElse.{ifElse}
 use Rattle.sizes.specs.declared.Opening.{Opening}
 use Rattle.sizes.specs.declared.HeaderKind.the-variants.{Old}
 use Rattle.payload.specs.declared.Header.{Header}
-use Rattle.payload.specs.Layouts.{layoutOf}
+use Rattle.payload.specs.Layouts.{headerLayout}
 use Rattle.payload.specs.Transfer.{sortedBy, readingOf}
 use Rattle.frames.specs.declared.Reason.the-variants.{Cut, Empty}
 use Rattle.frames.specs.declared.Run.{Run}
@@ -34,7 +34,7 @@ module _ (o p : Opening) (a : OpenedAlike o p) where
   pub reads-alike : (t : List ℕ) → readingOf o t ≡ readingOf p t
   unfolding readingOf
   reads-alike [] = refl
-  reads-alike (b ∷ t) = λ i. sortedBy (layoutOf (a .kind i)) (a .payload i) (b ∷ t)
+  reads-alike (b ∷ t) = λ i. sortedBy (headerLayout (a .kind i)) (a .payload i) (b ∷ t)
 
   hands-by : (h : Header) (ph : Phase) → handsBy ph o h ≡ handsBy ph p h
   hands-by h Fresh = refl
@@ -60,10 +60,10 @@ module _ (o p : Opening) (a : OpenedAlike o p) where
 
   turn-by : (h : Header) (n : ℕ) (gap : Bool) (ph : Phase) → turnBy ph o gap h n ≡ turnBy ph p gap h n
   turn-by h n gap Fresh = join-alike (begunOf gap (h .fid) (h .still)) h n Nothing 0
-  turn-by h n gap (Past f) = ap (pick (sameOf f (h .fid)) (strayTurn f n)) (join-alike (begunOf gap (h .fid) (h .still)) h n Nothing 0)
+  turn-by h n gap (Past f) = ap (ifElse (sameOf f (h .fid)) (strayTurn f n)) (join-alike (begunOf gap (h .fid) (h .still)) h n Nothing 0)
   turn-by h n gap (Under r) =
-      (λ i. pick (sameOf (r .fid) (h .fid)) (join-alike r h n Nothing 0 i)
-      (join-alike (begunOf gap (h .fid) (h .still)) h n (Frame (whyOf (r .fault) (pick (a .framing i) Cut Empty))) (r .bytes) i))
+      (λ i. ifElse (sameOf (r .fid) (h .fid)) (join-alike r h n Nothing 0 i)
+      (join-alike (begunOf gap (h .fid) (h .still)) h n (Frame (whyOf (r .fault) (ifElse (a .framing i) Cut Empty))) (r .bytes) i))
 
   pub turn-alike : (T : Track) (h : Header) (n : ℕ) → turnOf o T h n ≡ turnOf p T h n
   unfolding turnOf

@@ -6,7 +6,7 @@ use mathlib.Core.List.{List, [], _∷_, _++_, append-nil}
 use lib.ListN.{length, length-append}
 use lib.Dec.{eqb}
 use borrow.Author.Tests.{eq-eqb, ne-eqb}
-use Rattle.rules.specs.Pick.{pick}
+use Rattle.rules.specs.IfElse.{ifElse}
 use Rattle.sizes.specs.declared.Opening.{Opening}
 use Rattle.sizes.specs.Framing.{byEof}
 use Rattle.payload.specs.declared.Header.{Header}
@@ -84,12 +84,12 @@ module _ (o : Opening) (p : Bool) (h : Header) (d : List ℕ) (es : List Event) 
   -- a frame that another FID ends, and that is not handed out
   turn-new : (b : Bool) (x : Run) (D : List ℕ) → x .bytes ≡ length D → (not (byEof o) && readyOf (x .fault) (x .bytes)) ≡ false
       → cont o p (x .fault or Sound) D (x .stamp) (x .layer) (x .still) false [] (runs (readables b (readable h d ∷ es))) ≡ endedItems (Frame (whyOf (x .fault) (turnedWhy o))) (x .bytes) D ++ thereby (begunOf b (h .fid) (h .still)) []
-  unfolding pick
+  unfolding ifElse
   turn-new b x D e n = rw (ap nothing (runs-cut (seen b) (readables false es)), and-false p, append-nil D, e) (go (byEof o) (x .fault) (rw e at n))
     where
       go : (c : Bool) (q : Fault) → (not c && readyOf q (length D)) ≡ false
           → settled false (not c && true) ((q or Sound) or Sound) (x .stamp orStamp Absent) (x .layer) (x .still) D ∷ judged o p (runs (readables b (readable h d ∷ es)))
-          ≡ record { entry = Entry.Dropped (whyOf q (pick c Cut Empty)) (length D); load = D } ∷ thereby (begunOf b (h .fid) (h .still)) []
+          ≡ record { entry = Entry.Dropped (whyOf q (ifElse c Cut Empty)) (length D); load = D } ∷ thereby (begunOf b (h .fid) (h .still)) []
       go true Sound n = ap (record { entry = Entry.Dropped Cut (length D); load = D } ∷_) (start-new b)
       go c (Bad w) n = rw (settled-bad c) (ap (record { entry = Entry.Dropped w (length D); load = D } ∷_) (start-new b))
         where
@@ -105,19 +105,19 @@ module _ (o : Opening) (p : Bool) (h : Header) (d : List ℕ) (es : List Event) 
   -- a readable transfer, where no frame is handed out before it
   pub read-law : (ph : Phase) (b : Bool) (D : List ℕ) → Holds ph D → handsBy ph o h ≡ false
       → owed o p ph b D (readable h d ∷ es) ≡ then (turnBy ph o b h (length d)) D (base ph (h .fid) D ++ d)
-  unfolding pick
+  unfolding ifElse
   read-law Fresh b D e n = start-new b
   read-law (Past f) b D e n = rw (same-beq f (h .fid)) (go (Bool·beq f (h .fid)))
     where
       go : (c : Bool) → pass o p (cond c (seen b ∷ first f (readables false es)) []) (runs (cond c (later f (readables false es)) (seen b ∷ readables false es)))
-          ≡ then (pick c (strayTurn f (length d)) (joinTurn o (begunOf b (h .fid) (h .still)) h (length d) Nothing 0)) D ([] ++ d)
+          ≡ then (ifElse c (strayTurn f (length d)) (joinTurn o (begunOf b (h .fid) (h .still)) h (length d) Nothing 0)) D ([] ++ d)
       go true = refl
       go false = start-new b
   read-law (Under x) b D e n = rw (same-beq (x .fid) (h .fid)) (go (Bool·beq (x .fid) (h .fid)) (rw (same-beq (x .fid) (h .fid)) at n))
     where
       go : (c : Bool) → (not (byEof o) && (not c && readyOf (x .fault) (x .bytes))) ≡ false
           → cont o p (x .fault or Sound) D (x .stamp) (x .layer) (x .still) false (cond c (seen b ∷ first (x .fid) (readables false es)) []) (runs (cond c (later (x .fid) (readables false es)) (seen b ∷ readables false es)))
-          ≡ then (pick c (joinTurn o x h (length d) Nothing 0) (joinTurn o (begunOf b (h .fid) (h .still)) h (length d) (Frame (whyOf (x .fault) (turnedWhy o))) (x .bytes))) D (cond c D [] ++ d)
+          ≡ then (ifElse c (joinTurn o x h (length d) Nothing 0) (joinTurn o (begunOf b (h .fid) (h .still)) h (length d) (Frame (whyOf (x .fault) (turnedWhy o))) (x .bytes))) D (cond c D [] ++ d)
       go true m = rw or-sound (go-on b x D e)
       go false m = turn-new b x D e m
 
@@ -196,15 +196,15 @@ phase-holds o h d x D true q = tt
 phase-holds o h d x D false q = rw q (sym (length-append D d))
 
 pub read-holds : (o : Opening) (h : Header) (d : List ℕ) (ph : Phase) (b : Bool) (D : List ℕ) → Holds ph D → Holds (turnBy ph o b h (length d) .track .phase) (base ph (h .fid) D ++ d)
-unfolding pick
+unfolding ifElse
 read-holds o h d Fresh b D e = phase-holds o h d (begunOf b (h .fid) (h .still)) [] (endsOf o h) refl
 read-holds o h d (Past f) b D e = go (sameOf f (h .fid))
   where
-    go : (c : Bool) → Holds (pick c (strayTurn f (length d)) (joinTurn o (begunOf b (h .fid) (h .still)) h (length d) Nothing 0) .track .phase) ([] ++ d)
+    go : (c : Bool) → Holds (ifElse c (strayTurn f (length d)) (joinTurn o (begunOf b (h .fid) (h .still)) h (length d) Nothing 0) .track .phase) ([] ++ d)
     go true = tt
     go false = phase-holds o h d (begunOf b (h .fid) (h .still)) [] (endsOf o h) refl
 read-holds o h d (Under x) b D e = rw (same-beq (x .fid) (h .fid)) (go (Bool·beq (x .fid) (h .fid)))
   where
-    go : (c : Bool) → Holds (pick c (joinTurn o x h (length d) Nothing 0) (joinTurn o (begunOf b (h .fid) (h .still)) h (length d) (Frame (whyOf (x .fault) (turnedWhy o))) (x .bytes)) .track .phase) (cond c D [] ++ d)
+    go : (c : Bool) → Holds (ifElse c (joinTurn o x h (length d) Nothing 0) (joinTurn o (begunOf b (h .fid) (h .still)) h (length d) (Frame (whyOf (x .fault) (turnedWhy o))) (x .bytes)) .track .phase) (cond c D [] ++ d)
     go true = phase-holds o h d x D (endsOf o h) e
     go false = phase-holds o h d (begunOf b (h .fid) (h .still)) [] (endsOf o h) refl

@@ -7,7 +7,7 @@ use native.Mathlib.Nat.{add-zero, zero-add, add-assoc}
 use native.Mathlib.Omega.{arith}
 use lib.Dec.{ltb, eqb}
 use borrow.Author.Tests.{ne-eqb}
-use Rattle.rules.specs.Pick.{pick}
+use Rattle.rules.specs.IfElse.{ifElse}
 use Rattle.payload.specs.declared.Stamp.{Stamp}
 use Rattle.payload.specs.declared.Stamp.the-variants.{Absent, At}
 use Rattle.frames.specs.declared.Reason.{Reason}
@@ -40,19 +40,19 @@ zero-cond true = refl
 zero-cond false = refl
 
 stepped-at : (l : Ledger) (a b p : ℕ) → Sized l
-    → at p (steppedOf l (pick (ltb (aheadOf a b) (2 ^ 31)) (Forward (aheadOf a b)) (Backward (2 ^ 32 - aheadOf a b)))) ≡ at p l + (cond (eqb ticksAt p) (forward a b) 0 + cond (eqb backwardAt p) (back a b) 0)
-unfolding pick
+    → at p (steppedOf l (ifElse (ltb (aheadOf a b) (2 ^ 31)) (Forward (aheadOf a b)) (Backward (2 ^ 32 - aheadOf a b)))) ≡ at p l + (cond (eqb ticksAt p) (forward a b) 0 + cond (eqb backwardAt p) (back a b) 0)
+unfolding ifElse
 stepped-at l a b p e = go (ltb (step a b) (2 ^ 31))
   where
-    go : (c : Bool) → at p (steppedOf l (pick c (Forward (aheadOf a b)) (Backward (2 ^ 32 - aheadOf a b)))) ≡ at p l + (cond (eqb ticksAt p) (cond c (step a b) 0) 0 + cond (eqb backwardAt p) (cond c 0 1) 0)
+    go : (c : Bool) → at p (steppedOf l (ifElse c (Forward (aheadOf a b)) (Backward (2 ^ 32 - aheadOf a b)))) ≡ at p l + (cond (eqb ticksAt p) (cond c (step a b) 0) 0 + cond (eqb backwardAt p) (cond c 0 1) 0)
     go true = plus-at l ticksAt (aheadOf a b) p e (omega arith) ∙ ap (at p l +_) (sym (rw (zero-cond (eqb backwardAt p)) (add-zero _)))
     go false = plus-at l backwardAt 1 p e (omega arith) ∙ ap (at p l +_) (sym (rw (zero-cond (eqb ticksAt p)) (zero-add _)))
 
-stepped-sized : (l : Ledger) (a b : ℕ) → Sized l → Sized (steppedOf l (pick (ltb (aheadOf a b) (2 ^ 31)) (Forward (aheadOf a b)) (Backward (2 ^ 32 - aheadOf a b))))
-unfolding pick
+stepped-sized : (l : Ledger) (a b : ℕ) → Sized l → Sized (steppedOf l (ifElse (ltb (aheadOf a b) (2 ^ 31)) (Forward (aheadOf a b)) (Backward (2 ^ 32 - aheadOf a b))))
+unfolding ifElse
 stepped-sized l a b e = go (ltb (aheadOf a b) (2 ^ 31))
   where
-    go : (c : Bool) → Sized (steppedOf l (pick c (Forward (aheadOf a b)) (Backward (2 ^ 32 - aheadOf a b))))
+    go : (c : Bool) → Sized (steppedOf l (ifElse c (Forward (aheadOf a b)) (Backward (2 ^ 32 - aheadOf a b))))
     go true = plus-sized l ticksAt (aheadOf a b) e
     go false = plus-sized l backwardAt 1 e
 

@@ -7,7 +7,7 @@ use native.Mathlib.Omega.{arith}
 use lib.ListN.{length}
 use lib.Dec.{ltb}
 use borrow.Author.Tests.{le-ltb, eq-eqb, ltb-false}
-use Rattle.rules.specs.Pick.{pick}
+use Rattle.rules.specs.IfElse.{ifElse}
 use Rattle.rules.specs.Numbered.{firstRow, NoneOf}
 use Rattle.rules.proofs.Rows.{Numbered, row-none, any-none}
 use Rattle.sizes.specs.declared.Opening.{Opening}
@@ -76,16 +76,16 @@ fit-join o h n x false f =
     snug-joined (o .frame) (x .fault) (h .error) (clashOf (x .stamp) (h .stamp)) (mixedOf x h) (ltb (o .frame) (x .bytes + n)) (x .fill) (x .bytes) n refl f
 
 fit-turn : (o : Opening) (h : Header) (n : ℕ) (ph : Phase) (b : Bool) → Fit (o .frame) ph → Fit (o .frame) (turnBy ph o b h n .track .phase)
-unfolding pick
+unfolding ifElse
 fit-turn o h n Fresh b f = fit-join o h n (begunOf b (h .fid) (h .still)) (endsOf o h) (snug-begun (o .frame) b)
 fit-turn o h n (Past g) b f = go (sameOf g (h .fid))
   where
-    go : (c : Bool) → Fit (o .frame) (pick c (strayTurn g n) (joinTurn o (begunOf b (h .fid) (h .still)) h n Nothing 0) .track .phase)
+    go : (c : Bool) → Fit (o .frame) (ifElse c (strayTurn g n) (joinTurn o (begunOf b (h .fid) (h .still)) h n Nothing 0) .track .phase)
     go true = tt
     go false = fit-join o h n (begunOf b (h .fid) (h .still)) (endsOf o h) (snug-begun (o .frame) b)
 fit-turn o h n (Under x) b f = go (sameOf (x .fid) (h .fid))
   where
-    go : (c : Bool) → Fit (o .frame) (pick c (joinTurn o x h n Nothing 0) (joinTurn o (begunOf b (h .fid) (h .still)) h n (Frame (whyOf (x .fault) (turnedWhy o))) (x .bytes)) .track .phase)
+    go : (c : Bool) → Fit (o .frame) (ifElse c (joinTurn o x h n Nothing 0) (joinTurn o (begunOf b (h .fid) (h .still)) h n (Frame (whyOf (x .fault) (turnedWhy o))) (x .bytes)) .track .phase)
     go true = fit-join o h n x (endsOf o h) f
     go false = fit-join o h n (begunOf b (h .fid) (h .still)) (endsOf o h) (snug-begun (o .frame) b)
 

@@ -6,7 +6,7 @@ use mathlib.Core.List.{List, [], _∷_}
 use lib.ListN.{length, length-append}
 use lib.Seq.{paste, paste-zero}
 use lib.Dec.{ltb, eqb}
-use Rattle.rules.specs.Pick.{pick}
+use Rattle.rules.specs.IfElse.{ifElse}
 use Rattle.sizes.specs.declared.Opening.{Opening}
 use Rattle.sizes.specs.Framing.{byEof}
 use Rattle.payload.specs.declared.Header.{Header}
@@ -65,14 +65,14 @@ Tracks o (Past f) r = Of f r × (closed o r ≡ true)
 
 -- ---- the tracker's words and the rule's
 complete-same : (q : Fault) (s : Stamp) (y : Layer) (b : Bool) (n : ℕ) → completeOf q n s y b ≡ fateIn (verdict true true q s y b n)
-unfolding pick
+unfolding ifElse
 complete-same (Bad w) s y b n = refl
 complete-same Sound s y b n = go (eqb n 0) b
   where
     d : Delivery
     d = record { len = n; stamp = s; layer = y }
 
-    go : (c b : Bool) → pick c (Fate.Dropped Empty) (pick b (Fate.Still d) (Fate.Delivered d)) ≡ fateIn (cond c (Entry.Dropped Empty n) (handedOut b d))
+    go : (c b : Bool) → ifElse c (Fate.Dropped Empty) (ifElse b (Fate.Still d) (Fate.Delivered d)) ≡ fateIn (cond c (Entry.Dropped Empty n) (handedOut b d))
     go true b = refl
     go false true = refl
     go false false = refl
@@ -177,8 +177,8 @@ part-closed o x u us p =
     reason-same (Bad w) s y b k = refl
 
 -- by another FID: with D1 clear it is complete, and would have been handed out without a fault and with data
-turned-same : (c : Bool) (q : Fault) (s : Stamp) (y : Layer) (b : Bool) (k : ℕ) → (not c && readyOf q k) ≡ false → reasonIn (verdict false (not c && true) q s y b k) ≡ Frame (whyOf q (pick c Cut Empty))
-unfolding pick
+turned-same : (c : Bool) (q : Fault) (s : Stamp) (y : Layer) (b : Bool) (k : ℕ) → (not c && readyOf q k) ≡ false → reasonIn (verdict false (not c && true) q s y b k) ≡ Frame (whyOf q (ifElse c Cut Empty))
+unfolding ifElse
 turned-same true Sound s y b k n = refl
 turned-same true (Bad w) s y b k n = refl
 turned-same false (Bad w) s y b k n = refl
@@ -253,20 +253,20 @@ module _ (o : Opening) (h : Header) (d : List ℕ) (b : Bool) where
   same-run f u e = same-beq f (h .fid) ∙ ap (λ (g : Bool). Bool·beq g (h .fid)) (sym e)
 
   pub turn-right : (ph : Phase) (r : List Seen) → Tracks o ph r → Fit (o .frame) ph → handsBy ph o h ≡ false → Turned o h d r (grown r (t o h d b)) (turnBy ph o b h (length d))
-  unfolding pick
+  unfolding ifElse
   turn-right Fresh r e g n = subst (λ (l : List Seen). Turned o h d l (grown l (t o h d b)) (turnBy Fresh o b h (length d))) (sym e) (begun-turned [] Nothing 0 refl)
   turn-right (Under x) [] e g n = absurd (e .0)
   turn-right (Under x) (u ∷ us) e g n = rw (same-run (x .fid) u (e .0)) (go (Bool·beq (u .header .fid) (h .fid)) refl (rw (same-run (x .fid) u (e .0)) at n))
     where
       go : (c : Bool) → goesOn h (u ∷ us) ≡ c → (not (byEof o) && (not c && readyOf (x .fault) (x .bytes))) ≡ false → Turned o h d (u ∷ us) (cond c (and (u ∷ us) (t o h d b)) (t o h d b ∷ []))
-          (pick c (joinTurn o x h (length d) Nothing 0) (joinTurn o (begunOf b (h .fid) (h .still)) h (length d) (Frame (whyOf (x .fault) (turnedWhy o))) (x .bytes)))
+          (ifElse c (joinTurn o x h (length d) Nothing 0) (joinTurn o (begunOf b (h .fid) (h .still)) h (length d) (Frame (whyOf (x .fault) (turnedWhy o))) (x .bytes)))
       go true q m = joined-turned x u us (e .0) (e .1) g q
       go false q m = begun-turned (u ∷ us) (Frame (whyOf (x .fault) (turnedWhy o))) (x .bytes) (sym (ap (λ (c : Bool). cond c Nothing (turnedIn o (u ∷ us))) q ∙ part-turned o x u us (e .1) m))
   turn-right (Past f) [] e g n = absurd (e .0)
   turn-right (Past f) (u ∷ us) e g n = rw (same-run f u (e .0)) (go (Bool·beq (u .header .fid) (h .fid)) refl)
     where
       go : (c : Bool) → goesOn h (u ∷ us) ≡ c → Turned o h d (u ∷ us) (cond c (and (u ∷ us) (t o h d b)) (t o h d b ∷ []))
-          (pick c (strayTurn f (length d)) (joinTurn o (begunOf b (h .fid) (h .still)) h (length d) Nothing 0))
+          (ifElse c (strayTurn f (length d)) (joinTurn o (begunOf b (h .fid) (h .still)) h (length d) Nothing 0))
       go true q = stray-turned f u us (e .0) (e .1) q
       go false q = begun-turned (u ∷ us) Nothing 0 (sym (ap (λ (c : Bool). cond c Nothing (turnedIn o (u ∷ us))) q ∙ past-ended o true false u us (e .1)))
 

@@ -7,7 +7,7 @@ use native.Mathlib.Omega.{arith}
 use lib.ListN.{length, take}
 use lib.Seq.{paste, paste-zero, take-paste}
 use lib.Dec.{ltb, eqb}
-use Rattle.rules.specs.Pick.{pick}
+use Rattle.rules.specs.IfElse.{ifElse}
 use Rattle.sizes.specs.declared.Opening.{Opening}
 use Rattle.sizes.specs.Framing.{byEof}
 use Rattle.payload.specs.declared.Header.{Header}
@@ -47,7 +47,7 @@ more (Bad w) fill n d A B a b k e = ap (take fill) (sym (paste-zero A fill d)) �
 -- the bytes of a complete frame
 pub complete-bytes : (frame : ℕ) (q : Fault) (fill bytes : ℕ) (s : Stamp) (y : Layer) (b : Bool) (A B : List ℕ) → Snug frame q fill bytes → take fill A ≡ take fill B
     → take (fateLength (completeOf q bytes s y b)) A ≡ take (fateLength (completeOf q bytes s y b)) B
-unfolding pick
+unfolding ifElse
 complete-bytes frame (Bad w) fill bytes s y b A B g e = refl
 complete-bytes frame Sound fill bytes s y b A B g e = go (eqb bytes 0) b
   where
@@ -57,7 +57,7 @@ complete-bytes frame Sound fill bytes s y b A B g e = go (eqb bytes 0) b
     x : Delivery
     x = record { len = bytes; stamp = s; layer = y }
 
-    go : (c d : Bool) → take (fateLength (pick c (Fate.Dropped Empty) (pick d (Fate.Still x) (Fate.Delivered x)))) A ≡ take (fateLength (pick c (Fate.Dropped Empty) (pick d (Fate.Still x) (Fate.Delivered x)))) B
+    go : (c d : Bool) → take (fateLength (ifElse c (Fate.Dropped Empty) (ifElse d (Fate.Still x) (Fate.Delivered x)))) A ≡ take (fateLength (ifElse c (Fate.Dropped Empty) (ifElse d (Fate.Still x) (Fate.Delivered x)))) B
     go true d = refl
     go false true = whole
     go false false = whole
@@ -98,16 +98,16 @@ module _ (o : Opening) (h : Header) (n : ℕ) (d A B : List ℕ) (k : n ≤ leng
   begun-leaves gap e gone = join-leaves (begunOf gap (h .fid) (h .still)) e gone (snug-begun (o .frame) gap) refl
 
   pub turn-leaves : (ph : Phase) (gap : Bool) → Fit (o .frame) ph → take (fillOf ph) A ≡ take (fillOf ph) B → Leaves (turnBy ph o gap h n) d A B
-  unfolding pick
+  unfolding ifElse
   turn-leaves Fresh gap g e = begun-leaves gap Nothing 0
   turn-leaves (Under r) gap g e = go (sameOf (r .fid) (h .fid))
     where
-      go : (c : Bool) → Leaves (pick c (joinTurn o r h n Nothing 0) (joinTurn o (begunOf gap (h .fid) (h .still)) h n (Frame (whyOf (r .fault) (turnedWhy o))) (r .bytes))) d A B
+      go : (c : Bool) → Leaves (ifElse c (joinTurn o r h n Nothing 0) (joinTurn o (begunOf gap (h .fid) (h .still)) h n (Frame (whyOf (r .fault) (turnedWhy o))) (r .bytes))) d A B
       go true = join-leaves r Nothing 0 g e
       go false = begun-leaves gap (Frame (whyOf (r .fault) (turnedWhy o))) (r .bytes)
   turn-leaves (Past f) gap g e = go (sameOf f (h .fid))
     where
-      go : (c : Bool) → Leaves (pick c (strayTurn f n) (joinTurn o (begunOf gap (h .fid) (h .still)) h n Nothing 0)) d A B
+      go : (c : Bool) → Leaves (ifElse c (strayTurn f n) (joinTurn o (begunOf gap (h .fid) (h .still)) h n Nothing 0)) d A B
       go true = record { way = refl; handed = refl }
       go false = begun-leaves gap Nothing 0
 

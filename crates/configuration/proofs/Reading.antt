@@ -8,7 +8,7 @@ use borrow.Author.Tests.{lt-leb, le-leb, eq-eqb, ne-eqb}
 use Rattle.rules.proofs.Places.{Seeking, found-here as found-at, not-here as not-at, none-here as none-at}
 use lib.ListN.{length, take, drop, length-take, length-drop}
 use native.Mathlib.Omega.{arith}
-use Rattle.rules.specs.Pick.{pick}
+use Rattle.rules.specs.IfElse.{ifElse}
 use Rattle.rules.specs.Verdicts.{_andThen_}
 use Rattle.rules.specs.declared.Verdict.{Verdict}
 use Rattle.rules.specs.declared.Verdict.the-variants.{Accepted, Refused}
@@ -16,7 +16,7 @@ use Rattle.entities.specs.declared.Table.{Table}
 use Rattle.control.specs.Answer.{ControlIs}
 use Rattle.control.specs.declared.Control.{Control}
 use Rattle.streaming.specs.Inner.{streamingOf}
-use Rattle.layout.specs.Inner.{layoutVerdict}
+use Rattle.configuration_layout.specs.Inner.{layoutVerdict}
 use Rattle.configuration.specs.declared.Configuration.{Configuration}
 use Rattle.configuration_rules.specs.Descriptors.{afterAt, isSought}
 use Rattle.configuration_rules.specs.declared.Sought.the-variants.{Listed, Outside}
@@ -134,11 +134,11 @@ module _ (s : List ℕ) (o : ℕ) (h : o < length s) (b : Block) (p : b ≡ bloc
     named-is = rw (← e) (rw (bytes-are s o h b p) at f)
 
     pub late-73 : t ≡ false → LateIs s o (Refused 73 (b .offset))
-    unfolding lateBy verdict73 pick
+    unfolding lateBy verdict73 ifElse
     late-73 z = record { answer = c; read = same-control; same = rw (q, ← named-is, z, start-is s o h b p) }
 
     pub late-rest : t ≡ true → (v : Verdict) → v ≡ streamsBy s (c .table) (listedIn s) → LateIs s o v
-    unfolding lateBy verdict73 pick
+    unfolding lateBy verdict73 ifElse
     late-rest z v w = record { answer = c; read = same-control; same = rw (q, ← named-is, z) w }
 
 -- ---- the whole

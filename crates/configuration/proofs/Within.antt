@@ -5,7 +5,7 @@ use mathlib.Core.List.{List, [], _∷_, _++_, append-nil}
 use mathlib.Core.Bool.{Bool, true, false}
 use lib.ListN.{length, getD}
 use native.Mathlib.Omega.{arith}
-use Rattle.rules.specs.Pick.{pick}
+use Rattle.rules.specs.IfElse.{ifElse}
 use Rattle.rules.specs.Walk.{Reached, first, next}
 use Rattle.rules.specs.declared.Verdict.the-variants.{Refused}
 use Rattle.rules.proofs.Growing.{each-more}
@@ -27,8 +27,8 @@ use Rattle.streaming.proofs.ExactlyWhen as streaming-exactly
 
 -- elements that stand before o, and one more at o, stand before a later place
 module _ {A : Type 0} (d : A) (off : A → ℕ) (l : List A) (o p : ℕ) (on : o < p) (h : (i : ℕ) → i < length l → off (getD l i d) < o) (x : A) (e : off x ≡ o) where
-  more : (t : Bool) → (i : ℕ) → i < length (l ++ pick t (x ∷ []) []) → off (getD (l ++ pick t (x ∷ []) []) i d) < p
-  unfolding pick
+  more : (t : Bool) → (i : ℕ) → i < length (l ++ ifElse t (x ∷ []) []) → off (getD (l ++ ifElse t (x ∷ []) []) i d) < p
+  unfolding ifElse
   more true = each-more d l x (λ i before (y : A). off y < p) (λ i k. omega (arith, h i k)) (omega (arith, e))
   more false = rw append-nil (λ i k. omega (arith, h i k))
 

@@ -5,7 +5,7 @@ use mathlib.Core.List.{List, [], _∷_}
 use mathlib.Core.Bool.{Bool}
 use lib.ListN.{replicate}
 use lib.Dec.{eqb, leb}
-use Rattle.rules.specs.Pick.{pick}
+use Rattle.rules.specs.IfElse.{ifElse}
 use Rattle.rules.specs.Place.{firstPlace}
 use Rattle.rules.specs.Verdicts.{_andThen_}
 use Rattle.rules.specs.declared.Verdict.{Verdict}
@@ -18,7 +18,7 @@ use Rattle.configuration_rules.specs.declared.Sought.the-variants as sought
 use Rattle.interfaces.specs.Inner.{nextOf, blockStart, blockOf, blockAt, listedIn, streamsOf, placeOf}
 use Rattle.interfaces.specs.Limits.{interfacesMost, noStream}
 use Rattle.interfaces.specs.declared.Stream.{Stream}
-use Rattle.layout.specs.Inner.{layoutVerdict}
+use Rattle.configuration_layout.specs.Inner.{layoutVerdict}
 use Rattle.configuration.specs.declared.Configuration.{Configuration}
 use Rattle.configuration.specs.Answer.{entryCount, entryAt, noBlock}
 
@@ -37,7 +37,7 @@ entriesNamed b l n = leb (entryCount b) (firstUnnamed b l n)
 
 -- at the start a of the control block b
 unfoldable pub verdict73 : List ℕ → List ℕ → ℕ → Verdict
-verdict73 s b a = pick (entriesNamed b (streamsOf s .streams) (streamsOf s .count)) Accepted (Refused 73 a)
+verdict73 s b a = ifElse (entriesNamed b (streamsOf s .streams) (streamsOf s .count)) Accepted (Refused 73 a)
 
 -- the own refusal of the streaming block behind the interface descriptor at o, read against the control block's entity table t
 unfoldable pub blockVerdict : List ℕ → Table → ℕ → Verdict

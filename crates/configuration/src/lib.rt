@@ -132,7 +132,7 @@ fn refused(number: u8, offset: usize) -> Configuration
 pub fn read(s: &[u8]) -> Configuration
     ensures { λ r. ⌜ ConfigurationIs (now (s .entry)) r ⌝ }
 {
-    if let Verdict::Refused { number, offset } = layout::judge(s) {
+    if let Verdict::Refused { number, offset } = configuration_layout::judge(s) {
         return refused(number, offset);
     }
     let at = interfaces::next(s, 0, Sought::Control);

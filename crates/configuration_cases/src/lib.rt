@@ -1,4 +1,6 @@
 // The cases of whole configurations and of picks: each is read from standard input, handed to its reader, and its answer printed in full.
+use alternate_settings::Choice;
+use alternate_settings::Setting;
 use cases::input;
 use cases::print;
 use configuration::Configuration;
@@ -6,8 +8,6 @@ use interfaces::Block;
 use interfaces::INTERFACES_MOST;
 use interfaces::Stream;
 use rules::Verdict;
-use settings::Choice;
-use settings::Setting;
 
 // More than a configuration may have, so that one that is too long can be handed in.
 const ROOM: usize = 33024;
@@ -81,7 +81,7 @@ fn stream(s: &[u8], e: Stream) {
     // An accepted configuration has at most 32; one more would show.
     let mut k: usize = 0;
     while k < 34 {
-        match settings::kth(s, e.interface, e.endpoint, k) {
+        match alternate_settings::kth(s, e.interface, e.endpoint, k) {
             Choice::Nothing => return,
             Choice::At(x) => {
                 setting(b"setting", x);

@@ -9,7 +9,7 @@ use lib.Dec.{ltb, eqb}
 use borrow.Author.Tests.{le-ltb, ltb-false, eq-eqb, eqb-true, not-false}
 use native.Mathlib.Omega.{arith}
 use Rattle.le.specs.Le.{byte}
-use Rattle.rules.specs.Pick.{pick}
+use Rattle.rules.specs.IfElse.{ifElse}
 use Rattle.rules.proofs.Rows.{or-first, or-second, or-either, and-first, and-second}
 use Rattle.blocks.specs.Blocks.{lenAt, descriptorType}
 use Rattle.configuration_rules.specs.Descriptors.{interfaceType, endpointType, videoClass, controlSubclass, streamingSubclass, typeAt, addressAt, classAt, subclassAt, leastOf, brokenAt, subclassOf, isVideo, isEndpoint, isSought}
@@ -31,23 +31,23 @@ module _ (s : List ℕ) (o : ℕ) where
 
   -- a subclass that is not 0 is that of a video interface
   video-of : (c : ℕ) → 0 < c → subclassOf s o ≡ c → Video s c o
-  unfolding subclassOf pick
+  unfolding subclassOf ifElse
   video-of c p h = go (eqb (typeAt s o) interfaceType) refl (eqb (classAt s o) videoClass) refl h
     where
-      go : (a : Bool) → eqb (typeAt s o) interfaceType ≡ a → (b : Bool) → eqb (classAt s o) videoClass ≡ b → pick a (pick b (subclassAt s o) 0) 0 ≡ c → Video s c o
+      go : (a : Bool) → eqb (typeAt s o) interfaceType ≡ a → (b : Bool) → eqb (classAt s o) videoClass ≡ b → ifElse a (ifElse b (subclassAt s o) 0) 0 ≡ c → Video s c o
       go false x b y q = absurd (omega arith)
       go true x false y q = absurd (omega arith)
       go true x true y q = record { interface = eqb-true _ _ x; class = eqb-true _ _ y; sub = q }
 
   of-video : (c : ℕ) → Video s c o → subclassOf s o ≡ c
-  unfolding subclassOf pick
+  unfolding subclassOf ifElse
   of-video c v = rw (eq-eqb (typeAt s o) interfaceType (v .interface), eq-eqb (classAt s o) videoClass (v .class)) (v .sub)
 
   pub video : (c k x : ℕ) → 0 < c → (isVideo s o c k x ≡ true) ↔ (Video s c o × (byte s o k ≡ x))
-  unfolding isVideo pick
+  unfolding isVideo ifElse
   video c k x p = (to (eqb (subclassOf s o) c) refl, λ v. rw (eq-eqb (subclassOf s o) c (of-video c (v .0)), eq-eqb (byte s o k) x (v .1)))
     where
-      to : (b : Bool) → eqb (subclassOf s o) c ≡ b → pick b (eqb (byte s o k) x) false ≡ true → Video s c o × (byte s o k ≡ x)
+      to : (b : Bool) → eqb (subclassOf s o) c ≡ b → ifElse b (eqb (byte s o k) x) false ≡ true → Video s c o × (byte s o k ≡ x)
       to true e h = (video-of c p (eqb-true _ _ e), eqb-true _ _ h)
       to false e h = absurd (true≢false (sym h))
 

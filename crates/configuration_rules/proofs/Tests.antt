@@ -8,7 +8,7 @@ use lib.Dec.{ltb, eqb}
 use borrow.Author.Tests.{lt-ltb, le-ltb, eq-eqb, ne-eqb}
 use native.Mathlib.Omega.{arith}
 use Rattle.le.specs.Le.{byte}
-use Rattle.rules.specs.Pick.{pick}
+use Rattle.rules.specs.IfElse.{ifElse}
 use Rattle.blocks.specs.Blocks.{lenAt}
 use lib.Bits.{bitAnd, and-mask}
 use native.Mathlib.Nat.{mod-lt, mul-le-mul}
@@ -47,30 +47,30 @@ module _ (s : List ℕ) (o t x : ℕ) (e : t ≡ typeAt s o) where
   an-endpoint h n a q = rw (← e, ne-eqb t 4 h, eq-eqb t 5 n, q)
 
 pub behind-whole : (s : List ℕ) (o len : ℕ) (b : Bool) → b ≡ brokenAt s o → b ≡ false → len ≡ lenAt s o → o + len ≡ afterAt s o
-unfolding afterAt pick
+unfolding afterAt ifElse
 behind-whole s o len b e h l = rw (← e, h, l)
 
 module _ (s : List ℕ) (o t : ℕ) (e : t ≡ typeAt s o) where
   pub other-type : (t ≡ 4 → ⊥) → 0 ≡ subclassOf s o
-  unfolding subclassOf pick
+  unfolding subclassOf ifElse
   other-type h = rw (← e, ne-eqb t 4 h)
 
   module _ (h : t ≡ 4) (c : ℕ) (q : c ≡ classAt s o) where
     pub other-class : (c ≡ 14 → ⊥) → 0 ≡ subclassOf s o
-    unfolding subclassOf pick
+    unfolding subclassOf ifElse
     other-class n = rw (← e, eq-eqb t 4 h, ← q, ne-eqb c 14 n)
 
     pub video-class : (x : ℕ) → c ≡ 14 → x ≡ subclassAt s o → x ≡ subclassOf s o
-    unfolding subclassOf pick
+    unfolding subclassOf ifElse
     video-class x n z = rw (← e, eq-eqb t 4 h, ← q, eq-eqb c 14 n) z
 
 module _ (s : List ℕ) (o subclass k x v : ℕ) (e : v ≡ subclassOf s o) where
   pub other-subclass : (v ≡ subclass → ⊥) → false ≡ isVideo s o subclass k x
-  unfolding isVideo pick
+  unfolding isVideo ifElse
   other-subclass h = rw (← e, ne-eqb v subclass h)
 
   pub this-subclass : (b : ℕ) → v ≡ subclass → b ≡ byte s o k → eqb b x ≡ isVideo s o subclass k x
-  unfolding isVideo pick
+  unfolding isVideo ifElse
   this-subclass b h q = rw (← e, eq-eqb v subclass h, q)
 
 module _ (s : List ℕ) (o : ℕ) (w : Sought) where

@@ -5,7 +5,7 @@ use mathlib.Core.Bool.{Bool, false, not, _&&_, _||_}
 use lib.ListN.{length}
 use lib.Dec.{ltb, eqb}
 use Rattle.le.specs.Le.{byte, le16At}
-use Rattle.rules.specs.Pick.{pick}
+use Rattle.rules.specs.IfElse.{ifElse}
 use Rattle.blocks.specs.Blocks.{lenAt, descriptorType}
 use Rattle.configuration_rules.specs.declared.Sought.{Sought}
 use Rattle.configuration_rules.specs.declared.Sought.the-variants.{Broken, Control, Listed, Setting, Outside, Endpoint}
@@ -55,7 +55,7 @@ packetAt s o = le16At s (o + 4)
 
 -- the fewest bytes of a descriptor of this type
 unfoldable pub leastOf : ℕ → ℕ
-leastOf t = pick (eqb t configurationType) 9 (pick (eqb t interfaceType) 9 (pick (eqb t endpointType) 7 2))
+leastOf t = ifElse (eqb t configurationType) 9 (ifElse (eqb t interfaceType) 9 (ifElse (eqb t endpointType) 7 2))
 
 -- 70: a descriptor under 2 bytes, past the end or too short for its kind
 unfoldable pub brokenAt : List ℕ → ℕ → Bool
@@ -63,15 +63,15 @@ brokenAt s o = ltb (lenAt s o) 2 || (ltb (length s) (o + lenAt s o) || ltb (lenA
 
 -- where the next descriptor starts; behind one that breaks 70 nothing is read
 unfoldable pub afterAt : List ℕ → ℕ → ℕ
-afterAt s o = pick (brokenAt s o) (length s) (o + lenAt s o)
+afterAt s o = ifElse (brokenAt s o) (length s) (o + lenAt s o)
 
 -- the subclass of a video interface's descriptor, 0 of any other
 unfoldable pub subclassOf : List ℕ → ℕ → ℕ
-subclassOf s o = pick (eqb (typeAt s o) interfaceType) (pick (eqb (classAt s o) videoClass) (subclassAt s o) 0) 0
+subclassOf s o = ifElse (eqb (typeAt s o) interfaceType) (ifElse (eqb (classAt s o) videoClass) (subclassAt s o) 0) 0
 
 -- a video interface's descriptor of this subclass, whose byte k is x
 unfoldable pub isVideo : List ℕ → ℕ → ℕ → ℕ → ℕ → Bool
-isVideo s o subclass k x = pick (eqb (subclassOf s o) subclass) (eqb (byte s o k) x) false
+isVideo s o subclass k x = ifElse (eqb (subclassOf s o) subclass) (eqb (byte s o k) x) false
 
 -- the endpoint of this address, or an interface descriptor
 unfoldable pub isEndpoint : List ℕ → ℕ → ℕ → Bool

@@ -11,11 +11,11 @@ use Rattle.text.specs.Put.{Put}
 use Rattle.text.specs.Text.{texts}
 use Rattle.text.proofs.Texts.{turn}
 use Rattle.text.specs.Text.{lineMost}
-use Rattle.settings.specs.Inner.{kthOf}
-use Rattle.settings.specs.Holding.{noSetting}
-use Rattle.settings.specs.declared.Setting.{Setting}
-use Rattle.settings.specs.declared.Choice.the-variants.{At, Nothing}
-use Rattle.settings.proofs.Order.{kth-at, kth-past}
+use Rattle.alternate_settings.specs.Inner.{kthOf}
+use Rattle.alternate_settings.specs.Holding.{noSetting}
+use Rattle.alternate_settings.specs.declared.Setting.{Setting}
+use Rattle.alternate_settings.specs.declared.Choice.the-variants.{At, Nothing}
+use Rattle.alternate_settings.proofs.Order.{kth-at, kth-past}
 use Rattle.configuration_text.specs.Texts.{settingLine}
 
 -- the first i of a list are printed, each in at most so many bytes

@@ -8,8 +8,8 @@ use Rattle.block_text.specs.Answers.{toldBy}
 use Rattle.interfaces.specs.Limits.{settingsMost}
 use Rattle.interfaces.specs.declared.Block.{Block}
 use Rattle.interfaces.specs.declared.Stream.{Stream}
-use Rattle.settings.specs.Inner.{settingsOf}
-use Rattle.settings.specs.declared.Setting.{Setting}
+use Rattle.alternate_settings.specs.Inner.{settingsOf}
+use Rattle.alternate_settings.specs.declared.Setting.{Setting}
 use Rattle.configuration.specs.declared.Configuration.{Configuration}
 use Rattle.picking.specs.declared.Picked.{Picked}
 

@@ -8,16 +8,16 @@ ghost use Rattle.text.specs.Text.{texts};
 ghost use Rattle.text.specs.Written.{answerOf, bufferOf};
 ghost use Rattle.text.specs.Text.{lineMost};
 ghost use Rattle.interfaces.specs.Limits.{settingsMost};
-ghost use Rattle.settings.specs.Inner.{settingsOf};
+ghost use Rattle.alternate_settings.specs.Inner.{settingsOf};
 ghost use Rattle.configuration_text.specs.Texts.{settingLine, streamText, streamMost, listedText, configurationText, pickedText, room};
+use alternate_settings::Choice;
+use alternate_settings::Setting;
 use configuration::Configuration;
 use interfaces::INTERFACES_MOST;
 use interfaces::SETTINGS_MOST;
 use interfaces::Stream;
 use picking::Picked;
 use rules::Verdict;
-use settings::Choice;
-use settings::Setting;
 use text::LINE_MOST;
 
 // How many bytes are enough: two lines, and of each streaming interface its own and those of its settings.
@@ -119,7 +119,7 @@ fn settings(buf: &mut [u8], start: usize, s: &[u8], interface: u8, endpoint: u8)
     let mut at = start;
     let mut i: usize = 0;
     while i < SETTINGS_MOST {
-        match settings::kth(s, interface, endpoint, i) {
+        match alternate_settings::kth(s, interface, endpoint, i) {
             Choice::Nothing => return at,
             Choice::At(x) => {
                 at = setting(buf, at, x);

@@ -12,8 +12,8 @@ use Rattle.configuration_rules.specs.declared.Sought.the-variants.{Outside}
 use Rattle.interfaces.specs.Line.{course}
 use Rattle.interfaces.specs.Inner.{blockStart, blockEnd, blockOf}
 use Rattle.interfaces.proofs.Lines.{after-on, after-whole, next-is}
-use Rattle.layout.specs.Words.{Starts, Run}
-use Rattle.layout.proofs.Walked.{run}
+use Rattle.configuration_layout.specs.Words.{Starts, Run}
+use Rattle.configuration_layout.proofs.Walked.{run}
 use Rattle.configuration_words.specs.Block.{startOf, BlockLies, BlockIs}
 
 -- no two runs that start at one place end apart

@@ -7,7 +7,7 @@ use mathlib.Core.Logic.{⊎-elim, _↔_}
 use lib.ListN.{length, getD, replicate}
 use native.Mathlib.Omega.{arith}
 use native.Mathlib.Nat.{eq-or-lt-of-le}
-use Rattle.rules.specs.Pick.{pick}
+use Rattle.rules.specs.IfElse.{ifElse}
 use Rattle.rules.specs.Verdicts.{_andThen_}
 use Rattle.rules.specs.declared.Verdict.{Verdict}
 use Rattle.rules.specs.declared.Verdict.the-variants.{Accepted, Refused}
@@ -30,11 +30,11 @@ use Rattle.configuration_rules.specs.Words.{ControlFirst}
 use Rattle.configuration_rules.proofs.Deciding as deciding
 use Rattle.interfaces.specs.Inner.{found, headOr, nextOf, blockStart, blockOf, listedIn, streamsOf}
 use Rattle.interfaces.specs.Limits.{interfacesMost, noStream}
-use Rattle.layout.specs.Inner.{layoutVerdict}
-use Rattle.layout.specs.Words.{Starts}
-use Rattle.layout.specs.Broken.{Laid}
-use Rattle.layout.proofs.Walked.{lists}
-use Rattle.layout.proofs.ExactlyWhen as layout
+use Rattle.configuration_layout.specs.Inner.{layoutVerdict}
+use Rattle.configuration_layout.specs.Words.{Starts}
+use Rattle.configuration_layout.specs.Broken.{Laid}
+use Rattle.configuration_layout.proofs.Walked.{lists}
+use Rattle.configuration_layout.proofs.ExactlyWhen as layout
 use Rattle.configuration.specs.Inner.{moved, entriesNamed, verdict73, blockVerdict, streamsBy, lateBy, LateIs, controlPlace, refusedBy, acceptedWith, ConfigurationIs, laid, blocks, sound}
 use Rattle.configuration.specs.Answer.{entryCount, entryAt, noBlock}
 use Rattle.configuration.specs.declared.Configuration.{Configuration}
@@ -152,8 +152,8 @@ module _ (s : List ℕ) where
           (bad k (startOf s o + q .0) (by-streaming c B m w n o d (earlier-right i b h) (blockOf s o) (the-block o (d .starts)) k (q .0) (streaming-exactly.refused T (blockOf s o) k (q .0) .0 (q .1))))
 
     after-control : (m : List Entity) → ControlRight s c B m → (t : Bool) → entriesNamed B (streamsOf s .streams) (streamsOf s .count) ≡ t
-        → Ends (pick t Accepted (Refused 73 (blockStart s c)) andThen streamsBy s (control.tableOf B m) (listedIn s))
-    unfolding pick
+        → Ends (ifElse t Accepted (Refused 73 (blockStart s c)) andThen streamsBy s (control.tableOf B m) (listedIn s))
+    unfolding ifElse
     after-control m w true e = after-73 m w (all-named s c l B e) (streamsBy s (control.tableOf B m) (listedIn s)) (judged s (control.tableOf B m) (listedIn s))
     after-control m w false e = let j = one-unnamed s c l B e in rw (same-start c (l .one .starts)) (bad 73 (startOf s c) (by-73 c B m w (j .0) (j .1) (j .2)))
 
@@ -178,11 +178,11 @@ module _ (s : List ℕ) where
 
     module _ (m : List Entity) (w : ControlRight s c B m) where
       late-73 : entriesNamed B (streamsOf s .streams) (streamsOf s .count) ≡ false → LateIs s c (Refused 73 (startOf s c))
-      unfolding lateBy verdict73 pick
+      unfolding lateBy verdict73 ifElse
       late-73 e = record { answer = control.acceptedWith B m; read = control-accepts B (w .sound) m (w .entities); same = rw (e, same-start c (l .one .starts)) }
 
       late-streams : AllNamed s B → (v : Verdict) → Judged s (control.tableOf B m) (listedIn s) v → LateIs s c v
-      unfolding lateBy verdict73 pick
+      unfolding lateBy verdict73 ifElse
       late-streams n v j =
           record {
             answer = control.acceptedWith B m;

@@ -8,7 +8,7 @@ use lib.Seq.{getD-take, getD-drop}
 use lib.Dec.{eqb}
 use borrow.Author.Tests.{eq-eqb, ne-eqb}
 use native.Mathlib.Omega.{arith}
-use Rattle.rules.specs.Pick.{pick}
+use Rattle.rules.specs.IfElse.{ifElse}
 use Rattle.rules.specs.Walk.{Clean}
 use Rattle.rules.specs.declared.Verdict.the-variants.{Accepted}
 use Rattle.rules.proofs.Firsts.{lt-or-ge}
@@ -22,12 +22,12 @@ use Rattle.configuration_rules.proofs.Deciding as deciding
 use Rattle.interfaces.specs.Line.{course}
 use Rattle.interfaces.specs.Inner.{found, nextOf, blockStart, blockEnd, blockOf, blockAt, streamAt, listedIn}
 use Rattle.interfaces.proofs.Lines.{after-on, next-is}
-use Rattle.settings.specs.Inner as settings
-use Rattle.settings.specs.Holding.{noSetting}
-use Rattle.layout.specs.Words.{Starts}
-use Rattle.layout.specs.Broken.{Laid}
-use Rattle.layout.proofs.Walked.{lists, not-before, stands-there, later-behind}
-use Rattle.layout.proofs.Few.{few}
+use Rattle.alternate_settings.specs.Inner as settings
+use Rattle.alternate_settings.specs.Holding.{noSetting}
+use Rattle.configuration_layout.specs.Words.{Starts}
+use Rattle.configuration_layout.specs.Broken.{Laid}
+use Rattle.configuration_layout.proofs.Walked.{lists, not-before, stands-there, later-behind}
+use Rattle.configuration_layout.proofs.Few.{few}
 use Rattle.configuration.specs.Inner.{refusedBy, acceptedWith, ConfigurationIs, laid, blocks, sound}
 use Rattle.configuration.specs.declared.Configuration.{Configuration}
 use Rattle.configuration_words.specs.Broken.{ListedAt, Sound}
@@ -72,13 +72,13 @@ module _ (s : List ℕ) (clean : Clean (course s)) where
     past-end h = List·getD-eq-default s 0 (omega arith)
 
     pub bytes-are : BytesAre s o a (settings.bytesAt s o a)
-    unfolding settings.bytesAt pick
+    unfolding settings.bytesAt ifElse
     bytes-are = ⊎-elim inside outside (lt-or-ge e (length s))
       where
-        outside : length s ≤ e → BytesAre s o a (pick (eqb (typeAt s e) endpointType) (packetBytes (packetAt s e)) 0)
+        outside : length s ≤ e → BytesAre s o a (ifElse (eqb (typeAt s e) endpointType) (packetBytes (packetAt s e)) 0)
         outside h = rw (ne-eqb (typeAt s e) endpointType (λ q. omega (arith, past-end h))) (found-none (λ x. absurd (omega arith)))
 
-        inside : e < length s → BytesAre s o a (pick (eqb (typeAt s e) endpointType) (packetBytes (packetAt s e)) 0)
+        inside : e < length s → BytesAre s o a (ifElse (eqb (typeAt s e) endpointType) (packetBytes (packetAt s e)) 0)
         inside h =
             ⊎-elim (λ q. rw (ne-eqb (typeAt s e) endpointType (λ z. (let v : interfaceType ≡ endpointType = sym q ∙ z in omega arith))) (found-none (λ x. q)))
             (λ q. rw (eq-eqb (typeAt s e) endpointType (q .endpoint)) (found-one h q)) (deciding.endpoint s e a .0 (stands-there s clean (b .there) (b .inside) (sought.Endpoint a) h .1))

@@ -9,7 +9,7 @@ use lib.Dec.{eqb}
 use borrow.Author.Tests.{eq-eqb, ne-eqb, eqb-true, eqb-false}
 use native.Mathlib.Omega.{arith}
 use native.Mathlib.Nat.{eq-or-lt-of-le}
-use Rattle.rules.specs.Pick.{pick}
+use Rattle.rules.specs.IfElse.{ifElse}
 use Rattle.rules.specs.declared.Verdict.the-variants.{Accepted, Refused}
 use Rattle.rules.proofs.Firsts.{lt-or-ge}
 use Rattle.rules.proofs.Verdicts.{apart, clash, same-refusal}
@@ -24,16 +24,16 @@ use Rattle.streaming.specs.Broken as streaming-broken
 use Rattle.configuration_rules.specs.Descriptors.{numberAt}
 use Rattle.interfaces.specs.Limits.{noStream}
 use Rattle.interfaces.specs.Inner.{blockOf, listedIn, streamsOf, placeOf}
-use Rattle.settings.specs.Inner.{settingsOf, fewestOf}
-use Rattle.settings.specs.Holding.{noSetting, Holds, Fewest, NoneHolds}
-use Rattle.settings.specs.declared.Setting.{Setting}
-use Rattle.settings.specs.declared.Choice.{Choice}
-use Rattle.settings.specs.declared.Choice.the-variants.{At, Nothing}
-use Rattle.settings.proofs.Picking.{nothing-exactly, fewest-exactly}
-use Rattle.layout.specs.Broken as layout-broken
+use Rattle.alternate_settings.specs.Inner.{settingsOf, fewestOf}
+use Rattle.alternate_settings.specs.Holding.{noSetting, Holds, Fewest, NoneHolds}
+use Rattle.alternate_settings.specs.declared.Setting.{Setting}
+use Rattle.alternate_settings.specs.declared.Choice.{Choice}
+use Rattle.alternate_settings.specs.declared.Choice.the-variants.{At, Nothing}
+use Rattle.alternate_settings.proofs.Picking.{nothing-exactly, fewest-exactly}
+use Rattle.configuration_layout.specs.Broken as layout-broken
 use Rattle.configuration.specs.Inner.{ConfigurationIs}
 use Rattle.configuration.specs.declared.Configuration.{Configuration}
-use Rattle.picking.specs.Inner.{settingsIn, settingsFor, refusedBy, answerOf, PickIs, own, picks}
+use Rattle.picking.specs.Inner.{settingsIn, settingsFor, refusedBy, answerOf, PickIs, own, ifElses}
 use Rattle.picking.specs.declared.Picked.{Picked}
 use Rattle.configuration_words.specs.Broken.{Sound, FirstBroken, by-layout, by-control, by-73, by-streaming}
 use Rattle.configuration_words.specs.Picked.{FirstOf, SettingsAre, HoldsIn, PickedIn, Picks}
@@ -82,7 +82,7 @@ module _ (s : List ℕ) where
     r = placeOf (streamsOf s .streams) (streamsOf s .count) i
 
     none-listed : r ≡ n → settingsFor s i ≡ []
-    unfolding settingsIn pick
+    unfolding settingsIn ifElse
     none-listed e = rw (eq-eqb r n e)
 
     module _ (h : r ≡ n → ⊥) where
@@ -109,7 +109,7 @@ module _ (s : List ℕ) where
           }
 
       settings-at : settingsFor s i ≡ settingsOf s i (endpointOf (blockOf s o))
-      unfolding settingsIn pick o
+      unfolding settingsIn ifElse o
       settings-at =
           let l = w .control .laid in
           rw (ne-eqb r n h, stream-is s (w .place) l r inside, stream-endpoint s w (getD (listedIn s) r 0) (listed-at s (w .place) l r inside))
@@ -190,7 +190,7 @@ module _ (s : List ℕ) where
 
     pub picked : {x : Picked} → PickIs s i p x → Picks s i p x
     unfolding refusedBy
-    picked (picks c a e) = chosen c a e (fewestOf p (settingsFor s i)) refl
+    picked (ifElses c a e) = chosen c a e (fewestOf p (settingsFor s i)) refl
     picked (own c j q a e) = record {
       own-refusal = λ k o n. (λ v. refused s c a k o .0 (e ∙ v), λ f. sym e ∙ refused s c a k o .1 f);
       no-setting = (λ v. absurd (not-74 (refused s c a j q .0 e) (same-refusal j q 74 0 v .0)), λ d. absurd (clash (c .verdict) j q e (accepted s c a .1 (d .0))));
@@ -201,7 +201,7 @@ module _ (s : List ℕ) where
     pub zero-pick : {x : Picked} → PickIs s i p x → (k o : ℕ) → x .verdict ≡ Refused k o → x .setting ≡ noSetting
     unfolding answerOf refusedBy
     zero-pick (own c j q a e) k o v = refl
-    zero-pick (picks c a e) k o v = go (fewestOf p (settingsFor s i)) v
+    zero-pick (ifElses c a e) k o v = go (fewestOf p (settingsFor s i)) v
       where
         go : (h : Choice) → answerOf h .verdict ≡ Refused k o → answerOf h .setting ≡ noSetting
         go Nothing v = refl

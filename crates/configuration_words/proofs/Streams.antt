@@ -23,10 +23,10 @@ use Rattle.configuration_rules.specs.Words.{StreamingFirst}
 use Rattle.configuration_rules.proofs.Deciding.{listed}
 use Rattle.interfaces.specs.Limits.{interfacesMost, noStream}
 use Rattle.interfaces.specs.Inner.{streamAt, listedIn, streamsOf, placeOf}
-use Rattle.layout.specs.Words.{Lists}
-use Rattle.layout.specs.Broken.{Laid}
-use Rattle.layout.proofs.Walked.{lists}
-use Rattle.layout.proofs.Few.{few}
+use Rattle.configuration_layout.specs.Words.{Lists}
+use Rattle.configuration_layout.specs.Broken.{Laid}
+use Rattle.configuration_layout.proofs.Walked.{lists}
+use Rattle.configuration_layout.proofs.Few.{few}
 use Rattle.configuration.specs.Answer.{entryCount, entryAt}
 use Rattle.configuration.specs.Inner.{firstUnnamed, entriesNamed, blockVerdict, streamsBy}
 use Rattle.configuration_words.specs.Broken.{ListedAt, Named, AllNamed}

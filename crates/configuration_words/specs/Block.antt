@@ -4,7 +4,7 @@ use mathlib.Core.Path.{_≡_}
 use mathlib.Core.List.{List}
 use lib.ListN.{length, take, drop}
 use Rattle.blocks.specs.Blocks.{lenAt}
-use Rattle.layout.specs.Words.{Run}
+use Rattle.configuration_layout.specs.Words.{Run}
 
 -- straight after it
 abbrev pub startOf : List ℕ → ℕ → ℕ

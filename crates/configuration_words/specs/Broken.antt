@@ -10,8 +10,8 @@ use Rattle.streaming.specs.Answer.{Seen}
 use Rattle.streaming.specs.Broken as streaming
 use Rattle.configuration_rules.specs.Descriptors.{numberAt}
 use Rattle.configuration_rules.specs.Words.{StreamingFirst}
-use Rattle.layout.specs.Words.{Starts}
-use Rattle.layout.specs.Broken.{Laid, FirstMislaid}
+use Rattle.configuration_layout.specs.Words.{Starts}
+use Rattle.configuration_layout.specs.Broken.{Laid, FirstMislaid}
 use Rattle.configuration.specs.Answer.{entryCount, entryAt}
 use Rattle.configuration_words.specs.Block.{startOf, BlockIs}
 

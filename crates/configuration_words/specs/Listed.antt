@@ -8,10 +8,10 @@ use Rattle.configuration_rules.specs.Descriptors.{interfaceType, typeAt, number
 use Rattle.configuration_rules.specs.Words.{StreamingFirst, SettingOf, EndpointOf}
 use Rattle.interfaces.specs.Limits.{interfacesMost, settingsMost, noStream}
 use Rattle.interfaces.specs.declared.Stream.{Stream}
-use Rattle.settings.specs.Holding.{noSetting}
-use Rattle.settings.specs.declared.Setting.{Setting}
-use Rattle.layout.specs.Words.{Starts, Lists}
-use Rattle.layout.specs.Broken.{OneControl}
+use Rattle.alternate_settings.specs.Holding.{noSetting}
+use Rattle.alternate_settings.specs.declared.Setting.{Setting}
+use Rattle.configuration_layout.specs.Words.{Starts, Lists}
+use Rattle.configuration_layout.specs.Broken.{OneControl}
 use Rattle.configuration.specs.declared.Configuration.{Configuration}
 use Rattle.configuration_words.specs.Block.{BlockLies}
 

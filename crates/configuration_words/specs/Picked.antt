@@ -6,9 +6,9 @@ use mathlib.Core.Logic.{_↔_}
 use Rattle.rules.specs.declared.Verdict.the-variants.{Accepted, Refused}
 use Rattle.streaming.specs.Answer.{endpointOf}
 use Rattle.configuration_rules.specs.Descriptors.{numberAt}
-use Rattle.settings.specs.Inner.{settingsOf}
-use Rattle.settings.specs.Holding.{Holds, Fewest}
-use Rattle.settings.specs.declared.Setting.{Setting}
+use Rattle.alternate_settings.specs.Inner.{settingsOf}
+use Rattle.alternate_settings.specs.Holding.{Holds, Fewest}
+use Rattle.alternate_settings.specs.declared.Setting.{Setting}
 use Rattle.picking.specs.declared.Picked.{Picked}
 use Rattle.configuration_words.specs.Block.{BlockIs}
 use Rattle.configuration_words.specs.Broken.{ListedAt, Sound, FirstBroken}

@@ -9,7 +9,7 @@ use lib.Dec.{leb, eqb}
 use borrow.Author.Tests.{eqb-false, leb-true}
 use native.Mathlib.Omega.{arith}
 use Rattle.le.specs.Le.{byte}
-use Rattle.rules.specs.Pick.{pick}
+use Rattle.rules.specs.IfElse.{ifElse}
 use Rattle.rules.specs.Walk.{Reached, first, next, Clean}
 use Rattle.rules.specs.declared.Verdict.the-variants.{Accepted}
 use Rattle.rules.proofs.Firsts.{lt-or-ge}
@@ -71,10 +71,10 @@ distinct-more l e d n i j hi hj q = ⊎-elim (λ a. ⊎-elim (both a) (λ b. abs
 module _ (s : List ℕ) where
   -- a step of the descriptors: the same list, or one entity more
   by-step : (P : List Entity → Type 0) (l : List Entity) (o : ℕ) → P l → (isEntity (kindAt s o) ≡ true → P (l ++ (entityOf s o ∷ []))) → P (l ++ entitiesAt s o)
-  unfolding entitiesAt pick
+  unfolding entitiesAt ifElse
   by-step P l o p q = go (isEntity (kindAt s o)) refl
     where
-      go : (b : Bool) → isEntity (kindAt s o) ≡ b → P (l ++ pick b (entityOf s o ∷ []) [])
+      go : (b : Bool) → isEntity (kindAt s o) ≡ b → P (l ++ ifElse b (entityOf s o ∷ []) [])
       go true e = q e
       go false e = rw append-nil p
 
@@ -121,7 +121,7 @@ module _ (s : List ℕ) where
       (x .0, simp length-append (omega (arith, x .1)), rw (List·getD-append l (entitiesAt s p) noEntity (x .0) (x .1)) (x .2))
 
   gains-entity : (o : ℕ) (l : List Entity) → isEntity (kindAt s o) ≡ true → HasEntity o (l ++ entitiesAt s o)
-  unfolding entitiesAt pick
+  unfolding entitiesAt ifElse
   gains-entity o l q =
       rw q
       (length l, simp length-append (omega arith), ap (λ (e : Entity). e .offset) (at-new noEntity l (entityOf s o) (length l) (omega arith) (simp length-append (omega arith))))

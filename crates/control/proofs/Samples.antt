@@ -5,7 +5,7 @@ use mathlib.Core.Path.{refl}
 use mathlib.Core.List.{List, [], _∷_, _++_}
 use lib.ListN.{length}
 use native.Mathlib.Omega.{arith}
-use Rattle.rules.specs.Pick.{pick}
+use Rattle.rules.specs.IfElse.{ifElse}
 use Rattle.rules.specs.First.{First}
 use Rattle.rules.specs.Chain.{Chain.one}
 use Rattle.rules.specs.Walk.{walkFrom, walk}
@@ -84,7 +84,7 @@ pub record Samples : Type 0 where
   pub unreached-loop : ControlIs apart (refusedBy 15 12)
 
 pub samples : Samples
-unfolding wholeRows rowsIn kindRows lengthBroken typeBroken saysOf revisionBy knownAs shape countedAt fixedAt sizedAt inputAt kindOf isRevision revisionRight entityRows isEntity pinsRight pinCount terminalOf usedBefore entitiesAt pick walkFrom walk sourceCount sourcePlace findFrom allBelow earlier orderly plain allPlain
+unfolding wholeRows rowsIn kindRows lengthBroken typeBroken saysOf revisionBy knownAs shape countedAt fixedAt sizedAt inputAt kindOf isRevision revisionRight entityRows isEntity pinsRight pinCount terminalOf usedBefore entitiesAt ifElse walkFrom walk sourceCount sourcePlace findFrom allBelow earlier orderly plain allPlain
 samples = record {
   header-alone = sound [] (refl, (refl, (refl, (refl, tt)))) refl (orderly-fine (header 0x0C) [] (orderly-is (header 0x0C) [] refl));
   names-itself = source (at-twelve ∷ []) 15 12 (refl, (refl, (refl, (refl, tt)))) refl

@@ -9,7 +9,7 @@ use lib.Dec.{eqb}
 use borrow.Author.Tests.{not-false, leb-false}
 use native.Mathlib.Omega.{arith}
 use Rattle.le.specs.Le.{byte, le32At}
-use Rattle.rules.specs.Pick.{pick}
+use Rattle.rules.specs.IfElse.{ifElse}
 use Rattle.rules.specs.Pad.{pad}
 use Rattle.rules.specs.Numbered.{firstRow, NoneOf, isBroken}
 use Rattle.rules.specs.Walk.{Outcome.done, walk, brokenAt}
@@ -24,8 +24,8 @@ use Rattle.entities.specs.Table.{entitiesMost, noEntity, noTable, used}
 use Rattle.entities.specs.declared.Entity.{Entity}
 use Rattle.entities.specs.declared.Table.{Table}
 use Rattle.entities.specs.declared.Revision.{Revision}
-use Rattle.marks.specs.Marks.{noMarks, marked, withMark}
-use Rattle.marks.proofs.Sets.{Good, good-none, good-with, none-marked, with-marked}
+use Rattle.used_ids.specs.Marks.{noMarks, marked, withMark}
+use Rattle.used_ids.proofs.Sets.{Good, good-none, good-with, none-marked, with-marked}
 use Rattle.control_rules.specs.Descriptors.{lenAt, revisionOf, knownAs, kindOf, kindAt, isEntity, Shaped}
 use Rattle.control_rules.specs.Rules.{limits, headRows, pinsRight, entityRows, kindRows, rowsIn, rows, entityOf, entitiesAt}
 use Rattle.control_rules.proofs.Shortest.{sub-room, id-room}
@@ -42,7 +42,7 @@ pub record Fine (s : List ℕ) (o : ℕ) (u : Bool) (n : ℕ) : Type 0 where
   pub pins : pinsRight (kindAt s o) s o ≡ true
 
 pub fine : (s : List ℕ) (o : ℕ) (u : Bool) (n : ℕ) → NoneOf (rows s o u n) → Fine s o u n
-unfolding rowsIn kindRows entityRows isBroken pick
+unfolding rowsIn kindRows entityRows isBroken ifElse
 fine s o u n d = let p = placed s o (kept 5) in record {
   shaped = record { long = p .long; inside = p .inside; right = not-false _ (kept 7) };
   few = λ e. leb-false entitiesMost n (rw e at (kept 11));
@@ -126,7 +126,7 @@ module _ (s : List ℕ) (t : Table) (m : List ℕ) (o : ℕ) (w : Turn s t m o) 
     onward = goes (course s) (w .reading .seen) o (w .reading .walking) (steady s) (w .inside) (row-none (course s .rows (w .reading .seen) o) (steady s .numbered (w .reading .seen) o) (sym same-rule ∙ none))
 
     pub stays : isEntity (kindAt s o) ≡ false → Reading s t m (o + lenAt s o)
-    unfolding entitiesAt pick
+    unfolding entitiesAt ifElse
     stays e = record {
       seen = w .reading .seen;
       walking = rw (e, append-nil) at onward;
@@ -146,7 +146,7 @@ module _ (s : List ℕ) (t : Table) (m : List ℕ) (o : ℕ) (w : Turn s t m o) 
 
       pub gains : (t′ : Table) (m′ : List ℕ) → t′ .count ≡ t .count + 1 → t′ .entities ≡ set (t .entities) (t .count) (entityOf s o) → m′ ≡ withMark m (byte s o 3)
           → Reading s t′ m′ (o + lenAt s o)
-      unfolding entitiesAt pick
+      unfolding entitiesAt ifElse
       gains t′ m′ n l k =
           let few : length (w .reading .seen) < entitiesMost = omega (arith, has-place, w .reading .counted) in
           record {

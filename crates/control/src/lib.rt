@@ -31,7 +31,7 @@ fn walk(s: &[u8]) -> Control
 {
     let revision = control_rules::revision_of(s);
     let mut table = entities::no_table();
-    let mut marks = marks::none();
+    let mut marks = used_ids::none();
     let mut at: usize = 0;
     while at < s.len() {
         let count = table.count;
@@ -40,7 +40,7 @@ fn walk(s: &[u8]) -> Control
             return refused(broken, at);
         }
         if control_rules::is_entity(control_rules::known_as(revision, s[at + 2])) {
-            marks::with(&mut marks, s[at + 3]);
+            used_ids::with(&mut marks, s[at + 3]);
             table.entities[count] = control_rules::entity_at(s, at);
             table.count = count + 1;
         }

@@ -6,7 +6,7 @@ use lib.ListN.{length, set, getD, replicate, length-append}
 use borrow.Author.Tests.{lt-leb, le-leb}
 use native.Mathlib.Omega.{arith}
 use native.Mathlib.Numerals.{add-one}
-use Rattle.rules.specs.Pick.{pick}
+use Rattle.rules.specs.IfElse.{ifElse}
 use Rattle.rules.specs.Pad.{pad}
 use Rattle.rules.proofs.Padded.{pad-set}
 use Rattle.control_map.specs.Answer.{controlsMost, controlByte, firstControls, controlBytes}
@@ -42,9 +42,9 @@ module _ (s : List ℕ) (o n : ℕ) where
 
 -- a place under the length has its control, and one behind it 0
 pub control-given : (s : List ℕ) (o n i : ℕ) → i < n → controlByte s o n i ≡ getD s (o + i) 0
-unfolding controlByte pick
+unfolding controlByte ifElse
 control-given s o n i h = rw (lt-leb n i h)
 
 pub behind-zero : (s : List ℕ) (o n i : ℕ) → n ≤ i → controlByte s o n i ≡ 0
-unfolding controlByte pick
+unfolding controlByte ifElse
 behind-zero s o n i h = rw (le-leb n i h)

@@ -8,7 +8,7 @@ use lib.Seq.{take-at}
 use lib.Dec.{eqb}
 use borrow.Author.Tests.{eqb-true, eq-eqb}
 use native.Mathlib.Omega.{arith}
-use Rattle.rules.specs.Pick.{pick}
+use Rattle.rules.specs.IfElse.{ifElse}
 use Rattle.rules.specs.First.{First}
 use Rattle.rules.specs.Walk.{Clean}
 use Rattle.rules.proofs.Padded.{pad-at}
@@ -48,16 +48,16 @@ same-place : (m n : ℕ) → places.At m ≡ places.At n → m ≡ n
 same-place m n e = cc
 
 pub place-is : {k : Kind} {t n : ℕ} → ControlsAt k t n → placeBy k t ≡ places.At n
-unfolding placeBy pick
+unfolding placeBy ifElse
 place-is (camera-terminal t e) = rw (eq-eqb t camera e)
 place-is (processing-unit t) = refl
 
 stands : (k : Kind) (t n : ℕ) → placeBy k t ≡ places.At n → ControlsAt k t n
-unfolding placeBy pick
+unfolding placeBy ifElse
 stands header t n e = absurd (apart n e)
 stands input t n e = go (eqb t camera) refl e
   where
-    go : (b : Bool) → eqb t camera ≡ b → pick b (places.At 14) places.Nowhere ≡ places.At n → ControlsAt input t n
+    go : (b : Bool) → eqb t camera ≡ b → ifElse b (places.At 14) places.Nowhere ≡ places.At n → ControlsAt input t n
     go true q h = rw (← same-place 14 n h) (camera-terminal t (eqb-true t camera q))
     go false q h = absurd (apart n h)
 stands output t n e = absurd (apart n e)

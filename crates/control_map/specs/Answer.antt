@@ -6,7 +6,7 @@ use mathlib.Core.List.{List, [], _∷_, _++_}
 use lib.ListN.{length, getD, replicate}
 use lib.Dec.{leb}
 use Rattle.le.specs.Le.{byte}
-use Rattle.rules.specs.Pick.{pick}
+use Rattle.rules.specs.IfElse.{ifElse}
 use Rattle.rules.specs.declared.Verdict.the-variants.{Accepted, Refused}
 use Rattle.entities.specs.Table.{entityAt}
 use Rattle.entities.specs.declared.Entity.{Entity}
@@ -36,7 +36,7 @@ controlsMost = 32
 
 -- control i of the n that stand from o on; 0 behind them
 unfoldable pub controlByte : List ℕ → ℕ → ℕ → ℕ → ℕ
-controlByte s o n i = pick (leb n i) 0 (getD s (o + i) 0)
+controlByte s o n i = ifElse (leb n i) 0 (getD s (o + i) 0)
 
 -- the first k of them
 unfoldable pub firstControls : List ℕ → ℕ → ℕ → ℕ → List ℕ

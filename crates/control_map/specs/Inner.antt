@@ -2,7 +2,7 @@
 use Prim.Native.Nat.{ℕ}
 use mathlib.Core.List.{List}
 use lib.Dec.{eqb}
-use Rattle.rules.specs.Pick.{pick}
+use Rattle.rules.specs.IfElse.{ifElse}
 use Rattle.entities.specs.declared.Entity.{Entity}
 use Rattle.control_rules.specs.Descriptors.{Kind, header, input, output, selector, processing, extension, encoding, unknown, kindOf, camera}
 use Rattle.control_map.specs.Answer.{controlsAt, refusedMap}
@@ -11,7 +11,7 @@ use Rattle.control_map.specs.declared.Place.the-variants.{At, Nowhere}
 use Rattle.control_map.specs.declared.Map.{Map}
 
 abbrev pub cameraPlace : ℕ → Place
-cameraPlace t = pick (eqb t camera) (At 14) Nowhere
+cameraPlace t = ifElse (eqb t camera) (At 14) Nowhere
 
 unfoldable pub placeBy : Kind → ℕ → Place
 placeBy header t = Nowhere

@@ -8,7 +8,7 @@ use lib.Dec.{leb, eqb}
 use borrow.Author.Tests.{lt-leb, le-leb, eq-eqb, ne-eqb, not-true, not-false}
 use native.Mathlib.Omega.{arith}
 use Rattle.le.specs.Le.{byte, le16At}
-use Rattle.rules.specs.Pick.{pick}
+use Rattle.rules.specs.IfElse.{ifElse}
 use Rattle.entities.specs.Revisions.{saysOf}
 use Rattle.entities.specs.declared.Revision.{Revision}
 use Rattle.entities.specs.declared.Revision.the-variants.{R10, R11, R15}
@@ -33,15 +33,15 @@ module _ (s : List ℕ) (o len : ℕ) (l : len ≡ lenAt s o) where
   counted-is base k n e = rw (← l, e)
 
   pub input-no : (v : Revision) → len < 8 → false ≡ inputAt v s o
-  unfolding inputAt pick
+  unfolding inputAt ifElse
   input-no v h = rw (← l, lt-leb 8 len h)
 
   pub input-plain : (v : Revision) (t : ℕ) → 8 ≤ len → t ≡ le16At s (o + 4) → (t ≡ camera → ⊥) → true ≡ inputAt v s o
-  unfolding inputAt pick
+  unfolding inputAt ifElse
   input-plain v t h e n = rw (← l, le-leb 8 len h, ← e, ne-eqb t camera n)
 
   pub input-camera : (v : Revision) (y : Says) (t : ℕ) (r : Bool) → y ≡ saysOf v → 8 ≤ len → t ≡ le16At s (o + 4) → t ≡ camera → r ≡ sizedAt v s o (y .camera) 14 → r ≡ inputAt v s o
-  unfolding inputAt pick
+  unfolding inputAt ifElse
   input-camera v y t r z h e q f = rw (f, z, ← l, le-leb 8 len h, ← e, eq-eqb t camera q)
 
   pub extension-no : (p : ℕ) → p ≡ byte s o 21 → len < 24 + p → false ≡ extensionAt s o

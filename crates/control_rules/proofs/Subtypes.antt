@@ -8,7 +8,7 @@ use lib.Dec.{leb, eqb}
 use borrow.Author.Tests.{lt-leb, le-leb, eq-eqb, ne-eqb, eqb-true}
 use native.Mathlib.Omega.{arith}
 use Rattle.le.specs.Le.{le16At}
-use Rattle.rules.specs.Pick.{pick}
+use Rattle.rules.specs.IfElse.{ifElse}
 use Rattle.entities.specs.Revisions.{saysOf}
 use Rattle.entities.specs.declared.Revision.{Revision}
 use Rattle.entities.specs.declared.Says.{Says}
@@ -90,24 +90,24 @@ unfolding isRevision
 is-15 x n m = rw (ne-eqb x 0x0100 n, ne-eqb x 0x0110 m)
 
 pub known-other : (v : Revision) (x : ℕ) → (x ≡ 7 → ⊥) → x ≡ knownAs v x
-unfolding knownAs pick
+unfolding knownAs ifElse
 known-other v x n = rw (ne-eqb x 7 n)
 
 module _ (v : Revision) (y : Says) (e : y ≡ saysOf v) (x : ℕ) (h : x ≡ 7) where
   pub known-yes : y .encoding ≡ true → 7 ≡ knownAs v x
-  unfolding knownAs pick
+  unfolding knownAs ifElse
   known-yes q = rw (h, ← e, q)
 
   pub known-no : y .encoding ≡ false → 0 ≡ knownAs v x
-  unfolding knownAs pick
+  unfolding knownAs ifElse
   known-no q = rw (h, ← e, q)
 
 -- an entity's subtype is known to its revision
 pub entity-known : (v : Revision) (x : ℕ) → isEntity (kindOf (knownAs v x)) ≡ true → knownAs v x ≡ x
-unfolding knownAs pick kindOf isEntity
+unfolding knownAs ifElse kindOf isEntity
 entity-known v x h = go (eqb x 7) refl (saysOf v .encoding) refl h
   where
-    go : (a : Bool) → eqb x 7 ≡ a → (b : Bool) → saysOf v .encoding ≡ b → isEntity (kindOf (pick a (pick b 7 0) x)) ≡ true → pick a (pick b 7 0) x ≡ x
+    go : (a : Bool) → eqb x 7 ≡ a → (b : Bool) → saysOf v .encoding ≡ b → isEntity (kindOf (ifElse a (ifElse b 7 0) x)) ≡ true → ifElse a (ifElse b 7 0) x ≡ x
     go true p true q i = sym (eqb-true x 7 p)
     go true p false q i = absurd (true≢false (sym i))
     go false p b q i = refl

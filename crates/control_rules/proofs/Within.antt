@@ -8,7 +8,7 @@ use lib.Dec.{leb, eqb}
 use borrow.Author.Tests.{leb-true, eqb-true, eq-eqb}
 use native.Mathlib.Omega.{arith}
 use Rattle.le.specs.Le.{byte, le16At}
-use Rattle.rules.specs.Pick.{pick}
+use Rattle.rules.specs.IfElse.{ifElse}
 use Rattle.rules.proofs.Rows.{and-first, and-second}
 use Rattle.entities.specs.Revisions.{saysOf}
 use Rattle.entities.specs.declared.Revision.{Revision}
@@ -60,7 +60,7 @@ unfolding shape
 unit-sized s o w = sized (revisionOf s) s o (saysOf (revisionOf s) .unit) 7 (w .right)
 
 pub camera-sized : (s : List ℕ) (o : ℕ) → Shaped input s o → le16At s (o + 4) ≡ camera → Sized (revisionOf s) s o (saysOf (revisionOf s) .camera) 14
-unfolding shape inputAt pick
+unfolding shape inputAt ifElse
 camera-sized s o w e =
     sized (revisionOf s) s o (saysOf (revisionOf s) .camera) 14
     (rw (eq-eqb (le16At s (o + 4)) camera e) at (and-second (leb 8 (lenAt s o)) _ (w .right)))

@@ -7,7 +7,7 @@ use mathlib.Core.Bool.{Bool, true, false, _&&_}
 use lib.ListN.{length, getD}
 use lib.Dec.{leb, eqb}
 use Rattle.le.specs.Le.{byte, le16At}
-use Rattle.rules.specs.Pick.{pick}
+use Rattle.rules.specs.IfElse.{ifElse}
 use Rattle.entities.specs.Revisions.{saysOf}
 use Rattle.entities.specs.Table.{encodingUnit}
 use Rattle.entities.specs.declared.Revision.{Revision}
@@ -16,7 +16,7 @@ pub use Rattle.blocks.specs.Blocks.{lenAt}
 
 -- ---- the revision: bcdUVC of the header, which stands first. What is no revision is refused by 8, and read as 1.5 until then
 unfoldable pub revisionBy : ℕ → Revision
-revisionBy x = pick (eqb x 0x0100) R10 (pick (eqb x 0x0110) R11 R15)
+revisionBy x = ifElse (eqb x 0x0100) R10 (ifElse (eqb x 0x0110) R11 R15)
 
 abbrev pub revisionOf : List ℕ → Revision
 revisionOf s = revisionBy (le16At s 3)
@@ -38,7 +38,7 @@ kindOf (suc (suc (suc (suc (suc (suc (suc (suc n)))))))) = unknown
 
 -- the subtype as a revision reads it: one without encoding units does not know 7, as none knows 0
 unfoldable pub knownAs : Revision → ℕ → ℕ
-knownAs v x = pick (eqb x encodingUnit) (pick (saysOf v .encoding) encodingUnit 0) x
+knownAs v x = ifElse (eqb x encodingUnit) (ifElse (saysOf v .encoding) encodingUnit 0) x
 
 -- the kind by the subtype, as a revision reads it; and as the block's own does
 abbrev pub kindIn : Revision → List ℕ → ℕ → Kind
@@ -67,7 +67,7 @@ sizedAt v s o base k = countedAt s o base k && (leb (saysOf v .least) (byte s o 
 
 -- at least 8; for a camera 15 + n, n at 14
 unfoldable pub inputAt : Revision → List ℕ → ℕ → Bool
-inputAt v s o = leb 8 (lenAt s o) && pick (eqb (le16At s (o + 4)) camera) (sizedAt v s o (saysOf v .camera) 14) true
+inputAt v s o = leb 8 (lenAt s o) && ifElse (eqb (le16At s (o + 4)) camera) (sizedAt v s o (saysOf v .camera) 14) true
 
 -- 24+p+n: p at 21, and n at 22+p
 unfoldable pub extensionAt : List ℕ → ℕ → Bool

@@ -4,7 +4,7 @@ use mathlib.Core.List.{List, [], _∷_}
 use mathlib.Core.Bool.{Bool, true, not, _&&_, _||_}
 use lib.Dec.{leb, eqb}
 use Rattle.le.specs.Le.{byte, le16At}
-use Rattle.rules.specs.Pick.{pick}
+use Rattle.rules.specs.IfElse.{ifElse}
 use Rattle.rules.specs.Numbered.{Row, row}
 use Rattle.blocks.specs.Blocks.{wholeRows, lengthBroken, typeBroken}
 use Rattle.blocks.specs.declared.Limits.{Limits}
@@ -80,4 +80,4 @@ abbrev pub entityOf : List ℕ → ℕ → Entity
 entityOf s o = record { id = byte s o 3; kind = byte s o 2; terminal = terminalOf (kindAt s o) s o; offset = o }
 
 unfoldable pub entitiesAt : List ℕ → ℕ → List Entity
-entitiesAt s o = pick (isEntity (kindAt s o)) (entityOf s o ∷ []) []
+entitiesAt s o = ifElse (isEntity (kindAt s o)) (entityOf s o ∷ []) []

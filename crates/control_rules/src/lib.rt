@@ -7,7 +7,7 @@ ghost use lib.ListN.{length};
 ghost use mathlib.Core.Bool.{true};
 ghost use Rattle.le.specs.Le.{byte};
 ghost use Rattle.rules.specs.Numbered.{firstRow};
-ghost use Rattle.marks.specs.Marks.{marked};
+ghost use Rattle.used_ids.specs.Marks.{marked};
 ghost use Rattle.control_rules.specs.Descriptors.{lenAt, revisionBy, revisionOf, knownAs, kindOf, kindAt, isEntity, terminalOf, Shaped};
 ghost use Rattle.control_rules.specs.Rules.{limits, headRows, rowsIn, kindRows, entityRows, isRevision, revisionRight, pinCount, pinsRight, entityOf};
 use blocks::Limits;
@@ -15,7 +15,7 @@ use entities::ENCODING_UNIT;
 use entities::ENTITIES_MOST;
 use entities::Entity;
 use entities::Revision;
-use marks::Marks;
+use used_ids::Marks;
 
 const LIMITS: Limits = Limits {
     least: 12,
@@ -171,7 +171,7 @@ fn entity_rule(s: &[u8], at: usize, sub: u8, count: usize, marks: &Marks) -> u8
     if id == 0 {
         return 9;
     }
-    if marks::has(marks, id) {
+    if used_ids::has(marks, id) {
         return 10;
     }
     if ENTITIES_MOST <= count {

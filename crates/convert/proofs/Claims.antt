@@ -35,7 +35,7 @@ use Rattle.replay.specs.Lines.{linesOf}
 use Rattle.ledger_text.specs.Report.{endText}
 use Rattle.ledger_text.specs.Print.{printOf, ledgerOf}
 use Rattle.convert.specs.Claim.{given, made, SamePrint}
-use Rattle.convert.proofs.Steps.{data-length}
+use Rattle.convert.proofs.Branches.{data-length}
 
 -- ---- the long record for a good short one
 module _ (r : List ℕ) (g : recordBad Short r ≡ false) where

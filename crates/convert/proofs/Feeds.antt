@@ -8,7 +8,7 @@ use lib.ListN.{length, take, drop}
 use lib.Seq.{paste, length-take-le}
 use lib.Dec.{ltb}
 use borrow.Author.Tests.{ltb-true, ltb-false}
-use Rattle.rules.specs.Pick.{pick}
+use Rattle.rules.specs.IfElse.{ifElse}
 use Rattle.text.specs.Put.{Put}
 use Rattle.text.proofs.Puts.{then}
 use Rattle.cuts.specs.Cuts.{cutOf, After, Folds, leastOf}
@@ -17,7 +17,7 @@ use Rattle.cuts.proofs.Feed.{feed-waits, feed-fills, feed-size, feed-rest}
 use Rattle.convert.specs.declared.Converter.{Converter}
 use Rattle.convert.specs.declared.Reader.{Reader}
 use Rattle.convert.specs.Inner.{oneOf, textOf, allOf, textsOf, So, over, soFar, endOf, partOf, leftOf, Gone, Fed, Ended}
-use Rattle.convert.proofs.Steps.{put-none}
+use Rattle.convert.proofs.Branches.{put-none}
 
 -- ---- over some records, and then over some more
 pub all-append : (c : Converter) (xs ys : List (List ℕ)) → allOf c (xs ++ ys) ≡ allOf (allOf c xs) ys
@@ -45,10 +45,10 @@ pos = omega arith
 
 -- the lesser of two is not over the first
 pub least-first : (a b : ℕ) → leastOf a b ≤ a
-unfolding pick
+unfolding ifElse
 least-first a b = go (ltb a b) refl
   where
-    go : (x : Bool) → ltb a b ≡ x → pick x a b ≤ a
+    go : (x : Bool) → ltb a b ≡ x → ifElse x a b ≤ a
     go true e = omega arith
     go false e = let h = ltb-false a b e in omega arith
 
@@ -137,10 +137,10 @@ pub fill-within : (k a b : ℕ) → k ≡ leastOf a b → k ≤ a
 fill-within k a b e = rw e (least-first a b)
 
 pub fill-small : (k a b : ℕ) → k ≡ leastOf a b → k ≤ b
-unfolding pick
+unfolding ifElse
 fill-small k a b e = rw e (go (ltb a b) refl)
   where
-    go : (x : Bool) → ltb a b ≡ x → pick x a b ≤ b
+    go : (x : Bool) → ltb a b ≡ x → ifElse x a b ≤ b
     go true e = let h = ltb-true a b e in omega arith
     go false e = omega arith
 

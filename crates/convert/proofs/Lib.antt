@@ -1,4 +1,4 @@
-pub mod Steps
+pub mod Branches
 pub mod Feeds
 pub mod Words
 pub mod Theorems

@@ -8,25 +8,25 @@ use lib.ListN.{length, take, drop, length-drop, take-append-drop}
 use lib.Seq.{paste, take-all, take-add, length-take-le, length-paste}
 use lib.Dec.{ltb}
 use borrow.Author.Tests.{ltb-true, ltb-false}
-use Rattle.rules.specs.Pick.{pick}
+use Rattle.rules.specs.IfElse.{ifElse}
 use Rattle.cuts.specs.Cuts.{cutOf, After, Folds, leastOf}
-use Rattle.cuts.proofs.Steps.{stop, stop-after, stop-whole, stop-left}
+use Rattle.cuts.proofs.Branches.{stop, stop-after, stop-whole, stop-left}
 use Rattle.cuts.proofs.Goes.{waits, fills, goes}
 
 -- the lesser of two is one of them
 pub least-bounds : (a b : ℕ) → (leastOf a b ≤ a) × (leastOf a b ≤ b)
-unfolding pick
+unfolding ifElse
 least-bounds a b = go (ltb a b) refl
   where
-    go : (c : Bool) → ltb a b ≡ c → (pick c a b ≤ a) × (pick c a b ≤ b)
+    go : (c : Bool) → ltb a b ≡ c → (ifElse c a b ≤ a) × (ifElse c a b ≤ b)
     go true e = let h = ltb-true a b e in (omega arith, omega arith)
     go false e = let h = ltb-false a b e in (omega arith, omega arith)
 
 least-short : (a b : ℕ) → leastOf a b < b → leastOf a b ≡ a
-unfolding pick
+unfolding ifElse
 least-short a b h = go (ltb a b) refl h
   where
-    go : (c : Bool) → ltb a b ≡ c → pick c a b < b → pick c a b ≡ a
+    go : (c : Bool) → ltb a b ≡ c → ifElse c a b < b → ifElse c a b ≡ a
     go true e l = refl
     go false e l = absurd (omega arith)
 

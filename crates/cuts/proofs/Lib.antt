@@ -1,4 +1,4 @@
-pub mod Steps
+pub mod Branches
 pub mod Cut
 pub mod Goes
 pub mod Feed

@@ -8,17 +8,17 @@ use lib.ListN.{length, take, drop, length-drop}
 use lib.Seq.{take-all, drop-drop, drop-length}
 use lib.Dec.{ltb}
 use borrow.Author.Tests.{ltb-true, ltb-false, lt-ltb, le-ltb}
-use Rattle.rules.specs.Pick.{pick}
+use Rattle.rules.specs.IfElse.{ifElse}
 use Rattle.rules.proofs.Lists.{no-elements}
 use Rattle.cuts.specs.Cuts.{cutOf, nextOf}
 use Rattle.cuts.proofs.Cut.{cut-first}
 
 pub next-short : (n at len : ℕ) → len - at < n → len ≡ nextOf n at len
-unfolding pick
+unfolding ifElse
 next-short n at len h = rw (lt-ltb (len - at) n h)
 
 pub next-whole : (n at len : ℕ) → n ≤ len - at → at + n ≡ nextOf n at len
-unfolding pick
+unfolding ifElse
 next-whole n at len h = rw (le-ltb (len - at) n h)
 
 pub record Next (n : ℕ) (l : List ℕ) (at end : ℕ) : Type 0 where
@@ -33,7 +33,7 @@ module _ (n : ℕ) (pos : 0 < n) (l : List ℕ) (at : ℕ) (here : at < length l
   first = cut-first n pos (drop at l) (omega (arith, length-drop at l))
 
   pub next-is : Next n l at (nextOf n at (length l))
-  unfolding pick
+  unfolding ifElse
   next-is = go (ltb (length l - at) n) refl
     where
       short : length l - at < n → Next n l at (length l)
@@ -61,6 +61,6 @@ module _ (n : ℕ) (pos : 0 < n) (l : List ℕ) (at : ℕ) (here : at < length l
           size : n ≡ at + n - at
           size = omega arith
 
-      go : (c : Bool) → ltb (length l - at) n ≡ c → Next n l at (pick c (length l) (at + n))
+      go : (c : Bool) → ltb (length l - at) n ≡ c → Next n l at (ifElse c (length l) (at + n))
       go true e = short (ltb-true (length l - at) n e)
       go false e = whole (ltb-false (length l - at) n e)

@@ -4,7 +4,7 @@ use mathlib.Core.Path.{_≡_}
 use mathlib.Core.List.{List, [], _∷_, _++_}
 use lib.ListN.{length, take, drop}
 use lib.Dec.{ltb}
-use Rattle.rules.specs.Pick.{pick}
+use Rattle.rules.specs.IfElse.{ifElse}
 
 -- THE RECORDS: n bytes each, and the last one what is left
 abbrev pub cutBy : ℕ → ℕ → List ℕ → List (List ℕ)
@@ -33,8 +33,8 @@ Folds {A} over = (a : A) (xs ys : List (List ℕ)) → over a (xs ++ ys) ≡ ove
 
 -- the lesser of two
 abbrev pub leastOf : ℕ → ℕ → ℕ
-leastOf a b = pick (ltb a b) a b
+leastOf a b = ifElse (ltb a b) a b
 
 -- where the record ends that begins at `at`, of so many bytes
 abbrev pub nextOf : ℕ → ℕ → ℕ → ℕ
-nextOf n at len = pick (ltb (len - at) n) len (at + n)
+nextOf n at len = ifElse (ltb (len - at) n) len (at + n)

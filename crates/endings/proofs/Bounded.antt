@@ -5,7 +5,7 @@ use mathlib.Core.Bool.{Bool, true, false, cond}
 use mathlib.Core.List.{List, [], _∷_}
 use native.Mathlib.Omega.{arith}
 use lib.ListN.{length}
-use Rattle.rules.specs.Pick.{pick-all}
+use Rattle.rules.specs.IfElse.{ifElse-all}
 use Rattle.sizes.specs.declared.Opening.{Opening}
 use Rattle.payload.specs.Transfer.{readingOf}
 use Rattle.frames.specs.declared.Phase.{Phase}
@@ -56,7 +56,7 @@ after-bounded s (x ∷ xs) b = after-bounded (next s x) xs (next-bounded s b x)
 before-under : (ph : Phase) (f : Bool) → bytesBefore ph f ≤ underBytes ph
 before-under Fresh f = omega arith
 before-under (Past g) f = omega arith
-before-under (Under r) f = pick-all (λ (n : ℕ). n ≤ r .bytes) _ _ _ (omega arith) (omega arith)
+before-under (Under r) f = ifElse-all (λ (n : ℕ). n ≤ r .bytes) _ _ _ (omega arith) (omega arith)
 
 -- what a take that is not refused leaves room for
 pub never-wraps : (o : Opening) (xs : List Offer) (u t : List ℕ) → refusal (after (fresh o) xs) (Offer.take u t) ≡ 0

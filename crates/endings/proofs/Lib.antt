@@ -4,7 +4,7 @@ pub mod Frames
 pub mod Runs
 pub mod Read
 pub mod Bounded
-pub mod Steps
+pub mod OneMore
 pub mod Entries
 pub mod Theorems
 pub mod Unique

@@ -6,7 +6,7 @@ use mathlib.Core.List.{List, [], _∷_, _++_, append-nil}
 use native.Mathlib.Omega.{arith}
 use lib.ListN.{length, length-append}
 use lib.Dec.{eqb}
-use Rattle.rules.specs.Pick.{pick}
+use Rattle.rules.specs.IfElse.{ifElse}
 use Rattle.sizes.specs.declared.Opening.{Opening}
 use Rattle.payload.specs.declared.Header.{Header}
 use Rattle.payload.specs.declared.Stamp.{Stamp}
@@ -113,7 +113,7 @@ module _ (o : Opening) (h : Header) (d : List ℕ) (b : Bool) (m : ℕ) (size : 
   -- in a frame, of its FID or the other
   module _ (x : Run) (u : Seen) (us : List Seen) (k : Tracks o (Under x) (u ∷ us)) (fit : Fit (o .frame) (Under x)) (n : handsBy (Under x) o h ≡ false) where
     under-on : goesOn h (u ∷ us) ≡ true → Told (Under x) (u ∷ us)
-    unfolding pick
+    unfolding ifElse
     under-on e small =
         let r : List Seen = u ∷ us in
         let s : List Seen = and r (seenWith h d b) in
@@ -129,13 +129,13 @@ module _ (o : Opening) (h : Header) (d : List ℕ) (b : Bool) (m : ℕ) (size : 
         ∙ ap (_++ toldIn (tellFate (Reading.Readable h) (Under x) m (fateOn o s))) (sym (under-none o r (k .1 .going))))
 
     turned-why : goesOn h (u ∷ us) ≡ false → turnedIn o (u ∷ us) ≡ Ended.Frame (whyOf (x .fault) (turnedWhy o))
-    unfolding pick
+    unfolding ifElse
     turned-why e =
         let z = turn-right o h d b (Under x) (u ∷ us) k fit n .ended in
         sym (rw (e, same-run (x .fid) u (h .fid) (k .0) ∙ e) at z)
 
     under-off : goesOn h (u ∷ us) ≡ false → Told (Under x) (u ∷ us)
-    unfolding pick
+    unfolding ifElse
     under-off e small =
         let r : List Seen = u ∷ us in
         let s : List Seen = seenWith h d b ∷ [] in

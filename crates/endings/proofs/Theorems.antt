@@ -12,7 +12,7 @@ use Rattle.books.proofs.Theorems.{list-right}
 use Rattle.endings.specs.declared.Ending.{Ending}
 use Rattle.endings.specs.Endings.{endingsOf, entriesSay, said}
 use Rattle.endings.specs.Inner.{listIn, toldBy, allTold}
-use Rattle.endings.proofs.Steps.{one-more}
+use Rattle.endings.proofs.OneMore.{one-more}
 use Rattle.endings.proofs.Entries.{of-entries}
 
 -- 1. No frame has ended before the first call.

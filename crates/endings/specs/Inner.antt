@@ -4,7 +4,7 @@ use Prim.Native.Nat.{ℕ, _+_, _-_, _%_, _^_}
 use mathlib.Core.Bool.{Bool, true, false}
 use mathlib.Core.List.{List, [], _∷_, _++_}
 use lib.ListN.{length}
-use Rattle.rules.specs.Pick.{pick}
+use Rattle.rules.specs.IfElse.{ifElse}
 use Rattle.payload.specs.declared.Header.{Header}
 use Rattle.payload.specs.declared.Stamp.{Stamp}
 use Rattle.payload.specs.declared.Stamp.the-variants.{Absent}
@@ -40,12 +40,12 @@ tellEnded (Under r) (Ended.Frame w) = Told.Frame (endingAs (How.Dropped w) (r .b
 abbrev pub bytesBefore : Phase → Bool → ℕ
 bytesBefore Fresh f = 0
 bytesBefore (Past g) f = 0
-bytesBefore (Under r) f = pick (sameOf (r .fid) f) (r .bytes) 0
+bytesBefore (Under r) f = ifElse (sameOf (r .fid) f) (r .bytes) 0
 
 abbrev pub stampBefore : Phase → Bool → Stamp
 stampBefore Fresh f = Absent
 stampBefore (Past g) f = Absent
-stampBefore (Under r) f = pick (sameOf (r .fid) f) (r .stamp) Absent
+stampBefore (Under r) f = ifElse (sameOf (r .fid) f) (r .stamp) Absent
 
 -- with the transfer, of n bytes of data
 abbrev pub bytesWith : Phase → Header → ℕ → ℕ

@@ -10,7 +10,7 @@ use lib.Seq.{drop-cons, getD-take, take-suc, take-all, take-length, take-take, t
 use native.Mathlib.Numerals.{add-one}
 use native.Mathlib.Omega.{arith}
 use borrow.Author.Tests.{eq-eqb, ne-eqb, eqb-true, eqb-false, leb-true, leb-false}
-use Rattle.rules.specs.Pick.{pick}
+use Rattle.rules.specs.IfElse.{ifElse}
 use Rattle.rules.specs.Pad.{pad}
 use Rattle.rules.specs.First.{First}
 use Rattle.rules.proofs.Firsts.{lt-or-ge, first-unique}
@@ -36,7 +36,7 @@ pub data Sought (l : List Entity) (id i : ℕ) : Found → Type 0 where
   missed : First (Carries l id) (length l) (length l) → Sought l id i Nothing
 
 sought : (l : List Entity) (id i : ℕ) → Sought l id i (findFrom i l id)
-unfolding findFrom pick
+unfolding findFrom ifElse
 sought [] id i = missed (record { within = omega arith; before = λ j h. absurd (omega arith); here = λ h. absurd (omega arith) })
 sought (e ∷ l) id i = go (eqb (e .id) id) refl (findFrom (suc i) l id) (sought l id (suc i))
   where
@@ -53,7 +53,7 @@ sought (e ∷ l) id i = go (eqb (e .id) id) refl (findFrom (suc i) l id) (sought
         rw z (hit (suc j) (omega arith) (back j n f))
     on n r (missed f) = missed (back (length l) n f)
 
-    go : (b : Bool) → eqb (e .id) id ≡ b → (r : Found) → Sought l id (suc i) r → Sought (e ∷ l) id i (pick b (At i) r)
+    go : (b : Bool) → eqb (e .id) id ≡ b → (r : Found) → Sought l id (suc i) r → Sought (e ∷ l) id i (ifElse b (At i) r)
     go true q r w =
         let z : i ≡ i + 0 = omega arith in
         let y : Sought (e ∷ l) id i (At (i + 0)) = hit 0 (omega arith) (record { within = omega arith; before = λ j h. absurd (omega arith); here = λ h. eqb-true (e .id) id q }) in
@@ -144,11 +144,11 @@ module _ (places : ℕ) where
             rw (z, append-nil (take places l))
 
     -- looking up in them is looking up in the lent places
-    pub lent-found : (k id : ℕ) → pick (leb (length l) k) (foundAmong (pad places noEntity (take places l)) (length l) id) (foundAmong (pad places noEntity (take places l)) k id) ≡ foundAmong (take places l) k id
-    unfolding pick
+    pub lent-found : (k id : ℕ) → ifElse (leb (length l) k) (foundAmong (pad places noEntity (take places l)) (length l) id) (foundAmong (pad places noEntity (take places l)) k id) ≡ foundAmong (take places l) k id
+    unfolding ifElse
     lent-found k id = go (leb (length l) k) refl
       where
-        go : (b : Bool) → leb (length l) k ≡ b → pick b (foundAmong (pad places noEntity (take places l)) (length l) id) (foundAmong (pad places noEntity (take places l)) k id) ≡ foundAmong (take places l) k id
+        go : (b : Bool) → leb (length l) k ≡ b → ifElse b (foundAmong (pad places noEntity (take places l)) (length l) id) (foundAmong (pad places noEntity (take places l)) k id) ≡ foundAmong (take places l) k id
         go true e =
             let h = leb-true (length l) k e in
             let n : length (take places l) ≤ length l = simp length-take (omega arith) in
@@ -185,10 +185,10 @@ module _ (l : List Entity) (n id i : ℕ) (w : Seeking l n id i) where
     here = let c : i < length (take n l) = simp length-take (omega (arith, w .size)) in drop-cons (take n l) i d c ∙ (rw getD-take)
 
     pub here-at : getD l i d .id ≡ id → At i ≡ foundAmong l n id
-    unfolding findFrom pick
+    unfolding findFrom ifElse
     here-at e = rw (here, eq-eqb (getD l i d .id) id e) at (w .same)
 
     pub not-here : (getD l i d .id ≡ id → ⊥) → Seeking l n id (i + 1)
-    unfolding findFrom pick
+    unfolding findFrom ifElse
     not-here e =
         record { size = w .size; within = rw (add-one i) b; same = rw (add-one i) (rw (here, ne-eqb (getD l i d .id) id e) at (w .same)) }

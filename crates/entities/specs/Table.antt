@@ -4,7 +4,7 @@ use mathlib.Core.Path.{_≡_}
 use mathlib.Core.List.{List, [], _∷_}
 use lib.ListN.{length, take, getD, replicate}
 use lib.Dec.{eqb}
-use Rattle.rules.specs.Pick.{pick}
+use Rattle.rules.specs.IfElse.{ifElse}
 use Rattle.rules.specs.First.{First}
 use Rattle.entities.specs.declared.Entity.{Entity}
 use Rattle.entities.specs.declared.Table.{Table}
@@ -48,7 +48,7 @@ used t = take (t .count) (t .entities)
 -- the place, counted from i, of the first entity that carries the ID
 unfoldable pub findFrom : ℕ → List Entity → ℕ → Found
 findFrom i [] id = Nothing
-findFrom i (e ∷ l) id = pick (eqb (e .id) id) (At i) (findFrom (suc i) l id)
+findFrom i (e ∷ l) id = ifElse (eqb (e .id) id) (At i) (findFrom (suc i) l id)
 
 -- the same without a search: the first place of the list whose entity carries the ID, or the length where none does
 abbrev pub Finds : List Entity → ℕ → ℕ → Type 0

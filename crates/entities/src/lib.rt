@@ -3,7 +3,7 @@ ghost use mathlib.Core.Path.{_≡_};
 ghost use mathlib.Core.List.{[]};
 ghost use lib.Dec.{leb};
 ghost use lib.ListN.{take, set};
-ghost use Rattle.rules.specs.Pick.{pick};
+ghost use Rattle.rules.specs.IfElse.{ifElse};
 ghost use Rattle.rules.specs.Pad.{pad};
 ghost use Rattle.entities.specs.Table.{entitiesMost, noEntity, foundIn, foundAmong, noTable};
 ghost use Rattle.entities.specs.Revisions.{saysOf};
@@ -146,7 +146,7 @@ pub fn find_lent(entities: &[Entity], count: usize, id: u8) -> Found
 
 // The lookup where so many places were lent.
 fn find_placed(all: [Entity; ENTITIES_MOST], places: usize, count: usize, id: u8) -> Found
-    ensures { λ r. ⌜ r ≡ pick (leb places count) (foundAmong all places id) (foundAmong all count id) ⌝ }
+    ensures { λ r. ⌜ r ≡ ifElse (leb places count) (foundAmong all places id) (foundAmong all count id) ⌝ }
 {
     if places <= count {
         return find_among(all, places, id);

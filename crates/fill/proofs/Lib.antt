@@ -1,4 +1,4 @@
 -- Laws of zero fill.
-pub mod Steps
+pub mod Rounds
 pub mod Zeros
 pub mod Unique

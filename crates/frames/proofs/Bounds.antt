@@ -5,7 +5,7 @@ use mathlib.Core.Bool.{Bool, true, false, true≢false}
 use native.Mathlib.Omega.{arith}
 use lib.Dec.{ltb, eqb}
 use borrow.Author.Tests.{ltb-false}
-use Rattle.rules.specs.Pick.{pick-all}
+use Rattle.rules.specs.IfElse.{ifElse-all}
 use Rattle.sizes.specs.declared.Opening.{Opening}
 use Rattle.payload.specs.declared.Header.{Header}
 use Rattle.frames.specs.declared.Reason.{Reason}
@@ -94,7 +94,7 @@ pub record Sits (o : Opening) (p : Phase) (n : ℕ) (x : Turn) : Type 0 where
 
 complete-long : (f : Fault) (n : ℕ) (s : Stamp) (l : Layer) (b : Bool) → LengthOf (completeOf f n s l b) n
 complete-long (Bad why) n s l b = tt
-complete-long Sound n s l b = pick-all (λ x. LengthOf x n) (eqb n 0) _ _ tt (pick-all (λ x. LengthOf x n) b _ _ refl refl)
+complete-long Sound n s l b = ifElse-all (λ x. LengthOf x n) (eqb n 0) _ _ tt (ifElse-all (λ x. LengthOf x n) b _ _ refl refl)
 
 fate-long : (eof : Bool) (r : Run) → LengthOf (fateOf eof r) (r .bytes)
 fate-long true r = complete-long (r .fault) (r .bytes) (r .stamp) (r .layer) (r .still)
@@ -126,9 +126,9 @@ module _ (o : Opening) (h : Header) (n : ℕ) where
   sits : (p : Phase) (gap : Bool) → FilledBy o p → Sits o p n (turnBy p o gap h n)
   sits Fresh gap q = begins Fresh gap Nothing 0 (omega arith)
   sits (Under r) gap q =
-      pick-all (Sits o (Under r) n) (sameOf (r .fid) (h .fid)) _ _ (joins (Under r) r Nothing 0 q (omega arith) (omega arith))
+      ifElse-all (Sits o (Under r) n) (sameOf (r .fid) (h .fid)) _ _ (joins (Under r) r Nothing 0 q (omega arith) (omega arith))
       (begins (Under r) gap (Frame (whyOf (r .fault) (turnedWhy o))) (r .bytes) (omega arith))
-  sits (Past fid) gap q = pick-all (Sits o (Past fid) n) (sameOf fid (h .fid)) _ _ (strays (Past fid) fid)
+  sits (Past fid) gap q = ifElse-all (Sits o (Past fid) n) (sameOf fid (h .fid)) _ _ (strays (Past fid) fid)
       (begins (Past fid) gap Nothing 0 (omega arith))
 
   pub turn-sits : (t : Track) → FilledBy o (t .phase) → Sits o (t .phase) n (turnOf o t h n)

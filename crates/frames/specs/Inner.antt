@@ -3,7 +3,7 @@
 use Prim.Native.Nat.{ℕ, _+_, _<_, _^_}
 use mathlib.Core.Bool.{Bool, true, false, not, _&&_}
 use lib.Dec.{ltb, eqb}
-use Rattle.rules.specs.Pick.{pick}
+use Rattle.rules.specs.IfElse.{ifElse}
 use Rattle.sizes.specs.declared.Opening.{Opening}
 use Rattle.sizes.specs.Framing.{byEof}
 use Rattle.payload.specs.declared.Header.{Header}
@@ -97,7 +97,7 @@ joinedOf o r h n =
 abbrev pub completeOf : Fault → ℕ → Stamp → Layer → Bool → Fate
 completeOf (Bad why) n s y b = Dropped why
 completeOf Sound n s y b =
-    pick (eqb n 0) (Dropped Empty) (pick b (Still (record { len = n; stamp = s; layer = y })) (Delivered (record { len = n; stamp = s; layer = y })))
+    ifElse (eqb n 0) (Dropped Empty) (ifElse b (Still (record { len = n; stamp = s; layer = y })) (Delivered (record { len = n; stamp = s; layer = y })))
 
 -- EOF ends a frame with D1 of the framing byte set, and is ignored with it clear
 abbrev pub endsOf : Opening → Header → Bool
@@ -105,7 +105,7 @@ endsOf o h = byEof o && h .eof
 
 -- what another FID calls a frame without fault that was not handed out
 abbrev pub turnedWhy : Opening → Reason
-turnedWhy o = pick (byEof o) Cut Empty
+turnedWhy o = ifElse (byEof o) Cut Empty
 
 abbrev pub fateOf : Bool → Run → Fate
 fateOf true r = completeOf (r .fault) (r .bytes) (r .stamp) (r .layer) (r .still)
@@ -138,9 +138,9 @@ strayTurn fid n = plainTurn (record { phase = Past fid; gap = false }) Stray n
 abbrev pub turnBy : Phase → Opening → Bool → Header → ℕ → Turn
 turnBy Fresh o gap h n = joinTurn o (begunOf gap (h .fid) (h .still)) h n Nothing 0
 turnBy (Under r) o gap h n =
-    pick (sameOf (r .fid) (h .fid)) (joinTurn o r h n Nothing 0)
+    ifElse (sameOf (r .fid) (h .fid)) (joinTurn o r h n Nothing 0)
     (joinTurn o (begunOf gap (h .fid) (h .still)) h n (Frame (whyOf (r .fault) (turnedWhy o))) (r .bytes))
-turnBy (Past fid) o gap h n = pick (sameOf fid (h .fid)) (strayTurn fid n) (joinTurn o (begunOf gap (h .fid) (h .still)) h n Nothing 0)
+turnBy (Past fid) o gap h n = ifElse (sameOf fid (h .fid)) (strayTurn fid n) (joinTurn o (begunOf gap (h .fid) (h .still)) h n Nothing 0)
 
 -- a readable transfer with n bytes of data
 unfoldable pub turnOf : Opening → Track → Header → ℕ → Turn

@@ -9,7 +9,7 @@ use lib.Dec.{leb, eqb}
 use borrow.Author.Tests.{leb-false, eqb-true, eqb-false}
 use native.Mathlib.Omega.{arith}
 use native.Mathlib.Numerals.{add-one}
-use Rattle.rules.specs.Pick.{pick}
+use Rattle.rules.specs.IfElse.{ifElse}
 use Rattle.rules.proofs.Rows.{or-first, or-second}
 use Rattle.rules.proofs.Places as places
 use Rattle.configuration_rules.specs.Descriptors.{numberAt, afterAt, isSought}
@@ -21,23 +21,23 @@ use Rattle.interfaces.specs.Limits.{interfacesMost, settingsMost, listed
 use Rattle.interfaces.proofs.Lines.{line-end, line-more, after-on}
 
 -- ---- one more of a list
-pub those-more : (f : ℕ → Bool) (l : List ℕ) (o : ℕ) → length (those f (l ++ (o ∷ []))) ≡ length (those f l) + pick (f o) 1 0
-unfolding those pick
+pub those-more : (f : ℕ → Bool) (l : List ℕ) (o : ℕ) → length (those f (l ++ (o ∷ []))) ≡ length (those f l) + ifElse (f o) 1 0
+unfolding those ifElse
 those-more f [] o = go (f o)
   where
-    go : (b : Bool) → length (pick b (o ∷ []) []) ≡ 0 + pick b 1 0
+    go : (b : Bool) → length (ifElse b (o ∷ []) []) ≡ 0 + ifElse b 1 0
     go true = refl
     go false = refl
 those-more f (x ∷ l) o = go (f x) (those-more f l o)
   where
-    go : (b : Bool) → length (those f (l ++ (o ∷ []))) ≡ length (those f l) + pick (f o) 1 0
-        → length (pick b (x ∷ those f (l ++ (o ∷ []))) (those f (l ++ (o ∷ [])))) ≡ length (pick b (x ∷ those f l) (those f l)) + pick (f o) 1 0
+    go : (b : Bool) → length (those f (l ++ (o ∷ []))) ≡ length (those f l) + ifElse (f o) 1 0
+        → length (ifElse b (x ∷ those f (l ++ (o ∷ []))) (those f (l ++ (o ∷ [])))) ≡ length (ifElse b (x ∷ those f l) (those f l)) + ifElse (f o) 1 0
     go true e = omega (arith, e)
     go false e = e
 
 -- a number that stays within its limit where the next is not one too many
-kept-within : (t : Bool) (m n : ℕ) → n ≤ m → pick t (leb m n) false ≡ false → n + pick t 1 0 ≤ m
-unfolding pick
+kept-within : (t : Bool) (m n : ℕ) → n ≤ m → ifElse t (leb m n) false ≡ false → n + ifElse t 1 0 ≤ m
+unfolding ifElse
 kept-within true m n h e = let l = leb-false m n e in omega arith
 kept-within false m n h e = omega arith
 
@@ -116,51 +116,51 @@ module _ (s counts : List ℕ) (listed at : ℕ) (k : Counting s counts listed a
           not-full : oneTooMany s at listed seen ≡ false
           not-full = sym f ∙ y
 
-          pub listed-few : listed + pick (isSought Listed s at) 1 0 ≤ 8
+          pub listed-few : listed + ifElse (isSought Listed s at) 1 0 ≤ 8
           unfolding oneTooMany
-          listed-few = kept-within (isSought Listed s at) 8 listed (k .few) (or-first (pick (isSought Listed s at) (leb interfacesMost listed) false) (pick (isSought (Setting (numberAt s at)) s at) (leb settingsMost seen) false) not-full)
+          listed-few = kept-within (isSought Listed s at) 8 listed (k .few) (or-first (ifElse (isSought Listed s at) (leb interfacesMost listed) false) (ifElse (isSought (Setting (numberAt s at)) s at) (leb settingsMost seen) false) not-full)
 
-          pub seen-few : seen + pick (isSought (Setting n) s at) 1 0 ≤ 32
+          pub seen-few : seen + ifElse (isSought (Setting n) s at) 1 0 ≤ 32
           unfolding oneTooMany
           seen-few =
               rw e
-              (kept-within (isSought (Setting (numberAt s at)) s at) 32 seen counting-seen (or-second (pick (isSought Listed s at) (leb interfacesMost listed) false) (pick (isSought (Setting (numberAt s at)) s at) (leb settingsMost seen) false) not-full))
+              (kept-within (isSought (Setting (numberAt s at)) s at) 32 seen counting-seen (or-second (ifElse (isSought Listed s at) (leb interfacesMost listed) false) (ifElse (isSought (Setting (numberAt s at)) s at) (leb settingsMost seen) false) not-full))
 
           -- a descriptor of another number is none of m's settings
-          other : (m : ℕ) → (m ≡ n → ⊥) → _≡_ {A = ℕ} (pick (isSought (Setting m) s at) 1 0) 0
-          unfolding pick
+          other : (m : ℕ) → (m ≡ n → ⊥) → _≡_ {A = ℕ} (ifElse (isSought (Setting m) s at) 1 0) 0
+          unfolding ifElse
           other m x = go (isSought (Setting m) s at) refl
             where
-              go : (b : Bool) → isSought (Setting m) s at ≡ b → _≡_ {A = ℕ} (pick b 1 0) 0
+              go : (b : Bool) → isSought (Setting m) s at ≡ b → _≡_ {A = ℕ} (ifElse b 1 0) 0
               go true z = absurd (x (sym (setting s at m .0 z .number) ∙ sym e))
               go false z = refl
 
-          each-more : (m : ℕ) → m < 256 → getD (set counts n (seen + pick (isSought (Setting n) s at) 1 0)) m 0 ≡ settingsAmong s m (take (suc (k .place)) (line s 0))
+          each-more : (m : ℕ) → m < 256 → getD (set counts n (seen + ifElse (isSought (Setting n) s at) 1 0)) m 0 ≡ settingsAmong s m (take (suc (k .place)) (line s 0))
           each-more m z = go (eqb m n) refl
             where
-              grown : settingsAmong s m (take (suc (k .place)) (line s 0)) ≡ settingsAmong s m (take (k .place) (line s 0)) + pick (isSought (Setting m) s at) 1 0
+              grown : settingsAmong s m (take (suc (k .place)) (line s 0)) ≡ settingsAmong s m (take (k .place) (line s 0)) + ifElse (isSought (Setting m) s at) 1 0
               grown = rw taken (those-more (isSought (Setting m) s) (take (k .place) (line s 0)) at)
 
-              go : (b : Bool) → eqb m n ≡ b → getD (set counts n (seen + pick (isSought (Setting n) s at) 1 0)) m 0 ≡ settingsAmong s m (take (suc (k .place)) (line s 0))
+              go : (b : Bool) → eqb m n ≡ b → getD (set counts n (seen + ifElse (isSought (Setting n) s at) 1 0)) m 0 ≡ settingsAmong s m (take (suc (k .place)) (line s 0))
               go true w =
                   let i : m ≡ n = eqb-true m n w in
                   let l : n < length counts = rw (k .size) b in
-                  rw (grown, i, getD-set-same counts n (seen + pick (isSought (Setting n) s at) 1 0) 0 l, q, k .each n b)
+                  rw (grown, i, getD-set-same counts n (seen + ifElse (isSought (Setting n) s at) 1 0) 0 l, q, k .each n b)
               go false w =
                   let i : m ≡ n → ⊥ = eqb-false m n w in
-                  rw (grown, getD-set-other counts n m (seen + pick (isSought (Setting n) s at) 1 0) 0 i, other m i, k .each m z) (omega arith)
+                  rw (grown, getD-set-other counts n m (seen + ifElse (isSought (Setting n) s at) 1 0) 0 i, other m i, k .each m z) (omega arith)
 
-          fewer-more : (m : ℕ) → m < 256 → getD (set counts n (seen + pick (isSought (Setting n) s at) 1 0)) m 0 ≤ settingsMost
+          fewer-more : (m : ℕ) → m < 256 → getD (set counts n (seen + ifElse (isSought (Setting n) s at) 1 0)) m 0 ≤ settingsMost
           fewer-more m z = go (eqb m n) refl
             where
-              go : (b : Bool) → eqb m n ≡ b → getD (set counts n (seen + pick (isSought (Setting n) s at) 1 0)) m 0 ≤ settingsMost
+              go : (b : Bool) → eqb m n ≡ b → getD (set counts n (seen + ifElse (isSought (Setting n) s at) 1 0)) m 0 ≤ settingsMost
               go true w =
                   let i : m ≡ n = eqb-true m n w in
                   let l : n < length counts = rw (k .size) b in
-                  rw (i, getD-set-same counts n (seen + pick (isSought (Setting n) s at) 1 0) 0 l) seen-few
-              go false w = rw (getD-set-other counts n m (seen + pick (isSought (Setting n) s at) 1 0) 0 (eqb-false m n w)) (k .fewer m z)
+                  rw (i, getD-set-same counts n (seen + ifElse (isSought (Setting n) s at) 1 0) 0 l) seen-few
+              go false w = rw (getD-set-other counts n m (seen + ifElse (isSought (Setting n) s at) 1 0) 0 (eqb-false m n w)) (k .fewer m z)
 
-          pub counting-more : (j : ℕ) → j ≡ afterAt s at → Counting s (set counts n (seen + pick (isSought (Setting n) s at) 1 0)) (listed + pick (isSought Listed s at) 1 0) j
+          pub counting-more : (j : ℕ) → j ≡ afterAt s at → Counting s (set counts n (seen + ifElse (isSought (Setting n) s at) 1 0)) (listed + ifElse (isSought Listed s at) 1 0) j
           counting-more j x =
               rw x
               (record {
@@ -169,20 +169,20 @@ module _ (s counts : List ℕ) (listed at : ℕ) (k : Counting s counts listed a
                 seeking = rw add-one at (places.not-here (tooManyAt s (line s 0)) (length (line s 0)) (k .place) (k .seeking) inside (sym same-test ∙ not-full));
                 ones = rw (taken, those-more (isSought Listed s) (take (k .place) (line s 0)) at, ← k .ones);
                 each = each-more;
-                size = length-set counts n (seen + pick (isSought (Setting n) s at) 1 0) ∙ k .size;
+                size = length-set counts n (seen + ifElse (isSought (Setting n) s at) 1 0) ∙ k .size;
                 few = listed-few;
                 fewer = fewer-more;
                 within = after-on s at h .1;
               })
 
           -- as the code has it: what is added came by callees
-          module _ (x : ℕ) (a : Bool) (p : x ≡ pick a 1 0) (r : a ≡ isSought Listed s at) where
+          module _ (x : ℕ) (a : Bool) (p : x ≡ ifElse a 1 0) (r : a ≡ isSought Listed s at) where
             pub adds-listed : listed + x ≤ 8
             adds-listed = rw (p, r) listed-few
 
-          module _ (u m : ℕ) (c : Bool) (g : u ≡ pick c 1 0) (v : c ≡ isSought (Setting m) s at) (z : n ≡ m) where
+          module _ (u m : ℕ) (c : Bool) (g : u ≡ ifElse c 1 0) (v : c ≡ isSought (Setting m) s at) (z : n ≡ m) where
             pub adds-seen : seen + u ≤ 32
             adds-seen = rw (g, v, ← z) seen-few
 
-            pub counting-on : (x : ℕ) (a : Bool) → x ≡ pick a 1 0 → a ≡ isSought Listed s at → (j : ℕ) → j ≡ afterAt s at → Counting s (set counts n (seen + u)) (listed + x) j
+            pub counting-on : (x : ℕ) (a : Bool) → x ≡ ifElse a 1 0 → a ≡ isSought Listed s at → (j : ℕ) → j ≡ afterAt s at → Counting s (set counts n (seen + u)) (listed + x) j
             counting-on x a p r j w = rw (g, v, ← z, p, r) (counting-more j w)

@@ -7,7 +7,7 @@ use mathlib.Core.Logic.{⊎-elim}
 use lib.ListN.{length}
 use borrow.Author.Tests.{lt-ltb, le-ltb}
 use native.Mathlib.Omega.{arith}
-use Rattle.rules.specs.Pick.{pick}
+use Rattle.rules.specs.IfElse.{ifElse}
 use Rattle.rules.proofs.Firsts.{lt-or-ge}
 use Rattle.blocks.specs.Blocks.{lenAt}
 use Rattle.configuration_rules.specs.Descriptors.{brokenAt, afterAt, isSought}
@@ -19,11 +19,11 @@ use Rattle.interfaces.specs.Line.{those}
 module _ (s : List ℕ) where
   -- ---- one step
   pub after-broken : (o : ℕ) → brokenAt s o ≡ true → afterAt s o ≡ length s
-  unfolding afterAt pick
+  unfolding afterAt ifElse
   after-broken o e = rw e
 
   pub after-whole : (o : ℕ) → brokenAt s o ≡ false → afterAt s o ≡ o + lenAt s o
-  unfolding afterAt pick
+  unfolding afterAt ifElse
   after-whole o e = rw e
 
   pub after-on : (o : ℕ) → o < length s → (o < afterAt s o) × (afterAt s o ≤ length s)
@@ -34,12 +34,12 @@ module _ (s : List ℕ) where
       go false e = let k = kept s o .0 e in rw (after-whole o e) (omega (arith, k .two), k .inside)
 
   line-none : (n o : ℕ) → length s ≤ o → lineFrom n s o ≡ []
-  unfolding lineFrom pick
+  unfolding lineFrom ifElse
   line-none zero o h = refl
   line-none (suc n) o h = rw (le-ltb o (length s) h)
 
   line-on : (n o : ℕ) → o < length s → lineFrom (suc n) s o ≡ o ∷ lineFrom n s (afterAt s o)
-  unfolding lineFrom pick
+  unfolding lineFrom ifElse
   line-on n o h = rw (lt-ltb o (length s) h)
 
   -- enough is enough
@@ -72,11 +72,11 @@ module _ (s : List ℕ) where
     found-end o h = rw (line-end o h)
 
     pub found-here : (o : ℕ) → o < length s → isSought w s o ≡ true → found w s o ≡ o ∷ found w s (afterAt s o)
-    unfolding found those pick
+    unfolding found those ifElse
     found-here o h e = rw (line-more o h, e)
 
     pub found-skip : (o : ℕ) → o < length s → isSought w s o ≡ false → found w s o ≡ found w s (afterAt s o)
-    unfolding found those pick
+    unfolding found those ifElse
     found-skip o h e = rw (line-more o h, e)
 
     pub next-end : (o : ℕ) → length s ≤ o → nextOf w s o ≡ length s

@@ -6,7 +6,7 @@ use mathlib.Core.Bool.{Bool, true, false}
 use lib.ListN.{length}
 use lib.Dec.{leb}
 use native.Mathlib.Omega.{arith}
-use Rattle.rules.specs.Pick.{pick}
+use Rattle.rules.specs.IfElse.{ifElse}
 use Rattle.configuration_rules.specs.Descriptors.{numberAt, afterAt, isSought}
 use Rattle.configuration_rules.specs.declared.Sought.{Sought}
 use Rattle.configuration_rules.specs.declared.Sought.the-variants.{Listed, Setting, Outside}
@@ -49,12 +49,12 @@ module _ (w : Sought) (s : List ℕ) (o : ℕ) where
     seek-none h = sym (next-end s w i h) ∙ k .same
 
 -- ---- 75 of one descriptor
-module _ (s : List ℕ) (o m n : ℕ) (t a : Bool) (e : t ≡ isSought Listed s o) (f : a ≡ pick t (leb 8 m) false) where
+module _ (s : List ℕ) (o m n : ℕ) (t a : Bool) (e : t ≡ isSought Listed s o) (f : a ≡ ifElse t (leb 8 m) false) where
   pub ninth : a ≡ true → true ≡ oneTooMany s o m n
   unfolding oneTooMany
   ninth h = rw (← e, ← f, h)
 
-  pub or-33rd : (x : ℕ) (u b : Bool) → a ≡ false → x ≡ numberAt s o → u ≡ isSought (Setting x) s o → b ≡ pick u (leb 32 n) false → b ≡ oneTooMany s o m n
+  pub or-33rd : (x : ℕ) (u b : Bool) → a ≡ false → x ≡ numberAt s o → u ≡ isSought (Setting x) s o → b ≡ ifElse u (leb 32 n) false → b ≡ oneTooMany s o m n
   unfolding oneTooMany
   or-33rd x u b h p q r = rw (← e, ← f, h, ← p, ← q) r
 

@@ -5,7 +5,7 @@ use mathlib.Core.List.{List, [], _∷_, map}
 use mathlib.Core.Bool.{Bool, false, _||_}
 use lib.ListN.{length, take, drop, getD, replicate}
 use lib.Dec.{ltb, eqb, leb}
-use Rattle.rules.specs.Pick.{pick}
+use Rattle.rules.specs.IfElse.{ifElse}
 use Rattle.configuration_rules.specs.Descriptors.{afterAt, isSought, numberAt}
 use Rattle.configuration_rules.specs.declared.Sought.{Sought}
 use Rattle.le.specs.Le.{byte}
@@ -21,7 +21,7 @@ use Rattle.interfaces.specs.Limits.{interfacesMost, settingsMost, noStre
 -- where the descriptors start from o on, at most so many of them
 unfoldable pub lineFrom : ℕ → List ℕ → ℕ → List ℕ
 lineFrom zero s o = []
-lineFrom (suc n) s o = pick (ltb o (length s)) (o ∷ lineFrom n s (afterAt s o)) []
+lineFrom (suc n) s o = ifElse (ltb o (length s)) (o ∷ lineFrom n s (afterAt s o)) []
 
 abbrev pub line : List ℕ → ℕ → List ℕ
 line s o = lineFrom (length s) s o
@@ -74,8 +74,8 @@ placeOf l n number = firstPlace (λ i. eqb (getD l i noStream .interface) number
 -- the descriptor at o is one too many, after so many of setting 0 and so many of its number
 unfoldable pub oneTooMany : List ℕ → ℕ → ℕ → ℕ → Bool
 oneTooMany s o listed seen =
-    pick (isSought Listed s o) (leb interfacesMost listed) false
-    || pick (isSought (Setting (numberAt s o)) s o) (leb settingsMost seen) false
+    ifElse (isSought Listed s o) (leb interfacesMost listed) false
+    || ifElse (isSought (Setting (numberAt s o)) s o) (leb settingsMost seen) false
 
 -- the one at place i is one too many
 unfoldable pub tooManyAt : List ℕ → List ℕ → ℕ → Bool

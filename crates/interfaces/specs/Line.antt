@@ -3,7 +3,7 @@ use Prim.Native.Nat.{ℕ}
 use mathlib.Core.List.{List, [], _∷_, _++_}
 use mathlib.Core.Bool.{Bool}
 use lib.ListN.{length}
-use Rattle.rules.specs.Pick.{pick}
+use Rattle.rules.specs.IfElse.{ifElse}
 use Rattle.rules.specs.Numbered.{row}
 use Rattle.rules.specs.Walk.{Course}
 use Rattle.blocks.specs.Blocks.{lenAt}
@@ -22,4 +22,4 @@ course s = record {
 -- those of a list that a test says yes to, in its order
 unfoldable pub those : (ℕ → Bool) → List ℕ → List ℕ
 those test [] = []
-those test (o ∷ l) = pick (test o) (o ∷ those test l) (those test l)
+those test (o ∷ l) = ifElse (test o) (o ∷ those test l) (those test l)

@@ -4,7 +4,7 @@ ghost use Prim.Native.Nat.{_≤_, _<_};
 ghost use mathlib.Core.Bool.{Bool};
 ghost use lib.ListN.{length};
 ghost use lib.Dec.{leb};
-ghost use Rattle.rules.specs.Pick.{pick};
+ghost use Rattle.rules.specs.IfElse.{ifElse};
 ghost use Rattle.interfaces.specs.Inner.{nextOf, blockAt, streamAt, streamsOf, placeOf, oneTooMany, noCounts, tooMany};
 ghost use Rattle.interfaces.specs.Limits.{interfacesMost, noStream};
 use configuration_rules::Sought;
@@ -132,7 +132,7 @@ pub fn place_of(streams: [Stream; INTERFACES_MOST], count: usize, number: u8) ->
 
 // Whether this is one more than the most.
 fn is_full(there: bool, seen: u8, most: u8) -> bool
-    ensures { λ r. ⌜ r ≡ pick there (leb most seen) Bool.false ⌝ }
+    ensures { λ r. ⌜ r ≡ ifElse there (leb most seen) Bool.false ⌝ }
 {
     if there { most <= seen } else { false }
 }
@@ -158,7 +158,7 @@ fn one_too_many(s: &[u8], at: usize, listed: u8, seen: u8) -> bool
 }
 
 fn one_if(there: bool) -> u8
-    ensures { λ r. ⌜ r ≡ pick there 1 0 ⌝ }
+    ensures { λ r. ⌜ r ≡ ifElse there 1 0 ⌝ }
 {
     if there { 1 } else { 0 }
 }

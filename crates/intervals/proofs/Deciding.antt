@@ -10,19 +10,19 @@ use borrow.Author.Tests.{le-ltb, lt-leb, eq-eqb, ne-eqb, eqb-true, eqb-false, lt
 use native.Mathlib.Omega.{arith}
 use native.Mathlib.Nat.{div-add-mod', mul-mod-left}
 use native.Mathlib.Numerals.{add-one}
-use Rattle.rules.specs.Pick.{pick}
+use Rattle.rules.specs.IfElse.{ifElse}
 use Rattle.intervals.specs.Intervals.{listAt, Listed, Stepped, Offered, rises, among, listed, stepped, offered, shortestAt, longestAt, stepAt}
 
--- ---- a pick that is true
-pick-both : (b c : Bool) → pick b c false ≡ true → (b ≡ true) × (c ≡ true)
-unfolding pick
-pick-both true c h = (refl, h)
-pick-both false c h = absurd (true≢false (sym h))
+-- ---- a ifElse that is true
+ifElse-both : (b c : Bool) → ifElse b c false ≡ true → (b ≡ true) × (c ≡ true)
+unfolding ifElse
+ifElse-both true c h = (refl, h)
+ifElse-both false c h = absurd (true≢false (sym h))
 
-pick-neither : (b c : Bool) → pick b false c ≡ true → (b ≡ false) × (c ≡ true)
-unfolding pick
-pick-neither true c h = absurd (true≢false (sym h))
-pick-neither false c h = (refl, h)
+ifElse-neither : (b c : Bool) → ifElse b false c ≡ true → (b ≡ false) × (c ≡ true)
+unfolding ifElse
+ifElse-neither true c h = absurd (true≢false (sym h))
+ifElse-neither false c h = (refl, h)
 
 -- ---- a list
 -- each is more than the one before it, and the first is more than b
@@ -34,7 +34,7 @@ rising-of : (b : ℕ) (l : List ℕ) → rises b l ≡ true → Rising b l
 unfolding rises
 rising-of b [] h = record { above = λ i k. absurd (omega arith); next = λ i k. absurd (omega arith) }
 rising-of b (y ∷ l) h =
-    let p = pick-neither (leb y b) (rises y l) h in
+    let p = ifElse-neither (leb y b) (rises y l) h in
     let r = rising-of y l (p .1) in
     record { above = above r (leb-false y b (p .0)); next = next r }
   where
@@ -47,7 +47,7 @@ rising-of b (y ∷ l) h =
     next r (suc i) k = r .next i (omega arith)
 
 of-rising : (b : ℕ) (l : List ℕ) → Rising b l → rises b l ≡ true
-unfolding rises pick
+unfolding rises ifElse
 of-rising b [] r = refl
 of-rising b (y ∷ l) r = rw (lt-leb y b (r .above 0 (omega arith))) (of-rising y l (record { above = above; next = λ i k. r .next (suc i) (omega arith) }))
   where
@@ -59,7 +59,7 @@ abbrev Found : ℕ → List ℕ → Type 0
 Found x l = (i : ℕ) × (i < length l) × (getD l i 0 ≡ x)
 
 among-of : (x : ℕ) (l : List ℕ) → among x l ≡ true → Found x l
-unfolding among pick
+unfolding among ifElse
 among-of x [] h = absurd (true≢false (sym h))
 among-of x (y ∷ l) h = go (eqb y x) refl (λ q. among-of x l q)
   where
@@ -68,22 +68,22 @@ among-of x (y ∷ l) h = go (eqb y x) refl (λ q. among-of x l q)
     go false e on = let r = on (rw e at h) in (suc (r .0), omega (arith, r .1), r .2)
 
 of-among : (x : ℕ) (l : List ℕ) (i : ℕ) → i < length l → getD l i 0 ≡ x → among x l ≡ true
-unfolding among pick
+unfolding among ifElse
 of-among x [] i h e = absurd (omega arith)
 of-among x (y ∷ l) zero h e = rw (eq-eqb y x e)
 of-among x (y ∷ l) (suc i) h e = go (eqb y x) (of-among x l i (omega arith) e)
   where
-    go : (b : Bool) → among x l ≡ true → pick b true (among x l) ≡ true
+    go : (b : Bool) → among x l ≡ true → ifElse b true (among x l) ≡ true
     go true q = refl
     go false q = q
 
 pub listed-decides : (l : List ℕ) (x : ℕ) → (listed l x ≡ true) ↔ Listed l x
-unfolding pick
+unfolding ifElse
 listed-decides l x = (to, from)
   where
     to : listed l x ≡ true → Listed l x
     to h =
-        let p = pick-both (rises 0 l) (among x l) h in
+        let p = ifElse-both (rises 0 l) (among x l) h in
         let r = rising-of 0 l (p .0) in
         let a = among-of x l (p .1) in
         record { nonzero = λ i k e. omega (arith, r .above i k); rising = λ i k. rw (add-one i) (r .next i (omega arith)); place = a .0; within = a .1; there = a .2 }
@@ -101,17 +101,17 @@ multiple-of a d x h e = omega (arith, div-add-mod' (x - a) d)
 step-to : (a b d x : ℕ) → stepped a b d x ≡ true → Stepped a b d x
 unfolding stepped
 step-to a b d x h =
-    let p = pick-neither (eqb a 0) _ h in
-    let q = pick-neither (eqb d 0) _ (p .1) in
-    let r = pick-neither (ltb b a) _ (q .1) in
-    let u = pick-neither (ltb x a) _ (r .1) in
-    let v = pick-neither (ltb b x) _ (u .1) in
+    let p = ifElse-neither (eqb a 0) _ h in
+    let q = ifElse-neither (eqb d 0) _ (p .1) in
+    let r = ifElse-neither (ltb b a) _ (q .1) in
+    let u = ifElse-neither (ltb x a) _ (r .1) in
+    let v = ifElse-neither (ltb b x) _ (u .1) in
     let n : d ≡ 0 → ⊥ = eqb-false d 0 (q .0) in
     let l : a ≤ x = ltb-false x a (u .0) in
     record { nonzero = eqb-false a 0 (p .0); ordered = ltb-false b a (r .0); moving = omega (arith, n); times = (x - a) / d; multiple = multiple-of a d x l (eqb-true ((x - a) % d) 0 (v .1)); most = ltb-false b x (v .0) }
 
 of-step : (a b d x : ℕ) → Stepped a b d x → stepped a b d x ≡ true
-unfolding stepped pick
+unfolding stepped ifElse
 of-step a b d x w =
     let m = w .moving in
     let o = w .most in

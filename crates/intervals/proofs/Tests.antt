@@ -7,7 +7,7 @@ use lib.ListN.{length}
 use borrow.Author.Tests.{le-leb, lt-leb, eq-eqb, ne-eqb}
 use native.Mathlib.Omega.{arith}
 use Rattle.le.specs.Le.{le32At}
-use Rattle.rules.specs.Pick.{pick}
+use Rattle.rules.specs.IfElse.{ifElse}
 use Rattle.intervals.specs.Intervals.{span, listAt, rises, among, listed, stepped, offered}
 
 -- ---- the rest of a list, from `at` on, with `left` intervals to come
@@ -31,20 +31,20 @@ none-left s p k at (suc n) f w r h = absurd (omega arith)
 
 module _ (s : List ℕ) (p k at left before : ℕ) (w : Bool) (r : Rest s p k at left (rises before) w) (h : 0 < left) (y : ℕ) (e : y ≡ le32At s at) where
   pub not-rising : y ≤ before → false ≡ w
-  unfolding rises pick
+  unfolding rises ifElse
   not-rising l = rw (list-more s at left h, ← e, le-leb y before l) at (r .same)
 
   pub rising-on : before < y → Rest s p k (at + 4) (left - 1) (rises y) w
-  unfolding rises pick
+  unfolding rises ifElse
   rising-on l = record { within = omega (arith, r .within); few = omega (arith, r .few); same = rw (list-more s at left h, ← e, lt-leb y before l) at (r .same) }
 
 module _ (s : List ℕ) (p k at left x : ℕ) (w : Bool) (r : Rest s p k at left (among x) w) (h : 0 < left) (y : ℕ) (e : y ≡ le32At s at) where
   pub here-among : y ≡ x → true ≡ w
-  unfolding among pick
+  unfolding among ifElse
   here-among l = rw (list-more s at left h, ← e, eq-eqb y x l) at (r .same)
 
   pub among-on : (y ≡ x → ⊥) → Rest s p k (at + 4) (left - 1) (among x) w
-  unfolding among pick
+  unfolding among ifElse
   among-on l = record { within = omega (arith, r .within); few = omega (arith, r .few); same = rw (list-more s at left h, ← e, ne-eqb y x l) at (r .same) }
 
 -- ---- the two ways of a frame
@@ -66,11 +66,11 @@ module _ (s : List ℕ) (p k x : ℕ) where
       go (suc k) z = refl
 
   pub offers-not : (b : Bool) → (k ≡ 0 → ⊥) → b ≡ rises 0 (listAt s p k) → b ≡ false → false ≡ offered s p k x
-  unfolding pick
+  unfolding ifElse
   offers-not b z e f = rw (offers-list z, ← e, f)
 
   pub offers-among : (b r : Bool) → (k ≡ 0 → ⊥) → b ≡ rises 0 (listAt s p k) → b ≡ true → r ≡ among x (listAt s p k) → r ≡ offered s p k x
-  unfolding pick
+  unfolding ifElse
   offers-among b r z e f g = rw (offers-list z, ← e, f) g
 
 -- ---- where the intervals lie

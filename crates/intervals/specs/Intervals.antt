@@ -6,7 +6,7 @@ use mathlib.Core.Bool.{Bool, true, false}
 use lib.ListN.{length, getD}
 use lib.Dec.{eqb, ltb, leb}
 use Rattle.le.specs.Le.{le32At}
-use Rattle.rules.specs.Pick.{pick}
+use Rattle.rules.specs.IfElse.{ifElse}
 
 -- how many bytes the intervals take
 abbrev pub span : ℕ → ℕ
@@ -53,23 +53,23 @@ Offered s p (suc k) x = Listed (listAt s p (suc k)) x
 -- each is more than the one before it
 unfoldable pub rises : ℕ → List ℕ → Bool
 rises before [] = true
-rises before (y ∷ l) = pick (leb y before) false (rises y l)
+rises before (y ∷ l) = ifElse (leb y before) false (rises y l)
 
 unfoldable pub among : ℕ → List ℕ → Bool
 among x [] = false
-among x (y ∷ l) = pick (eqb y x) true (among x l)
+among x (y ∷ l) = ifElse (eqb y x) true (among x l)
 
 unfoldable pub stepped : ℕ → ℕ → ℕ → ℕ → Bool
 stepped shortest longest step x =
-    pick (eqb shortest 0) false
-    (pick (eqb step 0) false
-    (pick (ltb longest shortest) false
-    (pick (ltb x shortest) false
-    (pick (ltb longest x) false
+    ifElse (eqb shortest 0) false
+    (ifElse (eqb step 0) false
+    (ifElse (ltb longest shortest) false
+    (ifElse (ltb x shortest) false
+    (ifElse (ltb longest x) false
     (eqb ((x - shortest) % step) 0)))))
 
 abbrev pub listed : List ℕ → ℕ → Bool
-listed l x = pick (rises 0 l) (among x l) false
+listed l x = ifElse (rises 0 l) (among x l) false
 
 unfoldable pub offered : List ℕ → ℕ → ℕ → ℕ → Bool
 offered s p zero x = stepped (shortestAt s p) (longestAt s p) (stepAt s p) x

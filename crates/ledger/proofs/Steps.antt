@@ -5,7 +5,7 @@ use mathlib.Core.Bool.{Bool, true, false}
 use native.Mathlib.Omega.{arith}
 use lib.Dec.{ltb}
 use borrow.Author.Tests.{ltb-true, ltb-false, lt-ltb, le-ltb}
-use Rattle.rules.specs.Pick.{pick, yes, no}
+use Rattle.rules.specs.IfElse.{ifElse, yes, no}
 use Rattle.ledger.specs.declared.Step.{Step}
 use Rattle.ledger.specs.declared.Step.the-variants.{Forward, Backward}
 use Rattle.ledger.specs.Step.{aheadOf, stepOf}
@@ -23,10 +23,10 @@ module _ (a b : ℕ) (p : a < 2 ^ 32) (q : b < 2 ^ 32) where
   backward h = (omega arith, omega arith, omega arith)
 
   pub step-reads : Reads a b (stepOf a b)
-  unfolding pick
+  unfolding ifElse
   step-reads = go (ltb (aheadOf a b) (2 ^ 31)) refl
     where
-      go : (t : Bool) → ltb (aheadOf a b) (2 ^ 31) ≡ t → Reads a b (pick t (Forward (aheadOf a b)) (Backward (2 ^ 32 - aheadOf a b)))
+      go : (t : Bool) → ltb (aheadOf a b) (2 ^ 31) ≡ t → Reads a b (ifElse t (Forward (aheadOf a b)) (Backward (2 ^ 32 - aheadOf a b)))
       go true e = forward (ltb-true (aheadOf a b) (2 ^ 31) e)
       go false e = backward (ltb-false (aheadOf a b) (2 ^ 31) e)
 
@@ -40,13 +40,13 @@ module _ (a b : ℕ) (p : a < 2 ^ 32) (q : b < 2 ^ 32) where
 
 -- P: from FFFFFFF0 to 00000010 is 32; from 0 to 7FFFFFFF forward; from 0 to 80000000 backward
 pub over-the-end : stepOf 0xFFFFFFF0 0x00000010 ≡ Forward 32
-unfolding pick
+unfolding ifElse
 over-the-end = refl
 
 pub half-way : stepOf 0 0x7FFFFFFF ≡ Forward 2147483647
-unfolding pick
+unfolding ifElse
 half-way = refl
 
 pub past-half-way : stepOf 0 0x80000000 ≡ Backward 2147483648
-unfolding pick
+unfolding ifElse
 past-half-way = refl

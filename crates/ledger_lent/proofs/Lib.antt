@@ -1,4 +1,4 @@
 -- Laws of the thin calls.
-pub mod Steps
+pub mod Branches
 pub mod Walk
 pub mod Unique

@@ -1,5 +1,5 @@
 -- Laws of the calls on a record.
-pub mod Steps
+pub mod Branches
 pub mod Dead
 pub mod Square
 pub mod Refused

@@ -18,7 +18,7 @@ use Rattle.cuts.proofs.Cut.{cut-first}
 use Rattle.records.specs.declared.Form.{Form}
 use Rattle.records.specs.Form.{sizeOf}
 use Rattle.records.specs.Record.{recordBad, recordsOf}
-use Rattle.records.proofs.Steps.{bad-size}
+use Rattle.records.proofs.Branches.{bad-size}
 use Rattle.trace.specs.declared.State.{State}
 use Rattle.trace.specs.declared.State.the-variants.{Good, Bad, Refused}
 use Rattle.trace.specs.declared.Trace.{Trace}
@@ -36,7 +36,7 @@ use Rattle.endings.specs.Inner.{listIn}
 use Rattle.frame_lines.specs.Inner.{linesIn}
 use Rattle.replay.specs.Inner.{newReplay, tellSaid, endedBy, endedOf, Out, over, outOf}
 use Rattle.replay.proofs.Over.{records-cut, folds, over-text, over-trace, decided-stays}
-use Rattle.replay.proofs.Steps.{positive}
+use Rattle.replay.proofs.Records.{positive}
 use Rattle.replay.proofs.Read.{none}
 use Rattle.replay.proofs.Right.{lines-right}
 use Rattle.text.specs.Put.{Put}

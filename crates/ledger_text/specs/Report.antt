@@ -9,7 +9,7 @@ use Rattle.trace.specs.declared.State.{State}
 use Rattle.trace.specs.declared.State.the-variants.{Good, Bad, Refused}
 use Rattle.frame_lines.specs.declared.Show.{Show}
 use Rattle.frame_lines.specs.declared.Show.the-variants.{Nothing, Replay, Frames}
-use Rattle.words.specs.Words.{wordsOf}
+use Rattle.refusal_words.specs.Words.{wordsOf}
 use Rattle.text.specs.Text.{Row, bytes, number, line, lines}
 
 -- the accounts' names

@@ -146,7 +146,7 @@ fn shut_text(buf: &mut [u8], number: u8) -> usize
 {
     let one = [number as u64];
     let at = text::line(buf, 0, b"refused", &one);
-    words::put(buf, at, number)
+    refusal_words::put(buf, at, number)
 }
 
 // An opening that is refused: its number and its words, as `write` writes.

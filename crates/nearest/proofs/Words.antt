@@ -8,7 +8,7 @@ use borrow.Author.Tests.{ltb-true, ltb-false, lt-ltb}
 use lib.IntN.{ℤ, pos, negℤ}
 use lib.Signed.{_≤ℤ_}
 use Rattle.integers.proofs.Integers.{Is, is-neg, at-most, below, differ-alike}
-use Rattle.rules.specs.Pick.{pick}
+use Rattle.rules.specs.IfElse.{ifElse}
 use Rattle.camera_settings.specs.Numbers.{isSigned}
 use Rattle.camera_settings.specs.declared.Setting.{Setting}
 use Rattle.nearest.specs.Word.{signedOf, integerOf}
@@ -23,15 +23,15 @@ zeroBy true = 32768
 zeroBy false = 0
 
 is-signed : (w : ℕ) → w < 65536 → Is (signedOf w) (turned w) 32768
-unfolding pick
+unfolding ifElse
 is-signed w h = go (ltb w (2 ^ 15)) refl
   where
-    go : (t : Bool) → ltb w (2 ^ 15) ≡ t → Is (pick t (pos w) (negℤ (pos (2 ^ 16 - w)))) (turned w) 32768
+    go : (t : Bool) → ltb w (2 ^ 15) ≡ t → Is (ifElse t (pos w) (negℤ (pos (2 ^ 16 - w)))) (turned w) 32768
     go true e = let k = ltb-true w (2 ^ 15) e in omega arith
     go false e = let k = ltb-false w (2 ^ 15) e in is-neg (pos (2 ^ 16 - w)) 32768 (turned w) (omega arith)
 
-is-word-by : (t : Bool) (w : ℕ) → w < 65536 → Is (pick t (signedOf w) (pos w)) (pick t (turned w) w) (zeroBy t)
-unfolding pick zeroBy
+is-word-by : (t : Bool) (w : ℕ) → w < 65536 → Is (ifElse t (signedOf w) (pos w)) (ifElse t (turned w) w) (zeroBy t)
+unfolding ifElse zeroBy
 is-word-by true w h = is-signed w h
 is-word-by false w h = omega arith
 
@@ -44,8 +44,8 @@ module _ (s : Setting) where
   unfolding base integerOf shifted
   is-word w h = is-word-by (isSigned s) w h
 
-  again-by : (t : Bool) (w : ℕ) → w < 65536 → pick t (turned (pick t (turned w) w)) (pick t (turned w) w) ≡ w
-  unfolding pick
+  again-by : (t : Bool) (w : ℕ) → w < 65536 → ifElse t (turned (ifElse t (turned w) w)) (ifElse t (turned w) w) ≡ w
+  unfolding ifElse
   again-by true w h = omega arith
   again-by false w h = refl
 
@@ -53,8 +53,8 @@ module _ (s : Setting) where
   unfolding shifted
   shifted-again w h = again-by (isSigned s) w h
 
-  few-by : (t : Bool) (w : ℕ) → w < 65536 → pick t (turned w) w < 65536
-  unfolding pick
+  few-by : (t : Bool) (w : ℕ) → w < 65536 → ifElse t (turned w) w < 65536
+  unfolding ifElse
   few-by true w h = omega arith
   few-by false w h = h
 
@@ -63,8 +63,8 @@ module _ (s : Setting) where
   shifted-few w h = few-by (isSigned s) w h
 
   -- a step above 0 is its word
-  step-by : (t : Bool) (w : ℕ) → w < 65536 → pick t (turned 0) 0 < pick t (turned w) w → (pick t (signedOf w) (pos w) ≡ pos w) × (0 < w)
-  unfolding pick
+  step-by : (t : Bool) (w : ℕ) → w < 65536 → ifElse t (turned 0) 0 < ifElse t (turned w) w → (ifElse t (signedOf w) (pos w) ≡ pos w) × (0 < w)
+  unfolding ifElse
   step-by true w h l = (rw (lt-ltb w (2 ^ 15) (omega arith)), omega arith)
   step-by false w h l = (refl, l)
 
@@ -75,8 +75,8 @@ module _ (s : Setting) where
   pub some-step : (step : ℕ) → step < 65536 → shifted s 0 < shifted s step → 0 < step
   some-step step d above = is-step step d above .1
 
-  zero-by : (t : Bool) → pick t (signedOf 0) (pos 0) ≡ pos 0
-  unfolding pick
+  zero-by : (t : Bool) → ifElse t (signedOf 0) (pos 0) ≡ pos 0
+  unfolding ifElse
   zero-by true = refl
   zero-by false = refl
 

@@ -1,7 +1,7 @@
 -- What the contracts of the helpers cite, and a reader need not believe: words shifted so that their order is that of the integers, and the nearest of naturals.
 use Prim.Native.Nat.{ℕ, _+_, _-_, _*_, _%_, _≤_}
 use mathlib.Core.Path.{_≡_}
-use Rattle.rules.specs.Pick.{pick}
+use Rattle.rules.specs.IfElse.{ifElse}
 use Rattle.camera_settings.specs.Numbers.{isSigned}
 use Rattle.camera_settings.specs.declared.Setting.{Setting}
 
@@ -10,7 +10,7 @@ abbrev pub turned : ℕ → ℕ
 turned w = (w + 32768) % 65536
 
 unfoldable pub shifted : Setting → ℕ → ℕ
-shifted s w = pick (isSigned s) (turned w) w
+shifted s w = ifElse (isSigned s) (turned w) w
 
 abbrev pub distance : ℕ → ℕ → ℕ
 distance a b = (a - b) + (b - a)

@@ -4,7 +4,7 @@ use mathlib.Core.Path.{_≡_}
 use mathlib.Core.List.{List, [], _∷_, _++_}
 use lib.ListN.{length, drop}
 use lib.Dec.{ltb}
-use Rattle.rules.specs.Pick.{pick}
+use Rattle.rules.specs.IfElse.{ifElse}
 use Rattle.rules.specs.declared.Verdict.{Verdict}
 use Rattle.rules.specs.declared.Verdict.the-variants as verdict
 use Rattle.camera_settings.specs.Numbers.{selectorOf, codeOf, typeOf}
@@ -32,7 +32,7 @@ packetOf interface unit c q =
 
 -- 94: there is room for fewer than 8 bytes
 abbrev pub roomVerdict : List ℕ → Verdict
-roomVerdict room = pick (ltb (length room) packetSize) (verdict.Refused 94 0) verdict.Accepted
+roomVerdict room = ifElse (ltb (length room) packetSize) (verdict.Refused 94 0) verdict.Accepted
 
 -- what a verdict leaves in the room: the packet in its first 8 bytes, and the rest as it was; a refusal changes no byte
 abbrev pub leaves : Verdict → List ℕ → List ℕ → List ℕ

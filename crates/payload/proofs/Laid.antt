@@ -8,11 +8,11 @@ use Rattle.le.specs.Le.{le16At}
 use Rattle.sizes.specs.declared.HeaderKind.{HeaderKind}
 use Rattle.sizes.specs.declared.HeaderKind.the-variants.{Old, Vp8}
 use Rattle.payload.specs.declared.Layout.{Layout}
-use Rattle.payload.specs.Layouts.{layoutOf, Laid}
+use Rattle.payload.specs.Layouts.{headerLayout, Laid}
 use Rattle.payload.specs.Transfer.{flagsAt}
 
-pub laid : (k : HeaderKind) → Laid (layoutOf k)
-unfolding layoutOf
+pub laid : (k : HeaderKind) → Laid (headerLayout k)
+unfolding headerLayout
 laid Old = record { low = omega arith; high = omega arith; even = λ e. omega arith; bit = omega arith }
 laid Vp8 = record { low = omega arith; high = omega arith; even = λ e. omega arith; bit = omega arith }
 

@@ -6,32 +6,32 @@ use native.Mathlib.Omega.{arith}
 use lib.ListN.{length}
 use lib.Dec.{ltb, eqb}
 use borrow.Author.Tests.{le-ltb, ne-eqb}
-use Rattle.rules.specs.Pick.{pick}
+use Rattle.rules.specs.IfElse.{ifElse}
 use Rattle.rules.specs.Numbered.{firstFrom}
 use Rattle.sizes.specs.declared.Opening.{Opening}
 use Rattle.sizes.specs.declared.HeaderKind.the-variants.{Old}
 use Rattle.payload.specs.declared.Layer.{Layer}
 use Rattle.payload.specs.declared.Header.{Header}
 use Rattle.payload.specs.declared.Reading.the-variants.{Readable}
-use Rattle.payload.specs.Layouts.{layoutOf}
+use Rattle.payload.specs.Layouts.{headerLayout}
 use Rattle.payload.specs.Transfer.{flagsAt, layerPlace, needOf, flagsBy, stampOf, layerOf, headerBy, sorted, sortedBy, readingOf}
 use Rattle.payload.specs.OldKind.{oldFlags, oldNeed, oldRules, oldHeader, oldReading, OldKind}
 use Rattle.payload.proofs.Laid.{flags-one}
 use Rattle.payload.proofs.Readings.{readable-exactly}
 
-old-flags : (t : List ℕ) → flagsAt (layoutOf Old) t ≡ oldFlags t
-unfolding layoutOf
-old-flags t = sym (flags-one (layoutOf Old) t refl)
+old-flags : (t : List ℕ) → flagsAt (headerLayout Old) t ≡ oldFlags t
+unfolding headerLayout
+old-flags t = sym (flags-one (headerLayout Old) t refl)
 
-old-need : (flags : ℕ) → needOf (layoutOf Old) flags ≡ oldNeed flags
-unfolding layoutOf needOf layerPlace pick
+old-need : (flags : ℕ) → needOf (headerLayout Old) flags ≡ oldNeed flags
+unfolding headerLayout needOf layerPlace ifElse
 old-need flags = go (oldNeed flags)
   where
     go : (n : ℕ) → n + 0 ≡ n
     go n = omega arith
 
-old-header : (t : List ℕ) → headerBy (layoutOf Old) t ≡ oldHeader t
-unfolding layoutOf headerBy stampOf layerOf pick
+old-header : (t : List ℕ) → headerBy (headerLayout Old) t ≡ oldHeader t
+unfolding headerLayout headerBy stampOf layerOf ifElse
 old-header t = rw (old-flags t)
 
 -- under two bytes and not none: one byte
@@ -40,11 +40,11 @@ one-byte zero = refl
 one-byte (suc n) = le-ltb (suc (suc n)) 2 (omega arith) ∙ sym (ne-eqb (suc (suc n)) 1 (λ e. omega arith))
 
 -- 67 is never broken
-old-first : (payload b : ℕ) (t : List ℕ) → firstFrom 61 (flagsBy (layoutOf Old) payload (b ∷ t)) ≡ firstFrom 61 (oldRules payload (b ∷ t))
-unfolding layoutOf flagsBy firstFrom
+old-first : (payload b : ℕ) (t : List ℕ) → firstFrom 61 (flagsBy (headerLayout Old) payload (b ∷ t)) ≡ firstFrom 61 (oldRules payload (b ∷ t))
+unfolding headerLayout flagsBy firstFrom
 old-first payload b t = rw (old-flags (b ∷ t), old-need (oldFlags (b ∷ t)), one-byte (length t))
 
-old-sorted : (payload : ℕ) (b : ℕ) (t : List ℕ) → sortedBy (layoutOf Old) payload (b ∷ t) ≡ oldReading payload (b ∷ t)
+old-sorted : (payload : ℕ) (b : ℕ) (t : List ℕ) → sortedBy (headerLayout Old) payload (b ∷ t) ≡ oldReading payload (b ∷ t)
 old-sorted payload b t = ap₂ sorted (old-first payload b t) (old-header (b ∷ t))
 
 pub old-kind : (o : Opening) → o .kind ≡ Old → OldKind o

@@ -7,10 +7,10 @@ use mathlib.Core.Logic.{_↔_}
 use native.Mathlib.Omega.{arith}
 use lib.ListN.{length, getD}
 use borrow.Author.Tests.{ltb-false}
-use Rattle.rules.specs.Pick.{pick}
+use Rattle.rules.specs.IfElse.{ifElse}
 use Rattle.rules.specs.Numbered.{firstFrom, Up, Down}
 use Rattle.rules.proofs.Numbered.{up-above, none-up, none-first, first-zero, first-up, first-low, up-first}
-use Rattle.payload.specs.Layouts.{layoutOf}
+use Rattle.payload.specs.Layouts.{headerLayout}
 use Rattle.payload.specs.Transfer.{flagOf, flagsAt, hasLayer, layerPlace, needOf, stampMissing, flagsBy, transferFlags, headerBy, headerOf, sorted, sortedBy, readingOf}
 use Rattle.sizes.specs.declared.HeaderKind.{HeaderKind}
 use Rattle.sizes.specs.declared.Opening.{Opening}
@@ -50,7 +50,7 @@ sorts o [] l = absurd (omega arith)
 sorts o (b ∷ t) l = refl
 
 -- by the row of its kind
-pub read-kind : (o : Opening) (t : List ℕ) (k : HeaderKind) (r : Reading) → 0 < length t → o .kind ≡ k → r ≡ sortedBy (layoutOf k) (o .payload) t → r ≡ readingOf o t
+pub read-kind : (o : Opening) (t : List ℕ) (k : HeaderKind) (r : Reading) → 0 < length t → o .kind ≡ k → r ≡ sortedBy (headerLayout k) (o .payload) t → r ≡ readingOf o t
 read-kind o t k r l e q = rw (← e) at (q) ∙ sym (sorts o t l)
 
 pub unreadable-here : (n k : ℕ) (h : Header) → n ≡ k → (n ≡ 0 → ⊥) → Unreadable n ≡ sorted k h
@@ -88,7 +88,7 @@ fits-by l payload t d =
     }
 
 abbrev pub Fits : Opening → List ℕ → ℕ → Type 0
-Fits o t len = FitsBy (layoutOf (o .kind)) (o .payload) t len
+Fits o t len = FitsBy (headerLayout (o .kind)) (o .payload) t len
 
 -- there is room for the header's fields
 pub header-room : (l : Layout) (payload : ℕ) (t : List ℕ) (n : ℕ) → n ≡ firstFrom 61 (flagsBy l payload t) → n ≡ 0 →
@@ -99,14 +99,14 @@ header-room l payload t n e z =
 
 -- a header that has a stamp has four bytes for it after its flags, and one that has a layer two at its place
 pub stamp-room : (l : Layout) (flags : ℕ) → flagOf flags 2 ≡ true → l .least + 4 ≤ needOf l flags
-unfolding needOf layerPlace pick
-stamp-room l flags p = rw p (go (l .least) (pick (flagOf flags 3) 6 0) (pick (hasLayer l flags) 2 0))
+unfolding needOf layerPlace ifElse
+stamp-room l flags p = rw p (go (l .least) (ifElse (flagOf flags 3) 6 0) (ifElse (hasLayer l flags) 2 0))
   where
     go : (a n m : ℕ) → a + 4 ≤ a + 4 + n + m
     go a n m = omega arith
 
 pub layer-room : (l : Layout) (flags : ℕ) → hasLayer l flags ≡ true → layerPlace l flags + 2 ≤ needOf l flags
-unfolding needOf pick
+unfolding needOf ifElse
 layer-room l flags p = rw p (go (layerPlace l flags))
   where
     go : (a : ℕ) → a + 2 ≤ a + 2
@@ -184,4 +184,4 @@ module _ (o : Opening) where
   unfolding headerBy
   readable-fits t h e =
       let w = to-whole t h e in
-      rw (w .header) (fits-by (layoutOf (o .kind)) (o .payload) t (first-zero 61 (transferFlags o t) (omega arith) (none-first 61 (transferFlags o t) (w .whole))))
+      rw (w .header) (fits-by (headerLayout (o .kind)) (o .payload) t (first-zero 61 (transferFlags o t) (omega arith) (none-first 61 (transferFlags o t) (w .whole))))

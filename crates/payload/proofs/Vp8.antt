@@ -6,32 +6,32 @@ use mathlib.Core.List.{List}
 use native.Mathlib.Omega.{arith}
 use lib.ListN.{length}
 use Rattle.le.specs.Le.{le32At}
-use Rattle.rules.specs.Pick.{pick}
+use Rattle.rules.specs.IfElse.{ifElse}
 use Rattle.sizes.specs.declared.Opening.{Opening}
 use Rattle.sizes.specs.declared.HeaderKind.the-variants.{Vp8}
 use Rattle.payload.specs.declared.Stamp.{Stamp}
 use Rattle.payload.specs.declared.Header.{Header}
 use Rattle.payload.specs.declared.Reading.the-variants.{Readable}
-use Rattle.payload.specs.Layouts.{layoutOf}
+use Rattle.payload.specs.Layouts.{headerLayout}
 use Rattle.payload.specs.Transfer.{flagOf, flagsAt, stampOf, headerBy, readingOf}
 use Rattle.payload.proofs.Readings.{FitsBy, stamp-room, readable-exactly, readable-fits}
 
 module _ (o : Opening) (t : List ℕ) (h : Header) (k : o .kind ≡ Vp8) (e : readingOf o t ≡ Readable h) where
   abbrev flags : ℕ
-  flags = flagsAt (layoutOf Vp8) t
+  flags = flagsAt (headerLayout Vp8) t
 
-  says : h ≡ headerBy (layoutOf Vp8) t
+  says : h ≡ headerBy (headerLayout Vp8) t
   says = readable-exactly o t h .0 e .header ∙ rw k refl
 
   pub no-still : h .still ≡ false
-  unfolding layoutOf headerBy
+  unfolding headerLayout headerBy
   no-still = ap (λ (g : Header). g .still) says
 
-  fits : FitsBy (layoutOf Vp8) (o .payload) t (h .len)
+  fits : FitsBy (headerLayout Vp8) (o .payload) t (h .len)
   fits = rw k at (readable-fits o t h e)
 
   stamped : flagOf flags 2 ≡ true
-  unfolding layoutOf
+  unfolding headerLayout
   stamped = go (flagOf flags 2) (fits .timed)
     where
       go : (b : Bool) → (true && not b) ≡ false → b ≡ true
@@ -40,9 +40,9 @@ module _ (o : Opening) (t : List ℕ) (h : Header) (k : o .kind ≡ Vp8) (e : re
 
   -- four bytes after the flags
   pub its-stamp : h .stamp ≡ Stamp.At (le32At t 4)
-  unfolding layoutOf headerBy stampOf pick
+  unfolding headerLayout headerBy stampOf ifElse
   its-stamp = ap (λ (g : Header). g .stamp) says ∙ rw stamped refl
 
   pub eight-bytes : (8 ≤ length t) × (8 ≤ o .payload)
-  unfolding layoutOf
-  eight-bytes = let f = fits in let r = stamp-room (layoutOf Vp8) flags stamped in (omega arith, omega arith)
+  unfolding headerLayout
+  eight-bytes = let f = fits in let r = stamp-room (headerLayout Vp8) flags stamped in (omega arith, omega arith)

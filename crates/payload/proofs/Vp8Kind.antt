@@ -6,27 +6,27 @@ use native.Mathlib.Omega.{arith}
 use Rattle.rules.specs.Numbered.{firstFrom}
 use Rattle.sizes.specs.declared.Opening.{Opening}
 use Rattle.sizes.specs.declared.HeaderKind.the-variants.{Vp8}
-use Rattle.payload.specs.Layouts.{layoutOf}
+use Rattle.payload.specs.Layouts.{headerLayout}
 use Rattle.payload.specs.Transfer.{flagsAt, layerPlace, needOf, flagsBy, stampOf, layerOf, headerBy, sorted, sortedBy, readingOf}
 use Rattle.payload.specs.Vp8Kind.{vp8Flags, vp8Need, vp8Rules, vp8Header, vp8Reading, Vp8Kind}
 
-vp8-flags : (t : List ℕ) → flagsAt (layoutOf Vp8) t ≡ vp8Flags t
-unfolding layoutOf
+vp8-flags : (t : List ℕ) → flagsAt (headerLayout Vp8) t ≡ vp8Flags t
+unfolding headerLayout
 vp8-flags t = omega arith
 
-vp8-need : (flags : ℕ) → needOf (layoutOf Vp8) flags ≡ vp8Need flags
-unfolding layoutOf needOf layerPlace
+vp8-need : (flags : ℕ) → needOf (headerLayout Vp8) flags ≡ vp8Need flags
+unfolding headerLayout needOf layerPlace
 vp8-need flags = refl
 
-vp8-header : (t : List ℕ) → headerBy (layoutOf Vp8) t ≡ vp8Header t
-unfolding layoutOf headerBy stampOf layerOf layerPlace
+vp8-header : (t : List ℕ) → headerBy (headerLayout Vp8) t ≡ vp8Header t
+unfolding headerLayout headerBy stampOf layerOf layerPlace
 vp8-header t = rw (vp8-flags t)
 
-vp8-first : (payload b : ℕ) (t : List ℕ) → firstFrom 61 (flagsBy (layoutOf Vp8) payload (b ∷ t)) ≡ firstFrom 61 (vp8Rules payload (b ∷ t))
-unfolding layoutOf flagsBy needOf layerPlace
+vp8-first : (payload b : ℕ) (t : List ℕ) → firstFrom 61 (flagsBy (headerLayout Vp8) payload (b ∷ t)) ≡ firstFrom 61 (vp8Rules payload (b ∷ t))
+unfolding headerLayout flagsBy needOf layerPlace
 vp8-first payload b t = rw (vp8-flags (b ∷ t))
 
-vp8-sorted : (payload : ℕ) (b : ℕ) (t : List ℕ) → sortedBy (layoutOf Vp8) payload (b ∷ t) ≡ vp8Reading payload (b ∷ t)
+vp8-sorted : (payload : ℕ) (b : ℕ) (t : List ℕ) → sortedBy (headerLayout Vp8) payload (b ∷ t) ≡ vp8Reading payload (b ∷ t)
 vp8-sorted payload b t = ap₂ sorted (vp8-first payload b t) (vp8-header (b ∷ t))
 
 pub vp8-kind : (o : Opening) → o .kind ≡ Vp8 → Vp8Kind o

@@ -7,9 +7,9 @@ use Rattle.sizes.specs.declared.HeaderKind.the-variants.{Old, Vp8}
 use Rattle.payload.specs.declared.Layout.{Layout}
 
 -- the bytes of a header with no field; the bit that says end of header; whether D5 marks a still, D7 announces a layer, and a PTS has to be there
-unfoldable pub layoutOf : HeaderKind → Layout
-layoutOf Old = record { least = 2; ends = 7; stills = true; layered = false; timed = false }
-layoutOf Vp8 = record { least = 4; ends = 23; stills = false; layered = true; timed = true }
+unfoldable pub headerLayout : HeaderKind → Layout
+headerLayout Old = record { least = 2; ends = 7; stills = true; layered = false; timed = false }
+headerLayout Vp8 = record { least = 4; ends = 23; stills = false; layered = true; timed = true }
 
 -- what each row of the table has: a header with no field is of two or four bytes, and the end of header one of its flags
 pub record Laid (l : Layout) : Type 0 where

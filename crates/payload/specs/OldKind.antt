@@ -6,14 +6,14 @@ use mathlib.Core.Bool.{Bool, not}
 use lib.ListN.{length, getD}
 use lib.Dec.{ltb, eqb}
 use Rattle.le.specs.Le.{le32At}
-use Rattle.rules.specs.Pick.{pick}
+use Rattle.rules.specs.IfElse.{ifElse}
 use Rattle.rules.specs.Numbered.{firstFrom}
 use Rattle.sizes.specs.declared.Opening.{Opening}
 use Rattle.payload.specs.declared.Stamp.{Stamp}
 use Rattle.payload.specs.declared.Layer.{Layer}
 use Rattle.payload.specs.declared.Header.{Header}
 use Rattle.payload.specs.declared.Reading.{Reading}
-use Rattle.payload.specs.Layouts.{layoutOf}
+use Rattle.payload.specs.Layouts.{headerLayout}
 use Rattle.payload.specs.Transfer.{flagOf, lengthAt, flagsAt, needOf, headerOf, sorted, readingOf}
 
 -- byte 1 holds the flags
@@ -22,7 +22,7 @@ oldFlags t = getD t 1 0
 
 -- 2, with 4 for a PTS (D2) and 6 for an SCR (D3)
 abbrev pub oldNeed : ℕ → ℕ
-oldNeed flags = 2 + pick (flagOf flags 2) 4 0 + pick (flagOf flags 3) 6 0
+oldNeed flags = 2 + ifElse (flagOf flags 2) 4 0 + ifElse (flagOf flags 3) 6 0
 
 -- rules 61 to 66, of a transfer of a byte or more
 abbrev pub oldRules : ℕ → List ℕ → List Bool
@@ -44,7 +44,7 @@ oldHeader t =
       eof = flagOf (oldFlags t) 1;
       still = flagOf (oldFlags t) 5;
       error = flagOf (oldFlags t) 6;
-      stamp = pick (flagOf (oldFlags t) 2) (Stamp.At (le32At t 2)) Stamp.Absent;
+      stamp = ifElse (flagOf (oldFlags t) 2) (Stamp.At (le32At t 2)) Stamp.Absent;
       layer = Layer.Absent;
     }
 
@@ -54,7 +54,7 @@ oldReading payload (b ∷ t) = sorted (firstFrom 61 (oldRules payload (b ∷ t))
 
 -- each parameter of the reading, and the reading, are document 01's
 pub record OldKind (o : Opening) : Type 0 where
-  pub flags : (t : List ℕ) → flagsAt (layoutOf (o .kind)) t ≡ oldFlags t
-  pub need : (flags : ℕ) → needOf (layoutOf (o .kind)) flags ≡ oldNeed flags
+  pub flags : (t : List ℕ) → flagsAt (headerLayout (o .kind)) t ≡ oldFlags t
+  pub need : (flags : ℕ) → needOf (headerLayout (o .kind)) flags ≡ oldNeed flags
   pub header : (t : List ℕ) → headerOf o t ≡ oldHeader t
   pub reading : (t : List ℕ) → readingOf o t ≡ oldReading (o .payload) t

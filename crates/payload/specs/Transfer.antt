@@ -5,7 +5,7 @@ use mathlib.Core.Bool.{Bool, not, _&&_}
 use lib.ListN.{length, getD}
 use lib.Dec.{ltb, eqb}
 use Rattle.le.specs.Le.{le16At, le32At}
-use Rattle.rules.specs.Pick.{pick}
+use Rattle.rules.specs.IfElse.{ifElse}
 use Rattle.rules.specs.Numbered.{firstFrom}
 use Rattle.sizes.specs.declared.Opening.{Opening}
 use Rattle.payload.specs.declared.Layout.{Layout}
@@ -14,7 +14,7 @@ use Rattle.payload.specs.declared.Layer.{Layer}
 use Rattle.payload.specs.declared.Header.{Header}
 use Rattle.payload.specs.declared.Reading.{Reading}
 use Rattle.payload.specs.declared.Reading.the-variants.{Idle, Unreadable, Readable}
-use Rattle.payload.specs.Layouts.{layoutOf}
+use Rattle.payload.specs.Layouts.{headerLayout}
 
 -- Dn of a number is set
 unfoldable pub flagOf : ℕ → ℕ → Bool
@@ -37,11 +37,11 @@ abbrev pub hasLayer : Layout → ℕ → Bool
 hasLayer l flags = l .layered && flagOf flags 7
 
 unfoldable pub layerPlace : Layout → ℕ → ℕ
-layerPlace l flags = l .least + pick (flagOf flags 2) 4 0 + pick (flagOf flags 3) 6 0
+layerPlace l flags = l .least + ifElse (flagOf flags 2) 4 0 + ifElse (flagOf flags 3) 6 0
 
 -- how long a header has to be: its length and flags, with 4 for a PTS, 6 for an SCR and 2 for a layer
 unfoldable pub needOf : Layout → ℕ → ℕ
-needOf l flags = layerPlace l flags + pick (hasLayer l flags) 2 0
+needOf l flags = layerPlace l flags + ifElse (hasLayer l flags) 2 0
 
 -- no PTS, in a kind that has to have one
 abbrev pub stampMissing : Layout → ℕ → Bool
@@ -60,15 +60,15 @@ flagsBy l payload t =
     ∷ []
 
 abbrev pub transferFlags : Opening → List ℕ → List Bool
-transferFlags o t = flagsBy (layoutOf (o .kind)) (o .payload) t
+transferFlags o t = flagsBy (headerLayout (o .kind)) (o .payload) t
 
 -- the PTS: four bytes after the flags, if D2 says that it is present
 unfoldable pub stampOf : Layout → List ℕ → ℕ → Stamp
-stampOf l t flags = pick (flagOf flags 2) (Stamp.At (le32At t (l .least))) Stamp.Absent
+stampOf l t flags = ifElse (flagOf flags 2) (Stamp.At (le32At t (l .least))) Stamp.Absent
 
 -- the layer: two bytes, if there is one
 unfoldable pub layerOf : Layout → List ℕ → ℕ → Layer
-layerOf l t flags = pick (hasLayer l flags) (Layer.At (le16At t (layerPlace l flags))) Layer.Absent
+layerOf l t flags = ifElse (hasLayer l flags) (Layer.At (le16At t (layerPlace l flags))) Layer.Absent
 
 -- D0 FID, D1 EOF, D5 still, in a kind that has stills, D6 error. Further bytes of a longer header are header too.
 unfoldable pub headerBy : Layout → List ℕ → Header
@@ -84,7 +84,7 @@ headerBy l t =
     }
 
 abbrev pub headerOf : Opening → List ℕ → Header
-headerOf o t = headerBy (layoutOf (o .kind)) t
+headerOf o t = headerBy (headerLayout (o .kind)) t
 
 -- unreadable by the first broken rule, or readable
 abbrev pub sorted : ℕ → Header → Reading
@@ -98,4 +98,4 @@ sortedBy l payload t = sorted (firstFrom 61 (flagsBy l payload t)) (headerBy l t
 -- a length of 0 is idle
 unfoldable pub readingOf : Opening → List ℕ → Reading
 readingOf o [] = Idle
-readingOf o (b ∷ t) = sortedBy (layoutOf (o .kind)) (o .payload) (b ∷ t)
+readingOf o (b ∷ t) = sortedBy (headerLayout (o .kind)) (o .payload) (b ∷ t)

@@ -4,7 +4,7 @@ ghost use mathlib.Core.Bool.{not, _&&_};
 ghost use Prim.Native.Nat.{_<_, _≤_};
 ghost use lib.ListN.{length};
 ghost use lib.Dec.{ltb};
-ghost use Rattle.rules.specs.Pick.{pick};
+ghost use Rattle.rules.specs.IfElse.{ifElse};
 ghost use Rattle.rules.specs.Numbered.{firstFrom};
 ghost use Rattle.payload.specs.Layouts.{Laid};
 ghost use Rattle.payload.specs.Transfer.{flagOf, flagsAt, hasLayer, layerPlace, needOf, stampMissing, stampOf, layerOf, headerBy, flagsBy, sortedBy, readingOf};
@@ -113,7 +113,7 @@ fn flags_at(l: Layout, t: &[u8]) -> u32
 
 // n bytes, if the flag that announces them is set.
 fn held(there: bool, n: usize) -> usize
-    ensures { λ r. ⌜ (r ≡ pick there n 0) × (r ≤ n) ⌝ }
+    ensures { λ r. ⌜ (r ≡ ifElse there n 0) × (r ≤ n) ⌝ }
 {
     if there { n } else { 0 }
 }

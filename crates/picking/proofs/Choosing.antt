@@ -6,7 +6,7 @@ use lib.ListN.{getD}
 use lib.Dec.{eqb}
 use borrow.Author.Tests.{eq-eqb, ne-eqb}
 use native.Mathlib.Omega.{arith}
-use Rattle.rules.specs.Pick.{pick}
+use Rattle.rules.specs.IfElse.{pick}
 use Rattle.rules.specs.declared.Verdict.the-variants.{Accepted, Refused}
 use Rattle.rules.proofs.Places.{first-place}
 use Rattle.rules.proofs.Verdicts.{apart}
@@ -14,13 +14,13 @@ use Rattle.interfaces.specs.Limits.{noStream}
 use Rattle.interfaces.specs.Inner.{streamsOf, placeOf}
 use Rattle.interfaces.specs.declared.Stream.{Stream}
 use Rattle.interfaces.proofs.Listing.{streams-few}
-use Rattle.settings.specs.Inner.{settingsOf, fewestFrom, fewestOf}
-use Rattle.settings.specs.declared.Setting.{Setting}
-use Rattle.settings.specs.declared.Choice.{Choice}
-use Rattle.settings.specs.declared.Choice.the-variants.{At, Nothing}
+use Rattle.alternate_settings.specs.Inner.{settingsOf, fewestFrom, fewestOf}
+use Rattle.alternate_settings.specs.declared.Setting.{Setting}
+use Rattle.alternate_settings.specs.declared.Choice.{Choice}
+use Rattle.alternate_settings.specs.declared.Choice.the-variants.{At, Nothing}
 use Rattle.configuration.specs.Inner.{ConfigurationIs, laid, blocks, sound, refusedBy as refusedConfiguration, acceptedWith}
 use Rattle.configuration.specs.declared.Configuration.{Configuration}
-use Rattle.picking.specs.Inner.{settingsIn, refusedBy, answerOf, PickIs, own, picks}
+use Rattle.picking.specs.Inner.{settingsIn, refusedBy, answerOf, PickIs, own, ifElses}
 use Rattle.picking.specs.declared.Picked.{Picked}
 
 pub place-in : (l : List Stream) (n i k : ℕ) → k ≡ placeOf l n i → (k ≡ n → ⊥) → n ≤ 8 → k < 8
@@ -61,4 +61,4 @@ module _ (s : List ℕ) where
     own-refused k o e x q = rw q (own c k o r e)
 
     pub then-picked : c .verdict ≡ Accepted → (x : Picked) → x ≡ answerOf (fewestOf p (settingsIn s (c .streams) (c .count) i)) → PickIs s i p x
-    then-picked e x q = let t = same-streams r e in rw (q, t .0, t .1) (picks c r e)
+    then-picked e x q = let t = same-streams r e in rw (q, t .0, t .1) (ifElses c r e)

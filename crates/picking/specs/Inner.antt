@@ -5,16 +5,16 @@ use mathlib.Core.Path.{_≡_}
 use mathlib.Core.List.{List, []}
 use lib.ListN.{getD}
 use lib.Dec.{eqb}
-use Rattle.rules.specs.Pick.{pick}
+use Rattle.rules.specs.IfElse.{pick}
 use Rattle.rules.specs.declared.Verdict.the-variants.{Accepted, Refused}
 use Rattle.interfaces.specs.Limits.{noStream}
 use Rattle.interfaces.specs.Inner.{streamsOf, placeOf}
 use Rattle.interfaces.specs.declared.Stream.{Stream}
-use Rattle.settings.specs.Inner.{settingsOf, fewestOf}
-use Rattle.settings.specs.Holding.{noSetting}
-use Rattle.settings.specs.declared.Setting.{Setting}
-use Rattle.settings.specs.declared.Choice.{Choice}
-use Rattle.settings.specs.declared.Choice.the-variants.{At, Nothing}
+use Rattle.alternate_settings.specs.Inner.{settingsOf, fewestOf}
+use Rattle.alternate_settings.specs.Holding.{noSetting}
+use Rattle.alternate_settings.specs.declared.Setting.{Setting}
+use Rattle.alternate_settings.specs.declared.Choice.{Choice}
+use Rattle.alternate_settings.specs.declared.Choice.the-variants.{At, Nothing}
 use Rattle.configuration.specs.Inner.{ConfigurationIs}
 use Rattle.configuration.specs.declared.Configuration.{Configuration}
 use Rattle.picking.specs.declared.Picked.{Picked}
@@ -37,4 +37,4 @@ answerOf (At x) = record { verdict = Accepted; setting = x }
 
 pub data PickIs (s : List ℕ) (i p : ℕ) : Picked → Type 0 where
   own : (c : Configuration) (k o : ℕ) → ConfigurationIs s c → c .verdict ≡ Refused k o → PickIs s i p (refusedBy k o)
-  picks : (c : Configuration) → ConfigurationIs s c → c .verdict ≡ Accepted → PickIs s i p (answerOf (fewestOf p (settingsFor s i)))
+  ifElses : (c : Configuration) → ConfigurationIs s c → c .verdict ≡ Accepted → PickIs s i p (answerOf (fewestOf p (settingsFor s i)))

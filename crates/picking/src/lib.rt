@@ -1,14 +1,14 @@
 // Picks the alternate setting for an isochronous camera at high speed: the fewest bytes per microframe that hold the payload (74 where none does).
 ghost use mathlib.Core.Path.{_≡_};
 ghost use Prim.Native.Nat.{_≤_};
-ghost use Rattle.settings.specs.Inner.{fewestOf};
+ghost use Rattle.alternate_settings.specs.Inner.{fewestOf};
 ghost use Rattle.interfaces.specs.Limits.{interfacesMost};
 ghost use Rattle.picking.specs.Inner.{settingsIn, refusedBy, answerOf, PickIs};
+use alternate_settings::Choice;
+use alternate_settings::Setting;
 use interfaces::INTERFACES_MOST;
 use interfaces::Stream;
 use rules::Verdict;
-use settings::Choice;
-use settings::Setting;
 
 // The verdict, and the setting's number and bytes: zero where it is refused.
 pub struct Picked {
@@ -45,7 +45,7 @@ fn pick_among(
         return refused(74, 0);
     }
     let e = streams[i];
-    match settings::fewest(s, interface, e.endpoint, payload) {
+    match alternate_settings::fewest(s, interface, e.endpoint, payload) {
         Choice::Nothing => refused(74, 0),
         Choice::At(setting) => Picked {
             verdict: Verdict::Accepted,

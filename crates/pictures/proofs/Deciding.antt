@@ -6,22 +6,22 @@ use mathlib.Core.Logic.{_⊎_, inl, inr, ⊎-elim, _↔_}
 use lib.Dec.{leb, eqb}
 use borrow.Author.Tests.{eq-eqb, ne-eqb, le-leb, eqb-true, eqb-false, leb-true, not-false}
 use native.Mathlib.Omega.{arith}
-use Rattle.rules.specs.Pick.{pick}
+use Rattle.rules.specs.IfElse.{ifElse}
 use Rattle.pictures.specs.Pictures.{Asked, CanBeTrue, bitsOf, inBytes, untrue}
 
 -- divided by 8 and rounded up, it is at most the size exactly where eight times the size is enough
 pub rounded-up : (n size : ℕ) → (inBytes n ≤ size) ↔ (n ≤ 8 * size)
 rounded-up n size = (λ h. omega (arith, h), λ h. omega (arith, h))
 
-past : (b c : Bool) → pick b true c ≡ false → (b ≡ false) × (c ≡ false)
-unfolding pick
+past : (b c : Bool) → ifElse b true c ≡ false → (b ≡ false) × (c ≡ false)
+unfolding ifElse
 past true c h = absurd (true≢false h)
 past false c h = (refl, h)
 
 -- the tests after the sort's, with the bits that it has
 module _ (right bits width height size : ℕ) where
   abbrev tests : Bool
-  tests = pick (eqb width 0) true (pick (eqb height 0) true (pick (not (eqb bits right)) true (not (leb (inBytes (width * height * bits)) size))))
+  tests = ifElse (eqb width 0) true (ifElse (eqb height 0) true (ifElse (not (eqb bits right)) true (not (leb (inBytes (width * height * bits)) size))))
 
   pub record Holds : Type 0 where
     pub wide : 1 ≤ width
@@ -44,7 +44,7 @@ module _ (right bits width height size : ℕ) where
       }
 
   passed : Holds → tests ≡ false
-  unfolding pick
+  unfolding ifElse
   passed h =
       rw (ne-eqb width 0 (λ e. omega (arith, h .wide, e)), ne-eqb height 0 (λ e. omega (arith, h .high, e)), eq-eqb bits right (h .same), le-leb (inBytes (width * height * bits)) size (rounded-up (width * height * bits) size .1 (h .room)))
 
@@ -57,7 +57,7 @@ right-of (inl e) = (16, inl (e, refl))
 right-of (inr e) = (12, inr (e, refl))
 
 bits-right : {sort right : ℕ} → Right sort right → bitsOf sort ≡ right
-unfolding bitsOf pick
+unfolding bitsOf ifElse
 bits-right (inl p) = rw (p .0, p .1)
 bits-right (inr p) = rw (p .0, p .1)
 
@@ -75,7 +75,7 @@ module _ (sort bits width height size : ℕ) where
   held (inr p) h = record { wide = h .wide; high = h .high; same = h .nv12 (p .0) ∙ sym (p .1); room = h .room }
 
   by-bits : {right : ℕ} → Right sort right → untrue sort bits width height size ≡ tests right bits width height size
-  unfolding untrue pick
+  unfolding untrue ifElse
   by-bits p = rw (bits-right p, ne-eqb _ 0 (some-bits p))
 
   -- what is asked and not refused can be true, and what can be true is not refused
@@ -87,7 +87,7 @@ module _ (sort bits width height size : ℕ) where
 
   -- no other sort is refused
   pub not-asked : (Asked sort → ⊥) → untrue sort bits width height size ≡ false
-  unfolding untrue bitsOf pick
+  unfolding untrue bitsOf ifElse
   not-asked n = rw (ne-eqb sort 1 (λ e. n (inl e)), ne-eqb sort 2 (λ e. n (inr e)))
 
   asked-or-not : (Asked sort) ⊎ (Asked sort → ⊥)

@@ -4,7 +4,7 @@ use mathlib.Core.Path.{_≡_}
 use mathlib.Core.Bool.{Bool, true, false, not}
 use mathlib.Core.Logic.{_⊎_}
 use lib.Dec.{leb, eqb}
-use Rattle.rules.specs.Pick.{pick}
+use Rattle.rules.specs.IfElse.{ifElse}
 
 -- ---- THE RULE, as document 02 words it
 -- it is asked of YUY2 and NV12 alone
@@ -22,7 +22,7 @@ pub record CanBeTrue (sort bits width height size : ℕ) : Type 0 where
 -- ---- THE TEST that decides it
 -- the bits per pixel of a sort; 0 of one that is not asked
 unfoldable pub bitsOf : ℕ → ℕ
-bitsOf sort = pick (eqb sort 1) 16 (pick (eqb sort 2) 12 0)
+bitsOf sort = ifElse (eqb sort 1) 16 (ifElse (eqb sort 2) 12 0)
 
 -- so many bits, divided by 8 and rounded up
 abbrev pub inBytes : ℕ → ℕ
@@ -30,8 +30,8 @@ inBytes n = (n + 7) / 8
 
 unfoldable pub untrue : ℕ → ℕ → ℕ → ℕ → ℕ → Bool
 untrue sort bits width height size =
-    pick (eqb (bitsOf sort) 0) false
-    (pick (eqb width 0) true
-    (pick (eqb height 0) true
-    (pick (not (eqb bits (bitsOf sort))) true
+    ifElse (eqb (bitsOf sort) 0) false
+    (ifElse (eqb width 0) true
+    (ifElse (eqb height 0) true
+    (ifElse (not (eqb bits (bitsOf sort))) true
     (not (leb (inBytes (width * height * bits)) size)))))

@@ -1,5 +1,5 @@
 -- Laws of the places.
-pub mod Steps
+pub mod Branches
 pub mod Laying
 pub mod Trips
 pub mod Unique

@@ -11,7 +11,7 @@ use borrow.Author.Tests.{lt-ltb, le-ltb, ltb-true, ltb-false}
 use native.Mathlib.Omega.{arith}
 use native.Mathlib.Nat.{mod-eq-of-lt, div-eq-of-lt, div-add-mod', add-mul-div-right, add-mul-mod-self-right, div-div-eq-div-mul}
 use native.Mathlib.Numerals.{add-one}
-use Rattle.rules.specs.Pick.{pick}
+use Rattle.rules.specs.IfElse.{ifElse}
 use Rattle.rules.specs.declared.Verdict.the-variants.{Accepted, Refused}
 use Rattle.rules.proofs.Lists.{no-elements}
 use Rattle.rules.proofs.Verdicts.{apart}
@@ -114,16 +114,16 @@ first-bytes R15 s = refl
 
 module _ (v : Revision) (p : Probe) (room : List ℕ) where
   whole-is : probeSize v ≤ length room → written v p room ≡ take (probeSize v) (bytesOf p) ++ drop (probeSize v) room
-  unfolding written pick
+  unfolding written ifElse
   whole-is h = rw (le-ltb (length room) (probeSize v) h)
 
   short-is : length room < probeSize v → written v p room ≡ room
-  unfolding written pick
+  unfolding written ifElse
   short-is h = rw (lt-ltb (length room) (probeSize v) h)
 
   -- a refused write changes no byte
   pub refused-keeps : (k o : ℕ) → roomVerdict v room ≡ Refused k o → written v p room ≡ room
-  unfolding roomVerdict pick
+  unfolding roomVerdict ifElse
   refused-keeps k o e = go (ltb (length room) (probeSize v)) refl
     where
       go : (b : Bool) → ltb (length room) (probeSize v) ≡ b → written v p room ≡ room

@@ -6,7 +6,7 @@ use lib.ListN.{length, take, drop, length-take}
 use lib.Seq.{take-all}
 use native.Mathlib.Omega.{arith}
 use borrow.Author.Tests.{eq-eqb, ne-eqb, lt-ltb, le-ltb}
-use Rattle.rules.specs.Pick.{pick}
+use Rattle.rules.specs.IfElse.{ifElse}
 use Rattle.rules.specs.declared.Verdict.the-variants.{Accepted, Refused}
 use Rattle.entities.specs.Revisions.{saysOf}
 use Rattle.entities.specs.declared.Revision.{Revision}
@@ -17,11 +17,11 @@ use Rattle.probe.specs.declared.Probe.{Probe}
 use Rattle.probe.specs.declared.Fields.{Fields}
 
 pub read-whole : (v : Revision) (s : List ℕ) (p : Probe) → length s ≡ probeSize v → p ≡ fieldsOf s → _≡_ {A = Fields} (record { verdict = Accepted; probe = p }) (probeOf v s)
-unfolding probeOf pick
+unfolding probeOf ifElse
 read-whole v s p h e = rw (eq-eqb (length s) (probeSize v) h, e)
 
 pub read-wrong : (v : Revision) (s : List ℕ) (p : Probe) → (length s ≡ probeSize v → ⊥) → p ≡ noFields → _≡_ {A = Fields} (record { verdict = Refused 41 0; probe = p }) (probeOf v s)
-unfolding probeOf pick
+unfolding probeOf ifElse
 read-wrong v s p h e = rw (ne-eqb (length s) (probeSize v) h, e)
 
 -- the fields have 48 bytes
@@ -49,7 +49,7 @@ pub first-length : (v : Revision) (p : Probe) → length (take (probeSize v) (by
 first-length v p = simp length-take (omega (arith, size-most v, bytes-length p))
 
 pub write-short : (v : Revision) (p : Probe) (room : List ℕ) → length room < probeSize v → (Refused 41 0 ≡ roomVerdict v room) × (room ≡ written v p room)
-unfolding roomVerdict written pick
+unfolding roomVerdict written ifElse
 write-short v p room h = rw (lt-ltb (length room) (probeSize v) h) (refl, refl)
 
 -- what is copied: the first so many of the fields' bytes
@@ -67,5 +67,5 @@ copied v p room l block size n e z m h =
     h ∙ (rw (k, e, z, q))
 
 pub write-whole : (v : Revision) (p : Probe) (room l : List ℕ) → probeSize v ≤ length room → l ≡ take (probeSize v) (bytesOf p) ++ drop (probeSize v) room → (Accepted ≡ roomVerdict v room) × (l ≡ written v p room)
-unfolding roomVerdict written pick
+unfolding roomVerdict written ifElse
 write-whole v p room l h e = rw (le-ltb (length room) (probeSize v) h) (refl, e)

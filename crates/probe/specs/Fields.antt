@@ -5,7 +5,7 @@ use mathlib.Core.List.{List, [], _∷_, _++_}
 use lib.ListN.{length, getD, take, drop, replicate}
 use lib.Dec.{ltb, eqb}
 use Rattle.le.specs.Le.{le16At, le32At}
-use Rattle.rules.specs.Pick.{pick}
+use Rattle.rules.specs.IfElse.{ifElse}
 use Rattle.rules.specs.declared.Verdict.{Verdict}
 use Rattle.rules.specs.declared.Verdict.the-variants.{Accepted, Refused}
 use Rattle.entities.specs.Revisions.{saysOf}
@@ -156,14 +156,14 @@ keptIn R15 p = p
 -- reading: 41 unless there are exactly as many bytes as the revision says
 unfoldable pub probeOf : Revision → List ℕ → Fields
 probeOf v s =
-    pick (eqb (length s) (probeSize v)) (record { verdict = Accepted; probe = fieldsOf s }) (record { verdict = Refused 41 0; probe = noFields })
+    ifElse (eqb (length s) (probeSize v)) (record { verdict = Accepted; probe = fieldsOf s }) (record { verdict = Refused 41 0; probe = noFields })
 
 -- writing: 41 where there is room for fewer bytes than the revision says, and then no byte changes; else the first so many, and no other
 unfoldable pub roomVerdict : Revision → List ℕ → Verdict
-roomVerdict v room = pick (ltb (length room) (probeSize v)) (Refused 41 0) Accepted
+roomVerdict v room = ifElse (ltb (length room) (probeSize v)) (Refused 41 0) Accepted
 
 unfoldable pub written : Revision → Probe → List ℕ → List ℕ
-written v p room = pick (ltb (length room) (probeSize v)) room (take (probeSize v) (bytesOf p) ++ drop (probeSize v) room)
+written v p room = ifElse (ltb (length room) (probeSize v)) room (take (probeSize v) (bytesOf p) ++ drop (probeSize v) room)
 
 -- THE ROUND TRIP, over the revision. Every field is a number of its type and every byte is under 256, so that these hold of all that is read and written: they
 -- stand in the promises of `read` and `write`, where the types tell it.

@@ -8,7 +8,7 @@ use lib.Dec.{ltb, eqb}
 use borrow.Author.Tests.{eq-eqb, ne-eqb, lt-leb, le-leb}
 use native.Mathlib.Omega.{arith}
 use Rattle.le.specs.Le.{byte, le32At}
-use Rattle.rules.specs.Pick.{pick}
+use Rattle.rules.specs.IfElse.{ifElse}
 use Rattle.rules.specs.Numbered.{firstRow}
 use Rattle.rules.specs.declared.Verdict.{Verdict}
 use Rattle.rules.specs.declared.Verdict.the-variants.{Accepted, Refused}
@@ -62,26 +62,26 @@ module _ (s : List ℕ) (o : ℕ) (b : List ℕ) (x : ℕ) (i : x ≡ le32At b 4
 -- ---- 41, the block's own refusal, and 42 to 46
 module _ (t : Table) (s b : List ℕ) (r : Verdict) where
   pub check-41 : (length b ≡ probeSize (t .revision) → ⊥) → r ≡ Refused 41 0 → r ≡ checkOf t s b
-  unfolding checkOf pick
+  unfolding checkOf ifElse
   check-41 h q = rw (ne-eqb (length b) (probeSize (t .revision)) h) q
 
   module _ (l : length b ≡ probeSize (t .revision)) (x : Streaming) (e : x ≡ streamingOf t s) where
     pub check-own : (k o : ℕ) → x .verdict ≡ Refused k o → r ≡ Refused k o → r ≡ checkOf t s b
-    unfolding checkOf pick
+    unfolding checkOf ifElse
     check-own k o h q = rw (eq-eqb (length b) (probeSize (t .revision)) l, ← e, h) q
 
     module _ (v : x .verdict ≡ Accepted) (m : Bool) (f : m ≡ formatMissing (getD b 2 0) (x .«format_count»)) where
       pub check-42 : m ≡ true → r ≡ Refused 42 0 → r ≡ checkOf t s b
-      unfolding checkOf pick checkRows fieldsOf given
+      unfolding checkOf ifElse checkRows fieldsOf given
       check-42 h q = rw (eq-eqb (length b) (probeSize (t .revision)) l, ← e, v, ← f, h) q
 
       module _ (g : m ≡ false) (i : ℕ) (p : i ≡ framePlace s (x .frames) (x .«frame_count») (getD b 2 0) (getD b 3 0)) where
         pub check-43 : x .«frame_count» ≤ i → r ≡ Refused 43 0 → r ≡ checkOf t s b
-        unfolding checkOf pick checkRows fieldsOf given
+        unfolding checkOf ifElse checkRows fieldsOf given
         check-43 h q = rw (eq-eqb (length b) (probeSize (t .revision)) l, ← e, v, ← f, g, ← p, le-leb (x .«frame_count») i h) q
 
         pub check-on : i < x .«frame_count» → r ≡ given (firstRow (frameRows s (frameIn (x .frames) i .offset) (fieldsOf b))) → r ≡ checkOf t s b
-        unfolding checkOf pick checkRows fieldsOf given
+        unfolding checkOf ifElse checkRows fieldsOf given
         check-on h q = rw (eq-eqb (length b) (probeSize (t .revision)) l, ← e, v, ← f, g, ← p, lt-leb (x .«frame_count») i h) q
 
 pub number-room : (s : List ℕ) (o : ℕ) → o + frameLengthAt (formatOf (kindAt s o)) s o ≤ length s → o + 3 < length s

@@ -9,7 +9,7 @@ use lib.Dec.{ltb, leb, eqb}
 use borrow.Author.Tests.{eq-eqb, ne-eqb, le-ltb, eqb-true, eqb-false, ltb-false, leb-true, leb-false}
 use native.Mathlib.Omega.{arith}
 use Rattle.le.specs.Le.{byte}
-use Rattle.rules.specs.Pick.{pick}
+use Rattle.rules.specs.IfElse.{ifElse}
 use Rattle.rules.specs.Pad.{pad}
 use Rattle.rules.specs.First.{First}
 use Rattle.rules.specs.Numbered.{Row, row, firstRow}
@@ -169,7 +169,7 @@ data Comes (t : Table) (s b : List ℕ) : Verdict → Type 0 where
 module _ (t : Table) (s b : List ℕ) where
   module _ (a : Seen) (w : Read t s b a) where
     check-is : checkOf t s b ≡ given (firstRow (five s a (fieldsOf b)))
-    unfolding checkOf pick acceptedWith
+    unfolding checkOf ifElse acceptedWith
     check-is = rw (eq-eqb (length b) (probeSize (t .revision)) (w .whole), tables t s a (w .sound), with-verdict s a) (ap (λ (ws : List Row). given (firstRow ws)) (rows-are s a (fieldsOf b)))
 
     read-comes : Comes t s b (given (firstRow (five s a (fieldsOf b))))

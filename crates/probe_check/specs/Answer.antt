@@ -5,7 +5,7 @@ use mathlib.Core.Bool.{Bool, not, _&&_, _||_}
 use lib.ListN.{length, getD}
 use lib.Dec.{ltb, leb, eqb}
 use Rattle.le.specs.Le.{byte}
-use Rattle.rules.specs.Pick.{pick}
+use Rattle.rules.specs.IfElse.{ifElse}
 use Rattle.rules.specs.Numbered.{Row, row, firstRow}
 use Rattle.rules.specs.Verdicts.{_andThen_}
 use Rattle.rules.specs.declared.Verdict.{Verdict}
@@ -61,7 +61,7 @@ given (suc k) = Refused (suc k) 0
 
 -- 41: the probe block has not as many bytes as the revision says
 abbrev pub lengthVerdict : Revision → List ℕ → Verdict
-lengthVerdict v b = pick (eqb (length b) (probeSize v)) Accepted (Refused 41 0)
+lengthVerdict v b = ifElse (eqb (length b) (probeSize v)) Accepted (Refused 41 0)
 
 -- 41 by the table's revision, then the streaming block's own refusal, then 42 to 46
 unfoldable pub checkOf : Table → List ℕ → List ℕ → Verdict

@@ -1,4 +1,4 @@
-pub mod Steps
+pub mod Branches
 pub mod Fine
 pub mod Records
 pub mod Short

@@ -1,4 +1,4 @@
 pub mod Over
-pub mod Steps
+pub mod Records
 pub mod Read
 pub mod Right

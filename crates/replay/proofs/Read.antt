@@ -19,7 +19,7 @@ use Rattle.replay.specs.declared.Lined.{Lined}
 use Rattle.replay.specs.declared.Progress.{Progress}
 use Rattle.replay.specs.Inner.{Out, over, outOf, Ran, stopOf, partOf, leftOf, Rested, Fed}
 use Rattle.replay.proofs.Over.{folds, over-text}
-use Rattle.replay.proofs.Steps.{positive, put-nothing}
+use Rattle.replay.proofs.Records.{positive, put-nothing}
 
 pub none : (f : Form) (w : Show) (x : Out) → over f w x [] ≡ x
 none f w x = refl

@@ -39,7 +39,7 @@ use Rattle.frame_lines.specs.declared.Show.{Show}
 use Rattle.frame_lines.specs.declared.Show.the-variants.{Nothing, Replay, Frames}
 use Rattle.frame_lines.specs.declared.Counted.{Counted}
 use Rattle.frame_lines.specs.Inner.{linesIn, countedAll}
-use Rattle.frame_lines.proofs.Steps.{lines-more, counted-more}
+use Rattle.frame_lines.proofs.Branches.{lines-more, counted-more}
 use Rattle.frame_lines.proofs.Words.{replay-lines, frame-lines, no-lines}
 use Rattle.replay.specs.Inner.{noLines, replayOf, newReplay, tellSaid, endedOf, stepOf, textOf, over, outOf}
 use Rattle.replay.specs.Lines.{shown, linesOf}

@@ -10,7 +10,7 @@ use borrow.Author.Tests.{eqb-true, not-false}
 use native.Mathlib.Omega.{arith}
 use native.Mathlib.Decide.{ℕ-discrete}
 use Rattle.le.specs.Le.{byte, le16At}
-use Rattle.rules.specs.Pick.{pick}
+use Rattle.rules.specs.IfElse.{ifElse}
 use Rattle.rules.specs.Numbered.{NoneOf}
 use Rattle.rules.specs.Walk.{Reached.first}
 use Rattle.rules.specs.declared.Verdict.the-variants.{Accepted, Refused}
@@ -49,10 +49,10 @@ use Rattle.revisions.specs.Own.{bcdOf, SizedBy, EntityBy, InTable, MapBy
 
 -- ---- the revision
 bcd-is : (x : ℕ) → isRevision x ≡ true → x ≡ bcdOf (revisionBy x)
-unfolding isRevision revisionBy pick
+unfolding isRevision revisionBy ifElse
 bcd-is x h = go (eqb x 0x0100) refl (eqb x 0x0110) refl h
   where
-    go : (a : Bool) → eqb x 0x0100 ≡ a → (b : Bool) → eqb x 0x0110 ≡ b → (a || (b || eqb x 0x0150)) ≡ true → x ≡ bcdOf (pick a R10 (pick b R11 R15))
+    go : (a : Bool) → eqb x 0x0100 ≡ a → (b : Bool) → eqb x 0x0110 ≡ b → (a || (b || eqb x 0x0150)) ≡ true → x ≡ bcdOf (ifElse a R10 (ifElse b R11 R15))
     go true p b q i = eqb-true x 0x0100 p
     go false p true q i = eqb-true x 0x0110 q
     go false p false q i = eqb-true x 0x0150 i
@@ -74,7 +74,7 @@ unfolding wholeRows
 header-first s n = eqb-true (getD s 2 0) 1 (and-second (eqb (getD s 1 0) 0x24) (eqb (getD s 2 0) 1) (not-false _ (n .1 .1 .0)))
 
 header-kind : (v : Revision) (x : ℕ) → x ≡ 1 → kindOf (knownAs v x) ≡ header
-unfolding kindOf knownAs pick
+unfolding kindOf knownAs ifElse
 header-kind v x e = rw e
 
 known-revision : (s : List ℕ) → Sound s → isRevision (le16At s 3) ≡ true
@@ -87,7 +87,7 @@ known-revision s w =
 
 -- ---- an entity
 known-seven : (v : Revision) → knownAs v 7 ≡ 7 → saysOf v .encoding ≡ true
-unfolding knownAs saysOf pick
+unfolding knownAs saysOf ifElse
 known-seven R10 e = absurd (omega arith)
 known-seven R11 e = absurd (omega arith)
 known-seven R15 e = refl

@@ -5,7 +5,7 @@ use mathlib.Core.Bool.{Bool, true, false, true≢false}
 use native.Mathlib.Omega.{arith}
 use native.Mathlib.Decide.{decLe}
 use native.Mathlib.Numerals.{add-one}
-use Rattle.rules.specs.Pick.{pick}
+use Rattle.rules.specs.IfElse.{ifElse}
 use Rattle.rules.specs.First.{First}
 use Rattle.rules.specs.Place.{placeFrom, firstPlace}
 
@@ -17,17 +17,17 @@ pub record Seeking (test : ℕ → Bool) (n i : ℕ) : Type 0 where
 pub seek : (test : ℕ → Bool) (n : ℕ) → Seeking test n 0
 seek test n = let e : n - 0 ≡ n = omega arith in record { within = omega arith; same = rw e }
 
-place-more : (test : ℕ → Bool) (n i : ℕ) → i < n → placeFrom test i (n - i) ≡ pick (test i) i (placeFrom test (suc i) (n - suc i))
+place-more : (test : ℕ → Bool) (n i : ℕ) → i < n → placeFrom test i (n - i) ≡ ifElse (test i) i (placeFrom test (suc i) (n - suc i))
 unfolding placeFrom
 place-more test n i h = let e : n - i ≡ suc (n - suc i) = omega arith in rw e
 
 module _ (test : ℕ → Bool) (n i : ℕ) (w : Seeking test n i) where
   pub found-here : i < n → test i ≡ true → i ≡ firstPlace test n
-  unfolding pick
+  unfolding ifElse
   found-here h e = rw (place-more test n i h, e) at (w .same)
 
   pub not-here : i < n → test i ≡ false → Seeking test n (i + 1)
-  unfolding pick
+  unfolding ifElse
   not-here h e = record { within = omega arith; same = rw (add-one i) (rw (place-more test n i h, e) at (w .same)) }
 
   pub none-here : n ≤ i → n ≡ firstPlace test n
@@ -55,11 +55,11 @@ pub record FirstFrom (test : ℕ → Bool) (i n r : ℕ) : Type 0 where
   pub here : r < n → test r ≡ true
 
 place-first : (test : ℕ → Bool) (i m : ℕ) → FirstFrom test i (i + m) (placeFrom test i m)
-unfolding placeFrom pick
+unfolding placeFrom ifElse
 place-first test i zero = record { least = omega arith; within = omega arith; before = λ j a b. absurd (omega arith); here = λ h. absurd (omega arith) }
 place-first test i (suc m) = go (test i) refl (placeFrom test (suc i) m) (place-first test (suc i) m)
   where
-    go : (b : Bool) → test i ≡ b → (r : ℕ) → FirstFrom test (suc i) (suc i + m) r → FirstFrom test i (i + suc m) (pick b i r)
+    go : (b : Bool) → test i ≡ b → (r : ℕ) → FirstFrom test (suc i) (suc i + m) r → FirstFrom test i (i + suc m) (ifElse b i r)
     go true q r f = record { least = omega arith; within = omega arith; before = λ j a b. absurd (omega arith); here = λ h. q }
     go false q r f = record { least = omega (arith, f .least); within = omega (arith, f .within); before = before; here = λ h. f .here (omega arith) }
       where

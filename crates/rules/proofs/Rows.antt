@@ -8,7 +8,7 @@ use native.Mathlib.Omega.{arith}
 use native.Mathlib.Nat.{eq-or-lt-of-le}
 use lib.Dec.{eqb}
 use borrow.Author.Tests.{eq-eqb, eqb-true, eqb-false}
-use Rattle.rules.specs.Pick.{pick}
+use Rattle.rules.specs.IfElse.{ifElse}
 use Rattle.rules.specs.Numbered.{Row, orElse, firstRow, Given, here, later, NoneOf, anyBelow, rowsBefore, rowsAfter, isBroken}
 
 -- ---- two tests joined
@@ -118,20 +118,20 @@ abbrev pub Elsewhere : ℕ → List Row → Type 0
 Elsewhere k rows = Each (λ n. n ≡ k → ⊥) rows
 
 given-to : (rows : List Row) (k : ℕ) → Elsewhere k (rowsAfter k rows) → Given rows k → NoneOf (rowsBefore k rows) × (isBroken k rows ≡ true)
-unfolding rowsBefore rowsAfter isBroken pick
+unfolding rowsBefore rowsAfter isBroken ifElse
 given-to rows k p (here r rs e) = rw (eq-eqb (r .number) (r .number) refl) (tt, e)
 given-to rows k p (later r rs j e g) = go (eqb (r .number) k) p (λ x. given-to rs k x g)
   where
-    go : (b : Bool) → Elsewhere k (pick b rs (rowsAfter k rs)) → (Elsewhere k (rowsAfter k rs) → NoneOf (rowsBefore k rs) × (isBroken k rs ≡ true)) → NoneOf (pick b [] (r ∷ rowsBefore k rs)) × (pick b (r .broken) (isBroken k rs) ≡ true)
+    go : (b : Bool) → Elsewhere k (ifElse b rs (rowsAfter k rs)) → (Elsewhere k (rowsAfter k rs) → NoneOf (rowsBefore k rs) × (isBroken k rs ≡ true)) → NoneOf (ifElse b [] (r ∷ rowsBefore k rs)) × (ifElse b (r .broken) (isBroken k rs) ≡ true)
     go true x f = absurd (given-each (λ n. n ≡ k → ⊥) g x refl)
     go false x f = let y = f x in ((e, y .0), y .1)
 
 given-from : (rows : List Row) (k : ℕ) → NoneOf (rowsBefore k rows) → isBroken k rows ≡ true → Given rows k
-unfolding rowsBefore isBroken pick
+unfolding rowsBefore isBroken ifElse
 given-from [] k n e = absurd (true≢false (sym e))
 given-from (r ∷ rs) k n e = go (eqb (r .number) k) refl n e (given-from rs k)
   where
-    go : (b : Bool) → eqb (r .number) k ≡ b → NoneOf (pick b [] (r ∷ rowsBefore k rs)) → pick b (r .broken) (isBroken k rs) ≡ true → (NoneOf (rowsBefore k rs) → isBroken k rs ≡ true → Given rs k) → Given (r ∷ rs) k
+    go : (b : Bool) → eqb (r .number) k ≡ b → NoneOf (ifElse b [] (r ∷ rowsBefore k rs)) → ifElse b (r .broken) (isBroken k rs) ≡ true → (NoneOf (rowsBefore k rs) → isBroken k rs ≡ true → Given rs k) → Given (r ∷ rs) k
     go true q x y f = given-here k r rs (eqb-true (r .number) k q) y
     go false q x y f = later r rs k (x .0) (f (x .1) y)
 
@@ -141,11 +141,11 @@ given-by rows k p = (given-to rows k p, λ x. given-from rows k (x .0) (x .1))
 
 -- where no row is broken, number k's is not
 pub none-broken : (rows : List Row) (k : ℕ) → NoneOf rows → isBroken k rows ≡ false
-unfolding isBroken pick
+unfolding isBroken ifElse
 none-broken [] k n = refl
 none-broken (r ∷ rs) k n = go (eqb (r .number) k) (none-broken rs k (n .1))
   where
-    go : (b : Bool) → isBroken k rs ≡ false → pick b (r .broken) (isBroken k rs) ≡ false
+    go : (b : Bool) → isBroken k rs ≡ false → ifElse b (r .broken) (isBroken k rs) ≡ false
     go true h = n .0
     go false h = h
 
@@ -171,11 +171,11 @@ elsewhere k (r ∷ rs) h = (go (eqb (r .number) k) refl (and-first _ _ h), elsew
     go false q n e = eqb-false (r .number) k q e
 
 pub once-after : (rows : List Row) → Once rows → (k : ℕ) → Elsewhere k (rowsAfter k rows)
-unfolding rowsAfter pick onceEach
+unfolding rowsAfter ifElse onceEach
 once-after [] p k = tt
 once-after (r ∷ rs) p k = go (eqb (r .number) k) refl (once-after rs (and-second (isElsewhere (r .number) rs) _ p) k)
   where
-    go : (b : Bool) → eqb (r .number) k ≡ b → Elsewhere k (rowsAfter k rs) → Elsewhere k (pick b rs (rowsAfter k rs))
+    go : (b : Bool) → eqb (r .number) k ≡ b → Elsewhere k (rowsAfter k rs) → Elsewhere k (ifElse b rs (rowsAfter k rs))
     go true q h = subst (λ (n : ℕ). Elsewhere n rs) (eqb-true (r .number) k q) (elsewhere (r .number) rs (and-first _ _ p))
     go false q h = h
 

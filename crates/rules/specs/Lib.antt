@@ -1,4 +1,4 @@
-pub mod Pick
+pub mod IfElse
 pub mod Numbered
 pub mod Asked
 pub mod First

@@ -5,7 +5,7 @@ use mathlib.Core.List.{List, [], _∷_}
 use mathlib.Core.Bool.{Bool, true, false, _||_}
 use mathlib.Core.Logic.{_⊎_}
 use lib.Dec.{eqb}
-use Rattle.rules.specs.Pick.{pick}
+use Rattle.rules.specs.IfElse.{ifElse}
 
 -- the number, counted from b, of the first flag that is up; 0 where none is
 unfoldable pub firstFrom : ℕ → List Bool → ℕ
@@ -48,16 +48,16 @@ pub data Given : List Row → ℕ → Type 0 where
 -- the rows that are checked before number k's, and those after it
 unfoldable pub rowsBefore : ℕ → List Row → List Row
 rowsBefore k [] = []
-rowsBefore k (r ∷ rs) = pick (eqb (r .number) k) [] (r ∷ rowsBefore k rs)
+rowsBefore k (r ∷ rs) = ifElse (eqb (r .number) k) [] (r ∷ rowsBefore k rs)
 
 unfoldable pub rowsAfter : ℕ → List Row → List Row
 rowsAfter k [] = []
-rowsAfter k (r ∷ rs) = pick (eqb (r .number) k) rs (rowsAfter k rs)
+rowsAfter k (r ∷ rs) = ifElse (eqb (r .number) k) rs (rowsAfter k rs)
 
 -- number k's row is broken
 unfoldable pub isBroken : ℕ → List Row → Bool
 isBroken k [] = false
-isBroken k (r ∷ rs) = pick (eqb (r .number) k) (r .broken) (isBroken k rs)
+isBroken k (r ∷ rs) = ifElse (eqb (r .number) k) (r .broken) (isBroken k rs)
 
 -- no row is broken
 abbrev pub NoneOf : List Row → Type 0

@@ -8,7 +8,7 @@ use native.Mathlib.Nat.{mod-eq-of-lt, div-add-mod', div-div-eq-div-mul}
 use lib.ListN.{length, drop}
 use lib.Dec.{ltb, eqb}
 use borrow.Author.Tests.{le-ltb, ne-eqb}
-use Rattle.rules.specs.Pick.{pick}
+use Rattle.rules.specs.IfElse.{ifElse}
 use Rattle.rules.specs.Numbered.{firstFrom}
 use Rattle.sizes.specs.declared.Opening.{Opening}
 use Rattle.sizes.specs.declared.HeaderKind.the-variants.{Old}
@@ -43,7 +43,7 @@ reads payload n x d l m k e f =
     (ne-eqb (suc (suc (length d))) 1 (λ z. omega arith)) (le-ltb payload (suc (suc (length d))) k) (le-ltb n 2 l) (le-ltb (suc (suc (length d))) n m) e f
 
 bare : (payload : ℕ) (fid eof : Bool) (d : List ℕ) → suc (suc (length d)) ≤ payload → oldReading payload (written fid eof Absent ++ d) ≡ Readable (meant fid eof Absent)
-unfolding flagOf pick
+unfolding flagOf ifElse
 bare payload true true d k = reads payload 2 131 d (omega arith) (omega arith) k refl refl
 bare payload true false d k = reads payload 2 129 d (omega arith) (omega arith) k refl refl
 bare payload false true d k = reads payload 2 130 d (omega arith) (omega arith) k refl refl
@@ -56,7 +56,7 @@ with-stamp : (fid eof : Bool) (n x : ℕ) → n ≡ x → Readable (meant fid eo
 with-stamp fid eof n x e = ap (λ (m : ℕ). Readable (meant fid eof (At m))) e
 
 timed : (payload : ℕ) (fid eof : Bool) (x : ℕ) (d : List ℕ) → x < 2 ^ 32 → suc (suc (suc (suc (suc (suc (length d)))))) ≤ payload → oldReading payload (written fid eof (At x) ++ d) ≡ Readable (meant fid eof (At x))
-unfolding flagOf pick
+unfolding flagOf ifElse
 timed payload true true x d b k = reads payload 6 135 (stampBytes x d) (omega arith) (omega arith) k refl refl ∙ with-stamp true true _ x (four-back x b)
 timed payload true false x d b k = reads payload 6 133 (stampBytes x d) (omega arith) (omega arith) k refl refl ∙ with-stamp true false _ x (four-back x b)
 timed payload false true x d b k = reads payload 6 134 (stampBytes x d) (omega arith) (omega arith) k refl refl ∙ with-stamp false true _ x (four-back x b)

@@ -3,11 +3,11 @@ use Prim.Native.Nat.{ℕ}
 use mathlib.Core.Path.{_≡_, refl}
 use mathlib.Core.Bool.{false}
 use mathlib.Core.List.{List, [], _∷_}
-use Rattle.rules.specs.Pick.{pick}
+use Rattle.rules.specs.IfElse.{ifElse}
 use Rattle.rules.specs.Numbered.{firstFrom, anyBelow}
 use Rattle.sizes.specs.Sizes.{frameSizeBroken, payloadSizeBroken, sizesBroken}
 use Rattle.sizes.specs.Framing.{byEof}
-use Rattle.payload.specs.Layouts.{layoutOf}
+use Rattle.payload.specs.Layouts.{headerLayout}
 use Rattle.payload.specs.Transfer.{flagOf, layerPlace, needOf, flagsBy, stampOf, layerOf, headerBy, readingOf}
 use Rattle.payload.proofs.Samples.{opening}
 use Rattle.payload.specs.declared.Stamp.{Stamp}
@@ -34,7 +34,7 @@ pub record Table : Type 0 where
   pub with-clock : (a b c d e f g h i j : ℕ) → fate (0x0C ∷ 0x8C ∷ a ∷ b ∷ c ∷ d ∷ e ∷ f ∷ g ∷ h ∷ i ∷ j ∷ []) ≡ Outcome.Taken (plainly Fate.Kept)
 
 pub table : Table
-unfolding takeOf tookOf handsOut handsOf byEof readOf turnOf readingOf layoutOf headerBy stampOf layerOf flagsBy needOf layerPlace flagOf pick firstFrom anyBelow rule50 sizesBroken fillBroken accountsBroken countsBroken shownOf frameSizeBroken payloadSizeBroken
+unfolding takeOf tookOf handsOut handsOf byEof readOf turnOf readingOf headerLayout headerBy stampOf layerOf flagsBy needOf layerPlace flagOf ifElse firstFrom anyBelow rule50 sizesBroken fillBroken accountsBroken countsBroken shownOf frameSizeBroken payloadSizeBroken
 table =
     record {
       bare = refl;
@@ -65,5 +65,5 @@ forged =
 
 pub forged-layer : takeOf forged 256 (0x02 ∷ 0x82 ∷ 0xAA ∷ []) .outcome
     ≡ Outcome.Taken (plainly (Fate.Delivered (record { len = 3; stamp = Stamp.Absent; layer = Layer.At 5 })))
-unfolding takeOf tookOf handsOut handsOf byEof readOf turnOf readingOf layoutOf headerBy stampOf layerOf flagsBy needOf layerPlace flagOf pick firstFrom anyBelow rule50 sizesBroken fillBroken accountsBroken countsBroken shownOf frameSizeBroken payloadSizeBroken
+unfolding takeOf tookOf handsOut handsOf byEof readOf turnOf readingOf headerLayout headerBy stampOf layerOf flagsBy needOf layerPlace flagOf ifElse firstFrom anyBelow rule50 sizesBroken fillBroken accountsBroken countsBroken shownOf frameSizeBroken payloadSizeBroken
 forged-layer = refl

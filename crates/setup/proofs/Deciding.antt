@@ -7,7 +7,7 @@ use lib.ListN.{length}
 use lib.Dec.{ltb}
 use borrow.Author.Tests.{ltb-true, ltb-false}
 use native.Mathlib.Omega.{arith}
-use Rattle.rules.specs.Pick.{pick}
+use Rattle.rules.specs.IfElse.{ifElse}
 use Rattle.rules.specs.declared.Verdict.{Verdict}
 use Rattle.rules.specs.declared.Verdict.the-variants.{Accepted, Refused}
 use Rattle.entities.specs.Table.{noTable}
@@ -87,10 +87,10 @@ module _ (s : List ℕ) (unit : ℕ) (g : Setting) (room : List ℕ) (v : Verdic
   build-first k o e = rw e (first k o (rw e at h))
 
   pub build-room : (w : Verdict) → v ≡ Accepted → w ≡ roomVerdict room → BuildIs s unit g room w
-  unfolding pick
+  unfolding ifElse
   build-room w e q = rw q (go (ltb (length room) packetSize) refl)
     where
-      go : (b : Bool) → ltb (length room) packetSize ≡ b → BuildIs s unit g room (pick b (Refused 94 0) Accepted)
+      go : (b : Bool) → ltb (length room) packetSize ≡ b → BuildIs s unit g room (ifElse b (Refused 94 0) Accepted)
       go true l = by-94 (is-ready h e) (ltb-true (length room) packetSize l)
       go false l = built (is-ready h e) (ltb-false (length room) packetSize l)
 

@@ -7,7 +7,7 @@ use lib.ListN.{length, take, drop, getD}
 use lib.Seq.{take-all}
 use native.Mathlib.Omega.{arith}
 use borrow.Author.Tests.{eq-eqb, ne-eqb}
-use Rattle.rules.specs.Pick.{pick}
+use Rattle.rules.specs.IfElse.{ifElse}
 use Rattle.arguments.specs.Digits.{numberOf}
 use Rattle.arguments.specs.declared.Number.{Number}
 use Rattle.arguments.specs.declared.Number.the-variants.{None}
@@ -23,13 +23,13 @@ no-text [] e = refl
 no-text (d ∷ l) e = absurd (omega arith)
 
 pub with-minus : (text : List ℕ) (n r : Number) → (length text ≡ 0 → ⊥) → getD text 0 0 ≡ 45 → n ≡ numberOf 32768 (take (length text - 1) (drop 1 text)) → r ≡ minusOf n → r ≡ signedOf text
-unfolding signedOf pick
+unfolding signedOf ifElse
 with-minus [] n r h e p q = absurd (h refl)
 with-minus (d ∷ l) n r h e p q =
     let z : take (length (d ∷ l) - 1) l ≡ l = take-all (length (d ∷ l) - 1) l (omega arith) in
     q ∙ (rw (eq-eqb d 45 e) (ap minusOf (rw z at p)))
 
 pub no-minus : (text : List ℕ) (r : Number) → (length text ≡ 0 → ⊥) → (getD text 0 0 ≡ 45 → ⊥) → r ≡ numberOf 32767 text → r ≡ signedOf text
-unfolding signedOf pick
+unfolding signedOf ifElse
 no-minus [] r h e p = absurd (h refl)
 no-minus (d ∷ l) r h e p = rw (ne-eqb d 45 e) p

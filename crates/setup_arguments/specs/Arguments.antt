@@ -3,7 +3,7 @@ use Prim.Native.Nat.{ℕ, _-_, _%_, _^_}
 use mathlib.Core.Path.{_≡_}
 use mathlib.Core.List.{List, [], _∷_}
 use lib.Dec.{eqb}
-use Rattle.rules.specs.Pick.{pick}
+use Rattle.rules.specs.IfElse.{ifElse}
 use Rattle.camera_settings.specs.Numbers.{isSigned}
 use Rattle.camera_settings.specs.declared.Setting.{Setting}
 use Rattle.camera_settings.specs.declared.Request.{Request}
@@ -33,8 +33,8 @@ minusOf None = None
 -- from −32,768 to 32,767, a minus sign (byte 45) in front of a number below zero
 unfoldable pub signedOf : List ℕ → Number
 signedOf [] = None
-signedOf (d ∷ l) = pick (eqb d 45) (minusOf (numberOf 32768 l)) (numberOf 32767 (d ∷ l))
+signedOf (d ∷ l) = ifElse (eqb d 45) (minusOf (numberOf 32768 l)) (numberOf 32767 (d ∷ l))
 
 -- the word that stands for a number of the setting's type
 unfoldable pub wordOf : Setting → List ℕ → Number
-wordOf s text = pick (isSigned s) (signedOf text) (numberOf 65535 text)
+wordOf s text = ifElse (isSigned s) (signedOf text) (numberOf 65535 text)

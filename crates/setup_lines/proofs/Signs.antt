@@ -7,7 +7,7 @@ use native.Mathlib.Omega.{arith}
 use lib.Dec.{leb}
 use lib.IntN.{pos, negℤ}
 use borrow.Author.Tests.{leb-true, leb-false, lt-ltb, le-ltb}
-use Rattle.rules.specs.Pick.{pick}
+use Rattle.rules.specs.IfElse.{ifElse}
 use Rattle.camera_settings.specs.Numbers.{isSigned}
 use Rattle.camera_settings.specs.declared.Setting.{Setting}
 use Rattle.text.specs.Decimal.{decimal}
@@ -24,13 +24,13 @@ minus (suc n) h = refl
 not-both : true ≡ false → ⊥
 not-both e = let z : _≡_ {A = ℕ} 0 1 = cc in omega arith
 
-below-by : (t : Bool) (w : ℕ) → w < 65536 → pick t (leb 32768 w) false ≡ true → numberLine (pick t (signedOf w) (pos w)) ≡ bytes "number -" ++ (decimal (65536 - w) ++ (10 ∷ []))
-unfolding pick
+below-by : (t : Bool) (w : ℕ) → w < 65536 → ifElse t (leb 32768 w) false ≡ true → numberLine (ifElse t (signedOf w) (pos w)) ≡ bytes "number -" ++ (decimal (65536 - w) ++ (10 ∷ []))
+unfolding ifElse
 below-by true w h e = rw (le-ltb w (2 ^ 15) (leb-true 32768 w e)) (minus (65536 - w) (omega arith))
 below-by false w h e = absurd (not-both (sym e))
 
-above-by : (t : Bool) (w : ℕ) → pick t (leb 32768 w) false ≡ false → numberLine (pick t (signedOf w) (pos w)) ≡ bytes "number " ++ (decimal w ++ (10 ∷ []))
-unfolding pick
+above-by : (t : Bool) (w : ℕ) → ifElse t (leb 32768 w) false ≡ false → numberLine (ifElse t (signedOf w) (pos w)) ≡ bytes "number " ++ (decimal w ++ (10 ∷ []))
+unfolding ifElse
 above-by true w e = rw (lt-ltb w (2 ^ 15) (leb-false 32768 w e))
 above-by false w e = refl
 

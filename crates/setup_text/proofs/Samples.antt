@@ -1,6 +1,6 @@
 -- Texts that antt computes.
 use mathlib.Core.Path.{_≡_, refl}
-use Rattle.rules.specs.Pick.{pick}
+use Rattle.rules.specs.IfElse.{ifElse}
 use Rattle.rules.specs.declared.Verdict.the-variants.{Accepted, Refused}
 use Rattle.camera_settings.specs.declared.Setting.the-variants.{Brightness, Contrast, Hue}
 use Rattle.camera_settings.specs.declared.Request.the-variants.{GetCur, SetCur}
@@ -9,7 +9,7 @@ use Rattle.packets.specs.declared.Reading.the-variants as reading
 use Rattle.nearest.specs.Word.{integerOf}
 use Rattle.text.specs.Decimal.{decimal}
 use Rattle.text.specs.Text.{bytes}
-use Rattle.words.specs.Words.{wordsOf}
+use Rattle.refusal_words.specs.Words.{wordsOf}
 use Rattle.setup_text.specs.Answers.{builtText, readText, movedBy}
 
 -- brightness of unit 3 on interface 0, GET_CUR: A1 81 00 02 00 03 02 00
@@ -27,9 +27,9 @@ refused = refl
 
 -- the same word of a signed and of an unsigned setting
 below : movedBy Accepted Hue 32768 ≡ bytes "number -32768\n"
-unfolding decimal integerOf pick
+unfolding decimal integerOf ifElse
 below = refl
 
 above : movedBy Accepted Contrast 32768 ≡ bytes "number 32768\n"
-unfolding decimal integerOf pick
+unfolding decimal integerOf ifElse
 above = refl

@@ -11,7 +11,7 @@ use lib.Dec.{eqb}
 use borrow.Author.Tests.{eqb-true, eqb-false}
 use borrow.Author.Count.{below-more}
 use native.Mathlib.Omega.{arith}
-use Rattle.rules.specs.Pick.{pick}
+use Rattle.rules.specs.IfElse.{ifElse}
 use Rattle.rules.specs.First.{NoneBelow, First}
 use Rattle.rules.specs.Chain.{Chain, Chain.one, Chain.more, OnLoop, FirstLoop}
 use Rattle.rules.specs.declared.Verdict.the-variants.{Accepted, Refused}
@@ -26,11 +26,11 @@ use Rattle.sources.specs.Links.{LinksOf}
 
 -- ---- the first place of those up to and with i
 module _ (P : ℕ → Type 0) (i f : ℕ) (h : First P i f) where
-  pub first-more : (b : Bool) → (b ≡ true) ↔ P i → First P (i + 1) (pick (eqb f i && not b) (i + 1) f)
-  unfolding pick
+  pub first-more : (b : Bool) → (b ≡ true) ↔ P i → First P (i + 1) (ifElse (eqb f i && not b) (i + 1) f)
+  unfolding ifElse
   first-more b e = go (eqb f i) refl b e
     where
-      go : (x : Bool) → eqb f i ≡ x → (b : Bool) → (b ≡ true) ↔ P i → First P (i + 1) (pick (x && not b) (i + 1) f)
+      go : (x : Bool) → eqb f i ≡ x → (b : Bool) → (b ≡ true) ↔ P i → First P (i + 1) (ifElse (x && not b) (i + 1) f)
       go false q b e =
           let n = eqb-false f i q in
           let w : f ≤ i = h .within in
@@ -124,7 +124,7 @@ module _ (s : List ℕ) (t : Table) (rows : List ℕ) (output i : ℕ) (few : t 
     here : LinksOf s (used t) (entityAt (used t) i) lost output′ row
     here = rw (at-place i h) k
 
-    pub judge-more : lost ≡ false → Judging s t (set rows i row) (pick (eqb output i && not output′) (i + 1) output) (i + 1)
+    pub judge-more : lost ≡ false → Judging s t (set rows i row) (ifElse (eqb output i && not output′) (i + 1) output) (i + 1)
     judge-more e = record {
       within = omega arith;
       table = w .table;

@@ -5,7 +5,7 @@ ghost use mathlib.Core.Path.{_≡_};
 ghost use mathlib.Core.Bool.{_&&_, not};
 ghost use Prim.Native.Nat.{_+_, _≤_};
 ghost use lib.Dec.{eqb};
-ghost use Rattle.rules.specs.Pick.{pick};
+ghost use Rattle.rules.specs.IfElse.{ifElse};
 ghost use Rattle.entities.specs.Table.{entitiesMost, used};
 ghost use Rattle.sources.specs.Sources.{Judged};
 use entities::Table;
@@ -56,7 +56,7 @@ pub fn judge(s: &[u8], t: Table) -> Verdict
 // The first place of those up to and with i that breaks a rule, or i + 1: `first` is that of those before i.
 fn first_of(first: usize, i: usize, broken: bool) -> usize
     requires { ⌜ i ≤ entitiesMost ⌝ }
-    ensures { λ r. ⌜ r ≡ pick (eqb first i && not broken) (i + 1) first ⌝ }
+    ensures { λ r. ⌜ r ≡ ifElse (eqb first i && not broken) (i + 1) first ⌝ }
 {
     if first != i {
         return first;

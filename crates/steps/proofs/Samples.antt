@@ -5,7 +5,7 @@ use mathlib.Core.Bool.{true≢false}
 use mathlib.Core.List.{List, [], _∷_, map}
 use lib.ListN.{replicate}
 use lib.IntN.{pos, negℤ, _+ℤ_}
-use Rattle.rules.specs.Pick.{pick}
+use Rattle.rules.specs.IfElse.{ifElse}
 use Rattle.rules.specs.Numbered.{firstFrom, anyBelow}
 use Rattle.sizes.specs.Sizes.{frameSizeBroken, payloadSizeBroken, sizesBroken}
 use Rattle.sizes.specs.declared.Opening.{Opening}
@@ -13,7 +13,7 @@ use Rattle.sizes.specs.declared.HeaderKind.the-variants.{Old}
 use Rattle.sizes.specs.Framing.{byEof}
 use Rattle.payload.specs.declared.Stamp.the-variants.{At}
 use Rattle.payload.specs.declared.Layer.{Layer}
-use Rattle.payload.specs.Layouts.{layoutOf}
+use Rattle.payload.specs.Layouts.{headerLayout}
 use Rattle.payload.specs.Transfer.{flagOf, layerPlace, needOf, flagsBy, stampOf, layerOf, headerBy, headerOf, readingOf}
 use Rattle.frames.specs.Inner.{turnOf, handsOf, outOf, spoiltOf, closedOf}
 use Rattle.ledger.specs.Entry.{Entry}
@@ -30,23 +30,23 @@ use Rattle.steps.proofs.Split.{halves}
 
 -- ---- steps: over the end of the clock and back; half the clock, both ways; a sum that is out of range
 over-the-end : signed 0xFFFFFFF0 0x00000010 ≡ pos 32
-unfolding pick
+unfolding ifElse
 over-the-end = refl
 
 and-back : signed 0x00000010 0xFFFFFFF0 ≡ negℤ (pos 32)
-unfolding pick
+unfolding ifElse
 and-back = refl
 
 half : signed 0 0x80000000 ≡ lowest
-unfolding pick
+unfolding ifElse
 half = refl
 
 half-back : signed 0x80000000 0 ≡ lowest
-unfolding pick
+unfolding ifElse
 half-back = refl
 
 out-of-range : (signed 0 0x60000000 +ℤ signed 0x60000000 0xC0000000 ≡ pos 0xC0000000) × (signed 0 0xC0000000 ≡ negℤ (pos 0x40000000))
-unfolding pick
+unfolding ifElse
 out-of-range = (refl, refl)
 
 -- ---- a job: five frames with stamps FFFFFFF0, 10, none, C and 20, split at the second
@@ -79,7 +79,7 @@ abbrev second-half : List Offer
 second-half = offered (middle ∷ others)
 
 at-middle : Middle opening (Call.transfer first ∷ []) middle []
-unfolding pick firstFrom anyBelow frameSizeBroken payloadSizeBroken byEof layoutOf flagOf layerPlace needOf flagsBy stampOf layerOf headerBy readingOf turnOf spoiltOf closedOf plusOf timedOf postOf shownOf sizesBroken fillBroken accountsBroken countsBroken rule50 readOf tookOf handsOut handsOf takeOf
+unfolding ifElse firstFrom anyBelow frameSizeBroken payloadSizeBroken byEof headerLayout flagOf layerPlace needOf flagsBy stampOf layerOf headerBy readingOf turnOf spoiltOf closedOf plusOf timedOf postOf shownOf sizesBroken fillBroken accountsBroken countsBroken rule50 readOf tookOf handsOut handsOf takeOf
 at-middle =
     record {
       header = headerOf opening middle;
@@ -95,13 +95,13 @@ at-middle =
     }
 
 in-halves : BillAsWhole (job opening whole) (job opening first-half) (job opening second-half)
-unfolding pick firstFrom anyBelow frameSizeBroken payloadSizeBroken byEof layoutOf flagOf layerPlace needOf flagsBy stampOf layerOf headerBy readingOf turnOf spoiltOf closedOf plusOf timedOf postOf shownOf sizesBroken fillBroken accountsBroken countsBroken rule50 readOf tookOf handsOut handsOf takeOf
+unfolding ifElse firstFrom anyBelow frameSizeBroken payloadSizeBroken byEof headerLayout flagOf layerPlace needOf flagsBy stampOf layerOf headerBy readingOf turnOf spoiltOf closedOf plusOf timedOf postOf shownOf sizesBroken fillBroken accountsBroken countsBroken rule50 readOf tookOf handsOut handsOf takeOf
 in-halves =
     halves .of-calls opening whole first-half second-half (Call.transfer first ∷ []) middle [] (map Call.transfer others) at-middle refl refl refl
 
 -- forward 32 in the first half and 20 in the second, once backward and once untimed
 numbers : (billed (job opening whole) ticksAt ≡ 52) × (billed (job opening whole) backwardAt ≡ 1) × (billed (job opening whole) untimedAt ≡ 1)
-unfolding pick firstFrom anyBelow frameSizeBroken payloadSizeBroken byEof layoutOf flagOf layerPlace needOf flagsBy stampOf layerOf headerBy readingOf turnOf spoiltOf closedOf plusOf timedOf postOf shownOf sizesBroken fillBroken accountsBroken countsBroken rule50 readOf tookOf handsOut handsOf takeOf
+unfolding ifElse firstFrom anyBelow frameSizeBroken payloadSizeBroken byEof headerLayout flagOf layerPlace needOf flagsBy stampOf layerOf headerBy readingOf turnOf spoiltOf closedOf plusOf timedOf postOf shownOf sizesBroken fillBroken accountsBroken countsBroken rule50 readOf tookOf handsOut handsOf takeOf
 numbers = (refl, refl, refl)
 
 -- ---- the same of a camera that sends no EOF (D1 clear): frames with stamps FFFFFFF0, 10 and 20, split at the second. Each is handed out by the next one's first transfer, which is offered again.
@@ -121,7 +121,7 @@ abbrev d : List ℕ
 d = 0x02 ∷ 0x81 ∷ 0xDD ∷ []
 
 at-middle-by-fid : Middle by-fid (Call.transfer a ∷ Call.handed ∷ []) b (Call.handed ∷ [])
-unfolding pick firstFrom anyBelow frameSizeBroken payloadSizeBroken byEof layoutOf flagOf layerPlace needOf flagsBy stampOf layerOf headerBy readingOf turnOf spoiltOf closedOf plusOf timedOf postOf shownOf sizesBroken fillBroken accountsBroken countsBroken rule50 readOf tookOf handsOut handsOf outOf handedOf takeOf
+unfolding ifElse firstFrom anyBelow frameSizeBroken payloadSizeBroken byEof headerLayout flagOf layerPlace needOf flagsBy stampOf layerOf headerBy readingOf turnOf spoiltOf closedOf plusOf timedOf postOf shownOf sizesBroken fillBroken accountsBroken countsBroken rule50 readOf tookOf handsOut handsOf outOf handedOf takeOf
 at-middle-by-fid =
     record {
       header = headerOf by-fid b;
@@ -137,12 +137,12 @@ at-middle-by-fid =
     }
 
 in-halves-by-fid : BillAsWhole (job by-fid (offered (a ∷ b ∷ b ∷ c ∷ c ∷ d ∷ []))) (job by-fid (offered (a ∷ b ∷ b ∷ c ∷ []))) (job by-fid (offered (b ∷ c ∷ c ∷ d ∷ [])))
-unfolding pick firstFrom anyBelow frameSizeBroken payloadSizeBroken byEof layoutOf flagOf layerPlace needOf flagsBy stampOf layerOf headerBy readingOf turnOf spoiltOf closedOf plusOf timedOf postOf shownOf sizesBroken fillBroken accountsBroken countsBroken rule50 readOf tookOf handsOut handsOf outOf handedOf takeOf
+unfolding ifElse firstFrom anyBelow frameSizeBroken payloadSizeBroken byEof headerLayout flagOf layerPlace needOf flagsBy stampOf layerOf headerBy readingOf turnOf spoiltOf closedOf plusOf timedOf postOf shownOf sizesBroken fillBroken accountsBroken countsBroken rule50 readOf tookOf handsOut handsOf outOf handedOf takeOf
 in-halves-by-fid =
     halves .of-calls by-fid (offered (a ∷ b ∷ b ∷ c ∷ c ∷ d ∷ [])) (offered (a ∷ b ∷ b ∷ c ∷ [])) (offered (b ∷ c ∷ c ∷ d ∷ [])) (Call.transfer a ∷ Call.handed ∷ []) b (Call.handed ∷ [])
     (Call.transfer c ∷ Call.handed ∷ []) at-middle-by-fid refl refl refl
 
 numbers-by-fid : (billed (job by-fid (offered (a ∷ b ∷ b ∷ c ∷ []))) ticksAt ≡ 32) × (billed (job by-fid (offered (b ∷ c ∷ c ∷ d ∷ []))) ticksAt ≡ 16)
     × (billed (job by-fid (offered (a ∷ b ∷ b ∷ c ∷ c ∷ d ∷ []))) ticksAt ≡ 48)
-unfolding pick firstFrom anyBelow frameSizeBroken payloadSizeBroken byEof layoutOf flagOf layerPlace needOf flagsBy stampOf layerOf headerBy readingOf turnOf spoiltOf closedOf plusOf timedOf postOf shownOf sizesBroken fillBroken accountsBroken countsBroken rule50 readOf tookOf handsOut handsOf outOf handedOf takeOf
+unfolding ifElse firstFrom anyBelow frameSizeBroken payloadSizeBroken byEof headerLayout flagOf layerPlace needOf flagsBy stampOf layerOf headerBy readingOf turnOf spoiltOf closedOf plusOf timedOf postOf shownOf sizesBroken fillBroken accountsBroken countsBroken rule50 readOf tookOf handsOut handsOf outOf handedOf takeOf
 numbers-by-fid = (refl, refl, refl)

@@ -8,7 +8,7 @@ use native.Mathlib.Omega.{arith}
 use lib.Dec.{ltb}
 use lib.IntN.{ℤ, pos, negℤ, subℕ, _-ℤ_}
 use lib.Signed.{_≤ℤ_, _<ℤ_}
-use Rattle.rules.specs.Pick.{pick}
+use Rattle.rules.specs.IfElse.{ifElse}
 use Rattle.ledger.specs.declared.Step.{Step}
 use Rattle.ledger.specs.declared.Step.the-variants.{Forward, Backward}
 use Rattle.ledger.specs.Step.{stepOf}
@@ -166,8 +166,8 @@ record TakenAs (z : ℤ) (ticks backward : ℕ) : Type 0 where
   on : pos 0 ≤ℤ z → (pos ticks ≡ z) × (backward ≡ 0)
   under : z <ℤ pos 0 → (ticks ≡ 0) × (backward ≡ 1)
 
-taken-as : (m : ℕ) → m < 2 ^ 32 → (t : Bool) → TakenAs (numberOf (pick t (Forward m) (Backward (2 ^ 32 - m)))) (cond t m 0) (cond t 0 1)
-unfolding pick
+taken-as : (m : ℕ) → m < 2 ^ 32 → (t : Bool) → TakenAs (numberOf (ifElse t (Forward m) (Backward (2 ^ 32 - m)))) (cond t m 0) (cond t 0 1)
+unfolding ifElse
 taken-as m h true =
     record {
       on = λ k. (refl, refl);

@@ -8,7 +8,7 @@ use lib.ListN.{length}
 use lib.Dec.{eqb, ltb}
 use borrow.Author.Tests.{eq-eqb, ne-eqb, le-ltb, eqb-true, eqb-false, ltb-true, ltb-false}
 use native.Mathlib.Omega.{arith}
-use Rattle.rules.specs.Pick.{pick}
+use Rattle.rules.specs.IfElse.{ifElse}
 use Rattle.rules.specs.First.{NoneBelow, First}
 use Rattle.rules.specs.Walk.{Outcome, done, stop, walk}
 use Rattle.rules.specs.declared.Verdict.{Verdict}
@@ -83,10 +83,10 @@ module _ (s : List ℕ) (a : Seen) where
     well : NoneBelow (length (a .formats)) (CountWrong a) → NoneBelow (length (a .formats)) (DefaultWrong a) → length (a .formats) ≡ formatCount s → After Accepted
 
   pub late-is : After (late s a)
-  unfolding lateBy pick i j
+  unfolding lateBy ifElse i j
   late-is = go (ltb i (length (a .formats))) refl (ltb j (length (a .formats))) refl (eqb (length (a .formats)) (formatCount s)) refl
     where
-      go : (b : Bool) → ltb i (length (a .formats)) ≡ b → (c : Bool) → ltb j (length (a .formats)) ≡ c → (d : Bool) → eqb (length (a .formats)) (formatCount s) ≡ d → After (pick b (Refused 36 (formatIn a i .offset)) (pick c (Refused 37 (formatIn a j .offset)) (pick d Accepted (Refused 38 0))))
+      go : (b : Bool) → ltb i (length (a .formats)) ≡ b → (c : Bool) → ltb j (length (a .formats)) ≡ c → (d : Bool) → eqb (length (a .formats)) (formatCount s) ≡ d → After (ifElse b (Refused 36 (formatIn a i .offset)) (ifElse c (Refused 37 (formatIn a j .offset)) (ifElse d Accepted (Refused 38 0))))
       go true p c q d r = at-count i (ltb-true i (length (a .formats)) p) first-count
       go false p true q d r = at-default (none-below _ _ i first-count (ltb-false i _ p)) j (ltb-true j (length (a .formats)) q) first-default
       go false p false q true r = well (none-below _ _ i first-count (ltb-false i _ p)) (none-below _ _ j first-default (ltb-false j _ q)) (eqb-true _ _ r)

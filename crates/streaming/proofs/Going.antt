@@ -9,7 +9,7 @@ use lib.Dec.{eqb}
 use borrow.Author.Tests.{eqb-true, eqb-false}
 use native.Mathlib.Omega.{arith}
 use Rattle.le.specs.Le.{byte}
-use Rattle.rules.specs.Pick.{pick}
+use Rattle.rules.specs.IfElse.{ifElse}
 use Rattle.rules.specs.Pad.{pad}
 use Rattle.rules.specs.Numbered.{firstRow}
 use Rattle.rules.specs.Walk.{brokenAt}
@@ -18,7 +18,7 @@ use Rattle.rules.specs.declared.Verdict.the-variants.{Accepted, Refused}
 use Rattle.rules.proofs.Padded.{pad-set, pad-at}
 use Rattle.rules.proofs.Rows.{row-none}
 use Rattle.rules.proofs.Walks.{Walking, Steady, starts, stops, ends, goes}
-use Rattle.streaming_descriptors.specs.Descriptors.{lenAt, kindAt, isFormat, isFrame, formatOf, layoutOf, noFormat, noFrame, formatAt, frameAt}
+use Rattle.streaming_descriptors.specs.Descriptors.{lenAt, kindAt, isFormat, isFrame, formatOf, formatLayout, noFormat, noFrame, formatAt, frameAt}
 use Rattle.streaming_rules.specs.Rules.{formatsMost, framesMost, rows}
 use Rattle.streaming_descriptors.specs.declared.Kind.{Kind}
 use Rattle.streaming_rules.specs.declared.Sofar.{Sofar}
@@ -43,23 +43,23 @@ steady linked s =
 -- ---- what a descriptor adds
 module _ (s : List ℕ) (a : Seen) (o : ℕ) where
   pub after-format : isFormat (kindAt s o) ≡ true → after s a o ≡ record { formats = a .formats ++ (formatAt (formatOf (kindAt s o)) s o ∷ []); frames = a .frames }
-  unfolding after pick
+  unfolding after ifElse
   after-format q = rw (q, no-frame-format (kindAt s o) q, append-nil)
 
   pub after-frame : isFormat (kindAt s o) ≡ false → isFrame (kindAt s o) ≡ true → after s a o ≡ record { formats = a .formats; frames = a .frames ++ (frameAt (formatOf (kindAt s o)) (length (a .formats)) s o ∷ []) }
-  unfolding after pick
+  unfolding after ifElse
   after-frame p q = rw (p, q, append-nil)
 
   pub after-other : isFormat (kindAt s o) ≡ false → isFrame (kindAt s o) ≡ false → after s a o ≡ a
-  unfolding after pick
+  unfolding after ifElse
   after-other p q = rw (p, q, append-nil (a .formats), append-nil (a .frames))
 
-count-more : (n : ℕ) (l : List Frame) (e : Frame) → countUnder n (l ++ (e ∷ [])) ≡ pick (eqb (e .format) n) (suc (countUnder n l)) (countUnder n l)
-unfolding countUnder pick
+count-more : (n : ℕ) (l : List Frame) (e : Frame) → countUnder n (l ++ (e ∷ [])) ≡ ifElse (eqb (e .format) n) (suc (countUnder n l)) (countUnder n l)
+unfolding countUnder ifElse
 count-more n [] e = refl
 count-more n (x ∷ l) e = rw (count-more n l e) (go (eqb (x .format) n) (eqb (e .format) n))
   where
-    go : (b c : Bool) → pick b (suc (pick c (suc (countUnder n l)) (countUnder n l))) (pick c (suc (countUnder n l)) (countUnder n l)) ≡ pick c (suc (pick b (suc (countUnder n l)) (countUnder n l))) (pick b (suc (countUnder n l)) (countUnder n l))
+    go : (b c : Bool) → ifElse b (suc (ifElse c (suc (countUnder n l)) (countUnder n l))) (ifElse c (suc (countUnder n l)) (countUnder n l)) ≡ ifElse c (suc (ifElse b (suc (countUnder n l)) (countUnder n l))) (ifElse b (suc (countUnder n l)) (countUnder n l))
     go true true = refl
     go true false = refl
     go false true = refl
@@ -76,10 +76,10 @@ of-format k f s o x r = rw r
 
 -- one frame more: the number that it has is the number of frames of its format
 counted-more : (counts : List ℕ) (f v : ℕ) (l : List Frame) (x : Frame) → f < length counts → x .format ≡ f → v ≡ getD counts f 0 + 1 → ((j : ℕ) → j < 9 → getD counts j 0 ≡ countUnder j l) → (j : ℕ) → j < 9 → getD (set counts f v) j 0 ≡ countUnder j (l ++ (x ∷ []))
-unfolding pick
+unfolding ifElse
 counted-more counts f v l x w e n h j k = rw (count-more j l x, e) (go (eqb f j) refl)
   where
-    go : (b : Bool) → eqb f j ≡ b → getD (set counts f v) j 0 ≡ pick b (suc (countUnder j l)) (countUnder j l)
+    go : (b : Bool) → eqb f j ≡ b → getD (set counts f v) j 0 ≡ ifElse b (suc (countUnder j l)) (countUnder j l)
     go true q = let z : f ≡ j = eqb-true f j q in rw (← z, getD-set-same counts f v 0 w) (n ∙ (rw (z, h j k) (omega arith)))
     go false q = getD-set-other counts f j v 0 (λ z. eqb-false f j q (sym z)) ∙ h j k
 
@@ -125,7 +125,7 @@ so-format k m r b e f g = rw (← e) (sym f ∙ g)
 pub so-frame : (k m : Kind) (r b : Bool) → k ≡ m → r ≡ isFrame k → r ≡ b → isFrame m ≡ b
 so-frame k m r b e f g = rw (← e) (sym f ∙ g)
 
-pub format-room : (s : List ℕ) (o : ℕ) (a : Sofar) → Fine s o a → isFormat (kindAt s o) ≡ true → o + layoutOf (formatOf (kindAt s o)) .length ≤ length s
+pub format-room : (s : List ℕ) (o : ℕ) (a : Sofar) → Fine s o a → isFormat (kindAt s o) ≡ true → o + formatLayout (formatOf (kindAt s o)) .length ≤ length s
 format-room s o a f q = format-inside (kindAt s o) s o (length s) q (f .inside) (f .shaped)
 
 pub frame-room : (s : List ℕ) (o : ℕ) (a : Sofar) → Fine s o a → isFrame (kindAt s o) ≡ true → o + 26 ≤ length s

@@ -5,7 +5,7 @@ use mathlib.Core.List.{List, [], _∷_, _++_, append-nil}
 use mathlib.Core.Bool.{Bool, true, false}
 use lib.ListN.{length, getD, length-append}
 use native.Mathlib.Omega.{arith}
-use Rattle.rules.specs.Pick.{pick}
+use Rattle.rules.specs.IfElse.{ifElse}
 use Rattle.rules.specs.Walk.{Reached, first, next, Clean}
 use Rattle.rules.specs.declared.Verdict.the-variants.{Accepted}
 use Rattle.rules.proofs.Padded.{pad-at}
@@ -41,10 +41,10 @@ module _ (linked : Bool) (s : List ℕ) (clean : Clean (course linked s)) where
   fine-at a o r h = fine s o (sofar linked a) (clean a o r h)
 
   step : (a : Seen) (o : ℕ) → Fine s o (sofar linked a) → Held s (a .frames) → Held s (after s a o .frames)
-  unfolding after pick
+  unfolding after ifElse
   step a o f h = go (isFrame (kindAt s o)) refl
     where
-      go : (b : Bool) → isFrame (kindAt s o) ≡ b → Held s (a .frames ++ pick b (frameAt (formatOf (kindAt s o)) (length (a .formats)) s o ∷ []) [])
+      go : (b : Bool) → isFrame (kindAt s o) ≡ b → Held s (a .frames ++ ifElse b (frameAt (formatOf (kindAt s o)) (length (a .formats)) s o ∷ []) [])
       go false q = rw append-nil h
       go true q =
           held-more s (a .frames) (frameAt (formatOf (kindAt s o)) (length (a .formats)) s o) (f .few q)

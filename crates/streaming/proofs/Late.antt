@@ -4,7 +4,7 @@ use mathlib.Core.Path.{_≡_}
 use mathlib.Core.Bool.{true, false, not}
 use lib.Dec.{eqb, ltb}
 use borrow.Author.Tests.{lt-ltb, le-ltb, eq-eqb, ne-eqb}
-use Rattle.rules.specs.Pick.{pick}
+use Rattle.rules.specs.IfElse.{ifElse}
 use Rattle.rules.specs.declared.Verdict.the-variants.{Accepted, Refused}
 use Rattle.streaming_descriptors.specs.declared.Format.{Format}
 use Rattle.rules.specs.Place.{firstPlace}
@@ -27,21 +27,21 @@ default-some f h = rw (ne-eqb (f .default) 0 h)
 
 module _ (g : ℕ → Format) (k : ℕ → ℕ) (n p i : ℕ) (a : i ≡ firstPlace (λ i. countBroken (g i) (k i)) n) where
   pub late-36 : i < n → Refused 36 (g i .offset) ≡ lateBy g k n p
-  unfolding lateBy pick
+  unfolding lateBy ifElse
   late-36 h = rw (← a, lt-ltb i n h)
 
   module _ (b : n ≤ i) (j : ℕ) (c : j ≡ firstPlace (λ i. defaultBroken (g i)) n) where
     pub late-37 : j < n → Refused 37 (g j .offset) ≡ lateBy g k n p
-    unfolding lateBy pick
+    unfolding lateBy ifElse
     late-37 h = rw (← a, le-ltb i n b, ← c, lt-ltb j n h)
 
     module _ (d : n ≤ j) (q : ℕ) (e : q ≡ p) where
       pub late-none : n ≡ q → Accepted ≡ lateBy g k n p
-      unfolding lateBy pick
+      unfolding lateBy ifElse
       late-none h = rw (← a, le-ltb i n b, ← c, le-ltb j n d, ← e, eq-eqb n q h)
 
       pub late-38 : (n ≡ q → ⊥) → Refused 38 0 ≡ lateBy g k n p
-      unfolding lateBy pick
+      unfolding lateBy ifElse
       late-38 h = rw (← a, le-ltb i n b, ← c, le-ltb j n d, ← e, ne-eqb n q h)
 
 -- formats and numbers of frames that agree have the same verdict

@@ -9,7 +9,7 @@ use lib.Dec.{eqb}
 use borrow.Author.Tests.{eqb-true, eqb-false, not-false}
 use native.Mathlib.Omega.{arith}
 use native.Mathlib.Decide.{decLe, ℕ-discrete}
-use Rattle.rules.specs.Pick.{pick}
+use Rattle.rules.specs.IfElse.{ifElse}
 use Rattle.rules.specs.Walk.{Reached, first, next, Clean}
 use Rattle.rules.specs.declared.Verdict.the-variants.{Accepted}
 use Rattle.rules.proofs.Firsts.{lt-or-ge}
@@ -157,11 +157,11 @@ module _ (t : Table) (s : List ℕ) where
 
   keeps-format : (o : ℕ) (a : Seen) (p : ℕ) → HasFormat o a → HasFormat o (after s a p)
   unfolding after
-  keeps-format o a p x = (x .0, simp length-append (omega (arith, x .1)), rw (List·getD-append (a .formats) (pick (isFormat (kindAt s p)) (formatAt (formatOf (kindAt s p)) s p ∷ []) []) noFormat (x .0) (x .1)) (x .2))
+  keeps-format o a p x = (x .0, simp length-append (omega (arith, x .1)), rw (List·getD-append (a .formats) (ifElse (isFormat (kindAt s p)) (formatAt (formatOf (kindAt s p)) s p ∷ []) []) noFormat (x .0) (x .1)) (x .2))
 
   keeps-frame : (o : ℕ) (a : Seen) (p : ℕ) → HasFrame o a → HasFrame o (after s a p)
   unfolding after
-  keeps-frame o a p x = (x .0, simp length-append (omega (arith, x .1)), rw (List·getD-append (a .frames) (pick (isFrame (kindAt s p)) (frameAt (formatOf (kindAt s p)) (length (a .formats)) s p ∷ []) []) noFrame (x .0) (x .1)) (x .2))
+  keeps-frame o a p x = (x .0, simp length-append (omega (arith, x .1)), rw (List·getD-append (a .frames) (ifElse (isFrame (kindAt s p)) (frameAt (formatOf (kindAt s p)) (length (a .formats)) s p ∷ []) []) noFrame (x .0) (x .1)) (x .2))
 
   gains-format : (o : ℕ) (a : Seen) → isFormat (kindAt s o) ≡ true → HasFormat o (after s a o)
   unfolding formatAt

@@ -3,7 +3,7 @@ use Prim.Native.Nat.{ℕ}
 use mathlib.Core.Path.{_≡_, refl}
 use mathlib.Core.List.{List, [], _∷_, _++_}
 use lib.ListN.{replicate}
-use Rattle.rules.specs.Pick.{pick}
+use Rattle.rules.specs.IfElse.{ifElse}
 use Rattle.rules.specs.Walk.{walkFrom, walk}
 use Rattle.rules.specs.declared.Verdict.the-variants.{Accepted, Refused}
 use Rattle.entities.specs.Table.{noEntity, findFrom}
@@ -11,7 +11,7 @@ use Rattle.entities.specs.declared.Table.{Table}
 use Rattle.entities.specs.declared.Revision.the-variants.{R15}
 use Rattle.intervals.specs.Intervals.{listAt, rises, among, offered}
 use Rattle.pictures.specs.Pictures.{bitsOf, untrue}
-use Rattle.streaming_descriptors.specs.Descriptors.{kindOf, layoutOf, shape, guidEnd, sameBytes, sortOf, formatAt, frameAt}
+use Rattle.streaming_descriptors.specs.Descriptors.{kindOf, formatLayout, shape, guidEnd, sameBytes, sortOf, formatAt, frameAt}
 use Rattle.blocks.specs.Blocks.{wholeRows, lengthBroken, typeBroken}
 use Rattle.streaming_rules.specs.Rules.{headRows, misplaced, offersUnder, untrueAt, flagWrong, lineWrong, kindRows, rows}
 use Rattle.rules.specs.Place.{placeFrom}
@@ -36,21 +36,21 @@ frame low =
 
 -- a header alone, with no formats
 bare : streamingOf table (header 13 0 3) .verdict ≡ Accepted
-unfolding table header streamingOf afterHead headRows wholeRows afterWalk walk walkFrom rows lengthBroken typeBroken kindRows flagWrong lineWrong kindOf layoutOf shape linkedAt findFrom isOutput after pick lateBy placeFrom acceptedWith
+unfolding table header streamingOf afterHead headRows wholeRows afterWalk walk walkFrom rows lengthBroken typeBroken kindRows flagWrong lineWrong kindOf formatLayout shape linkedAt findFrom isOutput after ifElse lateBy placeFrom acceptedWith
 bare = refl
 
 -- its link names nothing
 unlinked : streamingOf table (header 13 0 4) .verdict ≡ Refused 30 0
-unfolding table header streamingOf afterHead headRows wholeRows afterWalk walk walkFrom rows lengthBroken typeBroken kindRows flagWrong lineWrong kindOf layoutOf shape linkedAt findFrom isOutput after pick refusedBy
+unfolding table header streamingOf afterHead headRows wholeRows afterWalk walk walkFrom rows lengthBroken typeBroken kindRows flagWrong lineWrong kindOf formatLayout shape linkedAt findFrom isOutput after ifElse refusedBy
 unlinked = refl
 
 -- a format with its frame; and the frame whose default is not in its list
 filmed : streamingOf table (header 58 1 3 ++ (mjpeg ++ frame 0x15)) .verdict ≡ Accepted
-unfolding table header mjpeg frame streamingOf afterHead headRows wholeRows afterWalk walk walkFrom rows lengthBroken typeBroken kindRows flagWrong lineWrong kindOf layoutOf shape linkedAt findFrom isOutput after pick formatAt frameAt misplaced offersUnder untrueAt offered listAt rises among countUnder lateBy placeFrom defaultBroken acceptedWith
+unfolding table header mjpeg frame streamingOf afterHead headRows wholeRows afterWalk walk walkFrom rows lengthBroken typeBroken kindRows flagWrong lineWrong kindOf formatLayout shape linkedAt findFrom isOutput after ifElse formatAt frameAt misplaced offersUnder untrueAt offered listAt rises among countUnder lateBy placeFrom defaultBroken acceptedWith
 filmed = refl
 
 unlisted : streamingOf table (header 58 1 3 ++ (mjpeg ++ frame 0x16)) .verdict ≡ Refused 34 24
-unfolding table header mjpeg frame streamingOf afterHead headRows wholeRows afterWalk walk walkFrom rows lengthBroken typeBroken kindRows flagWrong lineWrong kindOf layoutOf shape linkedAt findFrom isOutput after pick formatAt frameAt misplaced offersUnder offered listAt rises among countUnder refusedBy
+unfolding table header mjpeg frame streamingOf afterHead headRows wholeRows afterWalk walk walkFrom rows lengthBroken typeBroken kindRows flagWrong lineWrong kindOf formatLayout shape linkedAt findFrom isOutput after ifElse formatAt frameAt misplaced offersUnder offered listAt rises among countUnder refusedBy
 unlisted = refl
 
 -- an NV12 format with one frame, of 3 by 3: 14 bytes hold it, and 13 do not
@@ -63,11 +63,11 @@ picture size =
     ∷ 0x15 ∷ 0x16 ∷ 0x05 ∷ 0x00 ∷ []
 
 held : streamingOf table (header 70 1 3 ++ (nv12 ++ picture 14)) .verdict ≡ Accepted
-unfolding table header nv12 picture streamingOf afterHead headRows wholeRows afterWalk walk walkFrom rows lengthBroken typeBroken kindRows flagWrong lineWrong kindOf layoutOf shape linkedAt findFrom isOutput after pick sameBytes sortOf formatAt frameAt misplaced offersUnder untrueAt untrue bitsOf offered listAt rises among countUnder lateBy placeFrom defaultBroken acceptedWith
+unfolding table header nv12 picture streamingOf afterHead headRows wholeRows afterWalk walk walkFrom rows lengthBroken typeBroken kindRows flagWrong lineWrong kindOf formatLayout shape linkedAt findFrom isOutput after ifElse sameBytes sortOf formatAt frameAt misplaced offersUnder untrueAt untrue bitsOf offered listAt rises among countUnder lateBy placeFrom defaultBroken acceptedWith
 held = refl
 
 too-small : streamingOf table (header 70 1 3 ++ (nv12 ++ picture 13)) .verdict ≡ Refused 39 40
-unfolding table header nv12 picture streamingOf afterHead headRows wholeRows afterWalk walk walkFrom rows lengthBroken typeBroken kindRows flagWrong lineWrong kindOf layoutOf shape linkedAt findFrom isOutput after pick sameBytes sortOf formatAt frameAt misplaced offersUnder untrueAt untrue bitsOf offered listAt rises among countUnder refusedBy
+unfolding table header nv12 picture streamingOf afterHead headRows wholeRows afterWalk walk walkFrom rows lengthBroken typeBroken kindRows flagWrong lineWrong kindOf formatLayout shape linkedAt findFrom isOutput after ifElse sameBytes sortOf formatAt frameAt misplaced offersUnder untrueAt untrue bitsOf offered listAt rises among countUnder refusedBy
 too-small = refl
 
 -- a frame-based format with a flag, and a frame of it that offers 333,333, with bytes per line
@@ -80,18 +80,18 @@ moving line =
     ∷ 0x15 ∷ 0x16 ∷ 0x05 ∷ 0x00 ∷ []
 
 frame-based : streamingOf table (header 71 1 3 ++ (h264 1 ++ moving 0)) .verdict ≡ Accepted
-unfolding table header h264 moving streamingOf afterHead headRows wholeRows afterWalk walk walkFrom rows lengthBroken typeBroken kindRows flagWrong lineWrong kindOf layoutOf shape linkedAt findFrom isOutput after pick sameBytes sortOf formatAt frameAt misplaced offersUnder untrueAt offered listAt rises among countUnder lateBy placeFrom defaultBroken acceptedWith
+unfolding table header h264 moving streamingOf afterHead headRows wholeRows afterWalk walk walkFrom rows lengthBroken typeBroken kindRows flagWrong lineWrong kindOf formatLayout shape linkedAt findFrom isOutput after ifElse sameBytes sortOf formatAt frameAt misplaced offersUnder untrueAt offered listAt rises among countUnder lateBy placeFrom defaultBroken acceptedWith
 frame-based = refl
 
 -- any bytes per line will do with the flag 0; with the flag 1 none but 0; no flag but these
 lined : streamingOf table (header 71 1 3 ++ (h264 0 ++ moving 7)) .verdict ≡ Accepted
-unfolding table header h264 moving streamingOf afterHead headRows wholeRows afterWalk walk walkFrom rows lengthBroken typeBroken kindRows flagWrong lineWrong kindOf layoutOf shape linkedAt findFrom isOutput after pick sameBytes sortOf formatAt frameAt misplaced offersUnder untrueAt offered listAt rises among countUnder lateBy placeFrom defaultBroken acceptedWith
+unfolding table header h264 moving streamingOf afterHead headRows wholeRows afterWalk walk walkFrom rows lengthBroken typeBroken kindRows flagWrong lineWrong kindOf formatLayout shape linkedAt findFrom isOutput after ifElse sameBytes sortOf formatAt frameAt misplaced offersUnder untrueAt offered listAt rises among countUnder lateBy placeFrom defaultBroken acceptedWith
 lined = refl
 
 line-wrong : streamingOf table (header 71 1 3 ++ (h264 1 ++ moving 7)) .verdict ≡ Refused 40 41
-unfolding table header h264 moving streamingOf afterHead headRows wholeRows afterWalk walk walkFrom rows lengthBroken typeBroken kindRows flagWrong lineWrong kindOf layoutOf shape linkedAt findFrom isOutput after pick sameBytes sortOf formatAt frameAt misplaced offersUnder untrueAt offered listAt rises among countUnder refusedBy
+unfolding table header h264 moving streamingOf afterHead headRows wholeRows afterWalk walk walkFrom rows lengthBroken typeBroken kindRows flagWrong lineWrong kindOf formatLayout shape linkedAt findFrom isOutput after ifElse sameBytes sortOf formatAt frameAt misplaced offersUnder untrueAt offered listAt rises among countUnder refusedBy
 line-wrong = refl
 
 flag-wrong : streamingOf table (header 71 1 3 ++ (h264 2 ++ moving 0)) .verdict ≡ Refused 40 13
-unfolding table header h264 moving streamingOf afterHead headRows wholeRows afterWalk walk walkFrom rows lengthBroken typeBroken kindRows flagWrong lineWrong kindOf layoutOf shape linkedAt findFrom isOutput after pick refusedBy
+unfolding table header h264 moving streamingOf afterHead headRows wholeRows afterWalk walk walkFrom rows lengthBroken typeBroken kindRows flagWrong lineWrong kindOf formatLayout shape linkedAt findFrom isOutput after ifElse refusedBy
 flag-wrong = refl

@@ -6,7 +6,7 @@ use mathlib.Core.Bool.{Bool, false, _&&_}
 use lib.ListN.{length, getD, replicate}
 use lib.Dec.{eqb}
 use Rattle.le.specs.Le.{byte}
-use Rattle.rules.specs.Pick.{pick}
+use Rattle.rules.specs.IfElse.{ifElse}
 use Rattle.rules.specs.Pad.{pad}
 use Rattle.rules.specs.Walk.{Course}
 use Rattle.rules.specs.declared.Verdict.the-variants.{Accepted, Refused}
@@ -54,7 +54,7 @@ pub record Seen : Type 0 where
 -- how many frames stand under format n
 unfoldable pub countUnder : ℕ → List Frame → ℕ
 countUnder n [] = 0
-countUnder n (f ∷ l) = pick (eqb (f .format) n) (suc (countUnder n l)) (countUnder n l)
+countUnder n (f ∷ l) = ifElse (eqb (f .format) n) (suc (countUnder n l)) (countUnder n l)
 
 -- the last format read; no format has kind 0
 abbrev pub lastOf : List Format → Format
@@ -69,8 +69,8 @@ sofar linked a =
 unfoldable pub after : List ℕ → Seen → ℕ → Seen
 after s a o =
     record {
-      formats = a .formats ++ pick (isFormat (kindAt s o)) (formatAt (formatOf (kindAt s o)) s o ∷ []) [];
-      frames = a .frames ++ pick (isFrame (kindAt s o)) (frameAt (formatOf (kindAt s o)) (length (a .formats)) s o ∷ []) [];
+      formats = a .formats ++ ifElse (isFormat (kindAt s o)) (formatAt (formatOf (kindAt s o)) s o ∷ []) [];
+      frames = a .frames ++ ifElse (isFrame (kindAt s o)) (frameAt (formatOf (kindAt s o)) (length (a .formats)) s o ∷ []) [];
     }
 
 -- the walk, rules 25 to 35 at each descriptor in turn

@@ -5,7 +5,7 @@ use mathlib.Core.List.{List}
 use mathlib.Core.Bool.{Bool, not, _||_}
 use lib.ListN.{length, getD, replicate}
 use lib.Dec.{ltb, eqb}
-use Rattle.rules.specs.Pick.{pick}
+use Rattle.rules.specs.IfElse.{ifElse}
 use Rattle.rules.specs.Numbered.{firstRow}
 use Rattle.rules.specs.Walk.{Outcome, done, stop, walk}
 use Rattle.rules.specs.declared.Verdict.{Verdict}
@@ -36,9 +36,9 @@ unfoldable pub lateBy : (ℕ → Format) → (ℕ → ℕ) → ℕ → ℕ → V
 lateBy format frames n p =
     let i = firstPlace (λ i. countBroken (format i) (frames i)) n in
     let j = firstPlace (λ i. defaultBroken (format i)) n in
-    pick (ltb i n) (Refused 36 (format i .offset))
-    (pick (ltb j n) (Refused 37 (format j .offset))
-    (pick (eqb n p) Accepted (Refused 38 0)))
+    ifElse (ltb i n) (Refused 36 (format i .offset))
+    (ifElse (ltb j n) (Refused 37 (format j .offset))
+    (ifElse (eqb n p) Accepted (Refused 38 0)))
 
 abbrev pub late : List ℕ → Seen → Verdict
 late s a = lateBy (λ i. getD (a .formats) i noFormat) (λ i. countUnder (i + 1) (a .frames)) (length (a .formats)) (formatCount s)

@@ -8,7 +8,7 @@ use lib.ListN.{take, drop}
 use lib.Dec.{eqb}
 use borrow.Author.Tests.{eq-eqb, eqb-true}
 use native.Mathlib.Omega.{arith}
-use Rattle.rules.specs.Pick.{pick}
+use Rattle.rules.specs.IfElse.{ifElse}
 use Rattle.rules.proofs.Rows.{and-first, and-second}
 use Rattle.streaming_descriptors.specs.Descriptors.{sameBytes, sortOf, guidAt, yuy2, nv12}
 
@@ -40,16 +40,16 @@ differ r l m h e = go (sameBytes l m) refl
 
 module _ (g l : List ℕ) (e : l ≡ g) (r : Bool) (c : Compares r l yuy2) where
   pub is-yuy2 : r ≡ true → 1 ≡ sortOf g
-  unfolding sortOf pick sameBytes
+  unfolding sortOf ifElse sameBytes
   is-yuy2 h = rw (← e, c .0 h)
 
   module _ (q : Bool) (d : Compares q l nv12) (n : r ≡ false) where
     pub is-nv12 : q ≡ true → 2 ≡ sortOf g
-    unfolding sortOf pick sameBytes
+    unfolding sortOf ifElse sameBytes
     is-nv12 h = rw (← e, d .0 h)
 
     pub is-other : q ≡ false → 3 ≡ sortOf g
-    unfolding sortOf pick
+    unfolding sortOf ifElse
     is-other h = rw (← e, differ r l yuy2 c n, differ q l nv12 d h)
 
 -- the part of the descriptor that is its GUID

@@ -9,9 +9,9 @@ use borrow.Author.Tests.{le-leb, lt-leb, ne-eqb, eqb-true}
 use native.Mathlib.Omega.{arith}
 use native.Mathlib.Nat.{mul-le-mul}
 use Rattle.le.specs.Le.{byte}
-use Rattle.rules.specs.Pick.{pick, pick-all}
+use Rattle.rules.specs.IfElse.{ifElse, ifElse-all}
 use Rattle.intervals.specs.Intervals.{span}
-use Rattle.streaming_descriptors.specs.Descriptors.{kindOf, unread, lenAt, shape, uncompressed, mjpeg, frameBased, noLayout, layoutOf, formatOf, frameLength, kAt, frameLengthAt}
+use Rattle.streaming_descriptors.specs.Descriptors.{kindOf, unread, lenAt, shape, uncompressed, mjpeg, frameBased, noLayout, formatLayout, formatOf, frameLength, kAt, frameLengthAt}
 use Rattle.streaming_descriptors.specs.declared.Kind.{Kind}
 use Rattle.streaming_descriptors.specs.declared.Kind.the-variants.{Header, Formats, Frames, Unread, Other}
 use Rattle.streaming_descriptors.specs.declared.Layout.{Layout}
@@ -31,27 +31,27 @@ past-eighteen n l = omega arith
 
 -- a number that is none of those that are read
 module _ (n : ℕ) (a : n ≡ 1 → ⊥) (c : n ≡ 4 → ⊥) (d : n ≡ 5 → ⊥) (e : n ≡ 6 → ⊥) (f : n ≡ 7 → ⊥) (i : n ≡ 0x10 → ⊥) (j : n ≡ 0x11 → ⊥) where
-  rest : kindOf n ≡ pick (unread n) Unread Other
-  unfolding kindOf pick
+  rest : kindOf n ≡ ifElse (unread n) Unread Other
+  unfolding kindOf ifElse
   rest = rw (ne-eqb n 1 a, ne-eqb n 4 c, ne-eqb n 5 d, ne-eqb n 6 e, ne-eqb n 7 f, ne-eqb n 0x10 i, ne-eqb n 0x11 j)
 
   module _ (g : n ≡ 0x0A → ⊥) (h : n ≡ 0x0C → ⊥) where
     pub within : 0x10 ≤ n → n < 0x19 → Unread ≡ kindOf n
-    unfolding pick
+    unfolding ifElse
     within l m = sym rest-is
       where
         rest-is : kindOf n ≡ Unread
         rest-is = rest ∙ (rw (ne-eqb n 0x0A g, ne-eqb n 0x0C h, le-leb 0x12 n (past-seventeen n l i j), le-leb n 0x18 (at-most n m)))
 
     pub below : n < 0x10 → Other ≡ kindOf n
-    unfolding pick
+    unfolding ifElse
     below l = sym rest-is
       where
         rest-is : kindOf n ≡ Other
         rest-is = rest ∙ (rw (ne-eqb n 0x0A g, ne-eqb n 0x0C h, lt-leb 0x12 n (below-eighteen n l)))
 
     pub above : 0x18 < n → Other ≡ kindOf n
-    unfolding pick
+    unfolding ifElse
     above l = sym rest-is
       where
         rest-is : kindOf n ≡ Other
@@ -66,12 +66,12 @@ pub record Fits (l : Layout) : Type 0 where
   pub interval : l .interval + 4 ≤ 26
   pub k : l .k < 26
 
-pub fits : (f : ℕ) → Fits (layoutOf f)
-unfolding layoutOf
+pub fits : (f : ℕ) → Fits (formatLayout f)
+unfolding formatLayout
 fits f =
-    pick-all Fits (eqb f 4) uncompressed (pick (eqb f 6) mjpeg (pick (eqb f 0x10) frameBased noLayout)) four
-    (pick-all Fits (eqb f 6) mjpeg (pick (eqb f 0x10) frameBased noLayout) six
-    (pick-all Fits (eqb f 0x10) frameBased noLayout sixteen none))
+    ifElse-all Fits (eqb f 4) uncompressed (ifElse (eqb f 6) mjpeg (ifElse (eqb f 0x10) frameBased noLayout)) four
+    (ifElse-all Fits (eqb f 6) mjpeg (ifElse (eqb f 0x10) frameBased noLayout) six
+    (ifElse-all Fits (eqb f 0x10) frameBased noLayout sixteen none))
   where
     four : Fits uncompressed
     four = record { numbered = omega arith; default = omega arith; guided = λ h. omega arith; short = omega arith; interval = omega arith; k = omega arith }
@@ -86,14 +86,14 @@ fits f =
     none = record { numbered = omega arith; default = omega arith; guided = λ h. omega arith; short = omega arith; interval = omega arith; k = omega arith }
 
 -- the layout of a kind that callees gave
-pub its-layout : (k : Kind) (f : ℕ) (l : Layout) → f ≡ formatOf k → l ≡ layoutOf f → l ≡ layoutOf (formatOf k)
+pub its-layout : (k : Kind) (f : ℕ) (l : Layout) → f ≡ formatOf k → l ≡ formatLayout f → l ≡ formatLayout (formatOf k)
 its-layout k f l e h = rw (← e) h
 
-module _ (f : ℕ) (l : Layout) (e : l ≡ layoutOf f) where
-  pub default-in : l .default < layoutOf f .length
+module _ (f : ℕ) (l : Layout) (e : l ≡ formatLayout f) where
+  pub default-in : l .default < formatLayout f .length
   default-in = rw e (fits f .default)
 
-  pub guided-in : (o n : ℕ) → o + layoutOf f .length ≤ n → l .guided ≡ true → o + 22 ≤ n
+  pub guided-in : (o n : ℕ) → o + formatLayout f .length ≤ n → l .guided ≡ true → o + 22 ≤ n
   guided-in o n w h = omega (arith, fits f .guided (rw e at h))
 
   pub interval-in : l .interval + 4 ≤ 26
@@ -105,8 +105,8 @@ module _ (f : ℕ) (l : Layout) (e : l ≡ layoutOf f) where
   pub k-is : (s : List ℕ) (o k : ℕ) → k ≡ byte s o (l .k) → k ≡ kAt f s o
   k-is s o k h = rw (← e) h
 
-pub no-layout : (f : ℕ) → (f ≡ 4 → ⊥) → (f ≡ 6 → ⊥) → (f ≡ 0x10 → ⊥) → noLayout ≡ layoutOf f
-unfolding layoutOf pick
+pub no-layout : (f : ℕ) → (f ≡ 4 → ⊥) → (f ≡ 6 → ⊥) → (f ≡ 0x10 → ⊥) → noLayout ≡ formatLayout f
+unfolding formatLayout ifElse
 no-layout f a b c = rw (ne-eqb f 4 a, ne-eqb f 6 b, ne-eqb f 0x10 c)
 
 -- ---- lengths
@@ -119,7 +119,7 @@ module _ (s : List ℕ) (o len : ℕ) (l : len ≡ lenAt s o) where
   unfolding shape
   header-long p n e f = rw (← l, e, f)
 
-  pub format-is : (f : ℕ) (r : Bool) → r ≡ eqb len (layoutOf f .length) → r ≡ shape (Formats f) s o
+  pub format-is : (f : ℕ) (r : Bool) → r ≡ eqb len (formatLayout f .length) → r ≡ shape (Formats f) s o
   unfolding shape
   format-is f r e = e ∙ (rw l)
 
@@ -148,9 +148,9 @@ module _ (s : List ℕ) (o n : ℕ) (w : o + lenAt s o ≤ n) where
   unfolding shape
   header-room h = omega (arith, eqb-true (lenAt s o) (13 + byte s o 3 * byte s o 12) h)
 
-  pub format-room : (f : ℕ) → shape (Formats f) s o ≡ true → o + layoutOf f .length ≤ n
+  pub format-room : (f : ℕ) → shape (Formats f) s o ≡ true → o + formatLayout f .length ≤ n
   unfolding shape
-  format-room f h = omega (arith, eqb-true (lenAt s o) (layoutOf f .length) h)
+  format-room f h = omega (arith, eqb-true (lenAt s o) (formatLayout f .length) h)
 
   pub frame-room : (f : ℕ) → shape (Frames f) s o ≡ true → o + frameLengthAt f s o ≤ n
   unfolding shape

@@ -3,7 +3,7 @@ use Prim.Native.Nat.{ℕ}
 use mathlib.Core.Path.{_≡_, sym, _∙_}
 use mathlib.Core.List.{List}
 use mathlib.Core.Bool.{Bool}
-use Rattle.streaming_descriptors.specs.Descriptors.{kindOf, layoutOf, shape, isFormat, isFrame, formatOf, noFormat, noFrame, formatAt, frameAt}
+use Rattle.streaming_descriptors.specs.Descriptors.{kindOf, formatLayout, shape, isFormat, isFrame, formatOf, noFormat, noFrame, formatAt, frameAt}
 use Rattle.streaming_descriptors.specs.declared.Kind.{Kind}
 use Rattle.streaming_descriptors.specs.declared.Layout.{Layout}
 use Rattle.streaming_descriptors.specs.declared.Format.{Format}
@@ -33,7 +33,7 @@ format-at-unique f s o x y p q = p ∙ sym q
 pub frame-at-unique : (f n : ℕ) (s : List ℕ) (o : ℕ) (x y : Frame) → x ≡ frameAt f n s o → y ≡ frameAt f n s o → x ≡ y
 frame-at-unique f n s o x y p q = p ∙ sym q
 
-pub layout-of-unique : (f : ℕ) (x y : Layout) → x ≡ layoutOf f → y ≡ layoutOf f → x ≡ y
+pub layout-of-unique : (f : ℕ) (x y : Layout) → x ≡ formatLayout f → y ≡ formatLayout f → x ≡ y
 layout-of-unique f x y p q = p ∙ sym q
 
 pub shape-ok-unique : (k : Kind) (s : List ℕ) (o : ℕ) (x y : Bool) → x ≡ shape k s o → y ≡ shape k s o → x ≡ y

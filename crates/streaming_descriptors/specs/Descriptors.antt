@@ -5,7 +5,7 @@ use mathlib.Core.Bool.{Bool, true, false, _&&_, _||_}
 use lib.ListN.{take, drop}
 use lib.Dec.{leb, eqb}
 use Rattle.le.specs.Le.{byte, le16At, le32At}
-use Rattle.rules.specs.Pick.{pick}
+use Rattle.rules.specs.IfElse.{ifElse}
 pub use Rattle.blocks.specs.Blocks.{lenAt}
 use Rattle.streaming_descriptors.specs.declared.Kind.{Kind}
 use Rattle.streaming_descriptors.specs.declared.Kind.the-variants.{Header, Formats, Frames, Unread, Other}
@@ -20,14 +20,14 @@ unread n = eqb n 0x0A || (eqb n 0x0C || (leb 0x12 n && leb n 0x18))
 -- What a subtype number says, with one case for everything unknown. Formats and frames go by the format's subtype: 4 uncompressed, 6 MJPEG, 0x10 frame-based.
 unfoldable pub kindOf : ℕ → Kind
 kindOf n =
-    pick (eqb n 1) Header
-    (pick (eqb n 4) (Formats 4)
-    (pick (eqb n 5) (Frames 4)
-    (pick (eqb n 6) (Formats 6)
-    (pick (eqb n 7) (Frames 6)
-    (pick (eqb n 0x10) (Formats 0x10)
-    (pick (eqb n 0x11) (Frames 0x10)
-    (pick (unread n) Unread Other)))))))
+    ifElse (eqb n 1) Header
+    (ifElse (eqb n 4) (Formats 4)
+    (ifElse (eqb n 5) (Frames 4)
+    (ifElse (eqb n 6) (Formats 6)
+    (ifElse (eqb n 7) (Frames 6)
+    (ifElse (eqb n 0x10) (Formats 0x10)
+    (ifElse (eqb n 0x11) (Frames 0x10)
+    (ifElse (unread n) Unread Other)))))))
 
 abbrev pub kindAt : List ℕ → ℕ → Kind
 kindAt s o = kindOf (byte s o 2)
@@ -75,11 +75,11 @@ abbrev pub noLayout : Layout
 noLayout = record { length = 256; guided = false; default = 6; sized = true; interval = 21; k = 25 }
 
 -- by the format's subtype
-unfoldable pub layoutOf : ℕ → Layout
-layoutOf f =
-    pick (eqb f 4) uncompressed
-    (pick (eqb f 6) mjpeg
-    (pick (eqb f 0x10) frameBased
+unfoldable pub formatLayout : ℕ → Layout
+formatLayout f =
+    ifElse (eqb f 4) uncompressed
+    (ifElse (eqb f 6) mjpeg
+    (ifElse (eqb f 0x10) frameBased
     noLayout))
 
 -- the intervals of a frame of every kind stand at 26
@@ -100,7 +100,7 @@ frameLength (suc k) = 26 + 4 * suc k
 
 -- k, and the length, of the frame at o under a format of subtype f
 abbrev pub kAt : ℕ → List ℕ → ℕ → ℕ
-kAt f s o = byte s o (layoutOf f .k)
+kAt f s o = byte s o (formatLayout f .k)
 
 abbrev pub frameLengthAt : ℕ → List ℕ → ℕ → ℕ
 frameLengthAt f s o = frameLength (kAt f s o)
@@ -108,7 +108,7 @@ frameLengthAt f s o = frameLength (kAt f s o)
 -- ---- the lengths, a line for each row of document 01
 unfoldable pub shape : Kind → List ℕ → ℕ → Bool
 shape Header s o = eqb (lenAt s o) (13 + byte s o 3 * byte s o 12)
-shape (Formats f) s o = eqb (lenAt s o) (layoutOf f .length)
+shape (Formats f) s o = eqb (lenAt s o) (formatLayout f .length)
 shape (Frames f) s o = eqb (lenAt s o) (frameLengthAt f s o)
 shape Unread s o = true
 shape Other s o = true
@@ -131,7 +131,7 @@ nv12 = 0x4E ∷ 0x56 ∷ 0x31 ∷ 0x32 ∷ guidEnd
 
 -- 1 YUY2, 2 NV12, 3 other
 unfoldable pub sortOf : List ℕ → ℕ
-sortOf g = pick (sameBytes g yuy2) 1 (pick (sameBytes g nv12) 2 3)
+sortOf g = ifElse (sameBytes g yuy2) 1 (ifElse (sameBytes g nv12) 2 3)
 
 abbrev pub guidAt : List ℕ → ℕ → List ℕ
 guidAt s o = take 16 (drop (o + 5) s)
@@ -148,10 +148,10 @@ unfoldable pub formatAt : ℕ → List ℕ → ℕ → Format
 formatAt f s o =
     record {
       kind = f;
-      guid = pick (layoutOf f .guided) (sortOf (guidAt s o)) 0;
-      bits = pick (layoutOf f .guided) (byte s o 21) 0;
+      guid = ifElse (formatLayout f .guided) (sortOf (guidAt s o)) 0;
+      bits = ifElse (formatLayout f .guided) (byte s o 21) 0;
       frames = byte s o 4;
-      default = byte s o (layoutOf f .default);
+      default = byte s o (formatLayout f .default);
       offset = o;
     }
 
@@ -164,6 +164,6 @@ frameAt f n s o =
       width = le16At s (o + 5);
       height = le16At s (o + 7);
       offset = o;
-      size = pick (layoutOf f .sized) (le32At s (o + 17)) 0;
-      interval = le32At s (o + layoutOf f .interval);
+      size = ifElse (formatLayout f .sized) (le32At s (o + 17)) 0;
+      interval = le32At s (o + formatLayout f .interval);
     }

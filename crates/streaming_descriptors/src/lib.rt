@@ -5,8 +5,8 @@ ghost use Prim.Native.Nat.{_+_, _^_, _≤_, _<_};
 ghost use lib.ListN.{length};
 ghost use lib.Dec.{eqb};
 ghost use Rattle.le.specs.Le.{byte, le32At};
-ghost use Rattle.rules.specs.Pick.{pick};
-ghost use Rattle.streaming_descriptors.specs.Descriptors.{kindOf, lenAt, shape, layoutOf, sortOf, guidAt, noFormat, noFrame, formatAt, frameAt, isFormat, isFrame, formatOf};
+ghost use Rattle.rules.specs.IfElse.{ifElse};
+ghost use Rattle.streaming_descriptors.specs.Descriptors.{kindOf, lenAt, shape, formatLayout, sortOf, guidAt, noFormat, noFrame, formatAt, frameAt, isFormat, isFrame, formatOf};
 
 const YUY2: [u8; 16] = *b"YUY2\x00\x00\x10\x00\x80\x00\x00\xAA\x00\x38\x9B\x71";
 
@@ -73,7 +73,7 @@ pub fn kind_of(sub: u8) -> Kind
 
 // The layout, by the format's subtype; one that no descriptor has where there is none.
 pub fn layout_of(format: u8) -> Layout
-    ensures { λ r. ⌜ r ≡ layoutOf format ⌝ }
+    ensures { λ r. ⌜ r ≡ formatLayout format ⌝ }
 {
     match format {
         4 => Layout {
@@ -140,7 +140,7 @@ fn header_shape(s: &[u8], at: usize, len: usize) -> bool
 
 // The length of a format.
 fn format_shape(len: usize, format: u8) -> bool
-    ensures { λ r. ⌜ r ≡ eqb len (layoutOf format .length) ⌝ }
+    ensures { λ r. ⌜ r ≡ eqb len (formatLayout format .length) ⌝ }
 {
     let l = layout_of(format);
     len == l.length
@@ -244,7 +244,7 @@ pub fn no_frame() -> Frame
 // The GUID's sort of the format at `at`, or 0.
 fn guid_at(s: &[u8], at: usize, guided: bool) -> u8
     requires { ⌜ (guided ≡ true → at + 22 ≤ length (now s)) ⌝ }
-    ensures { λ r. ⌜ r ≡ pick guided (sortOf (guidAt (now (s .entry)) at)) 0 ⌝ }
+    ensures { λ r. ⌜ r ≡ ifElse guided (sortOf (guidAt (now (s .entry)) at)) 0 ⌝ }
 {
     if guided {
         return guid_sort(s, at);
@@ -255,7 +255,7 @@ fn guid_at(s: &[u8], at: usize, guided: bool) -> u8
 // Its bits per pixel, or 0.
 fn bits_at(s: &[u8], at: usize, guided: bool) -> u8
     requires { ⌜ (guided ≡ true → at + 22 ≤ length (now s)) ⌝ }
-    ensures { λ r. ⌜ r ≡ pick guided (byte (now (s .entry)) at 21) 0 ⌝ }
+    ensures { λ r. ⌜ r ≡ ifElse guided (byte (now (s .entry)) at 21) 0 ⌝ }
 {
     if guided {
         return s[at + 21];
@@ -265,7 +265,7 @@ fn bits_at(s: &[u8], at: usize, guided: bool) -> u8
 
 // Inner: what a format's descriptor gives.
 pub fn format_at(s: &[u8], at: usize, kind: Kind) -> Format
-    requires { ⌜ (at + layoutOf (formatOf kind) .length ≤ length (now s)) × (length (now s) < 2 ^ 16) ⌝ }
+    requires { ⌜ (at + formatLayout (formatOf kind) .length ≤ length (now s)) × (length (now s) < 2 ^ 16) ⌝ }
     ensures { λ r. ⌜ r ≡ formatAt (formatOf kind) (now (s .entry)) at ⌝ }
 {
     let format = format_of(kind);
@@ -286,7 +286,7 @@ pub fn format_at(s: &[u8], at: usize, kind: Kind) -> Format
 // The buffer size of the frame at `at`, or 0.
 fn size_at(s: &[u8], at: usize, sized: bool) -> u32
     requires { ⌜ at + 26 ≤ length (now s) ⌝ }
-    ensures { λ r. ⌜ r ≡ pick sized (le32At (now (s .entry)) (at + 17)) 0 ⌝ }
+    ensures { λ r. ⌜ r ≡ ifElse sized (le32At (now (s .entry)) (at + 17)) 0 ⌝ }
 {
     if sized {
         return le::le32(s, at + 17);

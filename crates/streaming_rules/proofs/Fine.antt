@@ -8,12 +8,12 @@ use lib.Dec.{leb, eqb}
 use borrow.Author.Tests.{leb-false, eqb-true, not-false}
 use native.Mathlib.Omega.{arith}
 use Rattle.le.specs.Le.{byte}
-use Rattle.rules.specs.Pick.{pick}
+use Rattle.rules.specs.IfElse.{ifElse}
 use Rattle.rules.specs.Numbered.{NoneOf, isBroken}
 use Rattle.rules.proofs.Rows.{Numbered, none-broken, or-first, or-second, and-second, and-not}
 use Rattle.blocks.specs.Blocks.{descriptorType, headerSubtype, wholeRows}
 use Rattle.blocks.proofs.Right.{placed, sizes}
-use Rattle.streaming_descriptors.specs.Descriptors.{lenAt, kindOf, kindAt, shape, isHeader, isFormat, isFrame, formatOf, layoutOf, frameLengthAt}
+use Rattle.streaming_descriptors.specs.Descriptors.{lenAt, kindOf, kindAt, shape, isHeader, isFormat, isFrame, formatOf, formatLayout, frameLengthAt}
 use Rattle.streaming_rules.specs.Rules.{inward, misplaced, defaultOffered, untrueAt, flagWrong, lineWrong, limits, headRows, kindRows, rows, formatsMost, framesMost}
 use Rattle.streaming_descriptors.specs.declared.Kind.{Kind}
 use Rattle.streaming_descriptors.specs.declared.Kind.the-variants.{Header, Formats, Frames, Unread, Other}
@@ -37,7 +37,7 @@ pub record Fine (s : List ℕ) (o : ℕ) (a : Sofar) : Type 0 where
   pub few : isFrame (kindAt s o) ≡ true → a .frames < framesMost
 
 pub fine : (s : List ℕ) (o : ℕ) (a : Sofar) → NoneOf (rows s o a) → Fine s o a
-unfolding rows kindRows isBroken pick
+unfolding rows kindRows isBroken ifElse
 fine s o a d =
     let p = placed s o (kept 25) in
     record {
@@ -80,7 +80,7 @@ head-sizes t s n = sizes limits s (n .1)
 
 -- its first descriptor is the header
 pub header-first : (t : ℕ) (s : List ℕ) → NoneOf (headRows t s) → kindAt s 0 ≡ Header
-unfolding headRows wholeRows isBroken pick kindOf
+unfolding headRows wholeRows isBroken ifElse kindOf
 header-first t s n = rw (and-second (eqb (getD s 1 0) descriptorType) (eqb (getD s 2 0) headerSubtype) (not-false _ (none-broken (headRows t s) 23 n)))
 
 -- a kind that is a format's, and one that is a frame's
@@ -107,7 +107,7 @@ no-frame-format Unread h = refl
 no-frame-format Other h = refl
 
 -- a format or a frame that has its length lies within the block, a frame with its intervals
-pub format-inside : (k : Kind) (s : List ℕ) (o n : ℕ) → isFormat k ≡ true → o + lenAt s o ≤ n → shape k s o ≡ true → o + layoutOf (formatOf k) .length ≤ n
+pub format-inside : (k : Kind) (s : List ℕ) (o n : ℕ) → isFormat k ≡ true → o + lenAt s o ≤ n → shape k s o ≡ true → o + formatLayout (formatOf k) .length ≤ n
 format-inside Header s o n h w e = absurd (true≢false (sym h))
 format-inside (Formats f) s o n h w e = format-room s o n w f e
 format-inside (Frames f) s o n h w e = absurd (true≢false (sym h))

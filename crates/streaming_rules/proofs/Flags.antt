@@ -6,7 +6,7 @@ use mathlib.Core.Bool.{Bool, true, false, not, _&&_, _||_, true≢false}
 use mathlib.Core.Logic.{_⊎_, inl, inr, ⊎-elim, _↔_}
 use lib.Dec.{eqb}
 use borrow.Author.Tests.{eq-eqb, ne-eqb, lt-ltb, eqb-true, eqb-false, ltb-true, ltb-false, not-false}
-use Rattle.rules.specs.Pick.{pick}
+use Rattle.rules.specs.IfElse.{ifElse}
 use Rattle.rules.specs.Numbered.{isBroken}
 use Rattle.rules.proofs.Rows.{and-first, and-second, or-either}
 use Rattle.streaming_descriptors.specs.Descriptors.{kindAt, isFormat, isFrame, formatOf, flagAt, lineAt}
@@ -55,7 +55,7 @@ module _ (s : List ℕ) (o : ℕ) (a : Sofar) where
   here :
       isBroken 40 (rows s o a)
       ≡ ((isFormat (kindAt s o) && flagWrong (formatOf (kindAt s o)) s o) || (isFrame (kindAt s o) && lineWrong (formatOf (kindAt s o)) (a .last) s o))
-  unfolding rows kindRows isBroken pick
+  unfolding rows kindRows isBroken ifElse
   here = refl
 
   at-format : (isFormat (kindAt s o) && flagWrong (formatOf (kindAt s o)) s o) ≡ true → FlagOrLine (a .last) s o

@@ -7,13 +7,13 @@ use lib.ListN.{length}
 use lib.Dec.{eqb, ltb}
 use borrow.Author.Tests.{eq-eqb, ne-eqb, not-false}
 use Rattle.le.specs.Le.{byte, le16At, le32At}
-use Rattle.rules.specs.Pick.{pick}
+use Rattle.rules.specs.IfElse.{ifElse}
 use Rattle.rules.specs.Numbered.{firstRow}
 use Rattle.blocks.specs.Blocks.{lengthBroken, typeBroken}
 use Rattle.blocks.proofs.Right.{said-placed}
 use Rattle.intervals.specs.Intervals.{offered}
 use Rattle.pictures.specs.Pictures.{untrue}
-use Rattle.streaming_descriptors.specs.Descriptors.{lenAt, kindAt, shape, layoutOf, kAt, intervalsAt, isHeader, isFormat, isFrame, formatOf}
+use Rattle.streaming_descriptors.specs.Descriptors.{lenAt, kindAt, shape, formatLayout, kAt, intervalsAt, isHeader, isFormat, isFrame, formatOf}
 use Rattle.streaming_rules.specs.Rules.{isUnread, misplaced, offersUnder, offersAt, defaultOffered, untrueAt, flagWrong, lineWrong, kindRows, rows}
 use Rattle.streaming_descriptors.specs.declared.Kind.{Kind}
 use Rattle.streaming_descriptors.specs.declared.Layout.{Layout}
@@ -81,7 +81,7 @@ pub offers-is : (f : ℕ) (s : List ℕ) (o k x : ℕ) (r : Bool) → k ≡ kAt 
 unfolding offersUnder
 offers-is f s o k x r e h = rw (← e) h
 
-pub default-is : (f : ℕ) (l : Layout) (s : List ℕ) (o x : ℕ) (r : Bool) → l ≡ layoutOf f → x ≡ le32At s (o + l .interval) → r ≡ offersUnder f s o x → r ≡ defaultOffered f s o
+pub default-is : (f : ℕ) (l : Layout) (s : List ℕ) (o x : ℕ) (r : Bool) → l ≡ formatLayout f → x ≡ le32At s (o + l .interval) → r ≡ offersUnder f s o x → r ≡ defaultOffered f s o
 default-is f l s o x r w e h = h ∙ (rw (e, w))
 
 pub own-subtype : (s : List ℕ) (o x : ℕ) (k : Kind) (f : ℕ) (r : Bool) → k ≡ kindAt s o → f ≡ formatOf k → r ≡ offersUnder f s o x → r ≡ offersAt s o x
@@ -108,8 +108,8 @@ module _ (f : ℕ) (s : List ℕ) (o : ℕ) where
   unfolding flagWrong
   flag-is h = rw (eq-eqb f 0x10 h)
 
-  pub flag-in : (n : ℕ) → f ≡ 0x10 → o + layoutOf f .length ≤ n → o + 28 ≤ n
-  unfolding layoutOf pick
+  pub flag-in : (n : ℕ) → f ≡ 0x10 → o + formatLayout f .length ≤ n → o + 28 ≤ n
+  unfolding formatLayout ifElse
   flag-in n h w = rw h at w
 
   module _ (x : Format) where

@@ -5,12 +5,12 @@ use mathlib.Core.List.{List}
 use mathlib.Core.Bool.{Bool, true, false, _&&_}
 use mathlib.Core.Logic.{_↔_}
 use borrow.Author.Tests.{eqb-true}
-use Rattle.rules.specs.Pick.{pick}
+use Rattle.rules.specs.IfElse.{ifElse}
 use Rattle.rules.specs.Numbered.{isBroken}
 use Rattle.rules.proofs.Rows.{and-first, and-second}
 use Rattle.pictures.specs.Pictures.{Asked, untrue}
 use Rattle.pictures.proofs.Deciding.{untrue-decides, can-be-true}
-use Rattle.streaming_descriptors.specs.Descriptors.{kindAt, isFrame, formatOf, layoutOf, frameAt}
+use Rattle.streaming_descriptors.specs.Descriptors.{kindAt, isFrame, formatOf, formatLayout, frameAt}
 use Rattle.streaming_rules.specs.Rules.{untrueAt, SizesTrue, kindRows, rows}
 use Rattle.streaming_descriptors.specs.declared.Kind.the-variants.{Frames}
 use Rattle.streaming_descriptors.specs.declared.Format.{Format}
@@ -24,7 +24,7 @@ uncompressed f x s o e = eqb-true f 4 (and-first _ _ e)
 module _ (x : Format) (n : ℕ) (s : List ℕ) (o : ℕ) where
   -- the test reads what the frame's entry has
   reads : untrueAt 4 x s o ≡ untrue (x .guid) (x .bits) (frameAt 4 n s o .width) (frameAt 4 n s o .height) (frameAt 4 n s o .size)
-  unfolding untrueAt frameAt layoutOf pick
+  unfolding untrueAt frameAt formatLayout ifElse
   reads = refl
 
   pub sizes-true : Asked (x .guid) → untrueAt 4 x s o ≡ false → SizesTrue x (frameAt 4 n s o)
@@ -36,7 +36,7 @@ module _ (x : Format) (n : ℕ) (s : List ℕ) (o : ℕ) where
 module _ (s : List ℕ) (o : ℕ) (a : Sofar) where
   -- 39's row
   here : isBroken 39 (rows s o a) ≡ (isFrame (kindAt s o) && untrueAt (formatOf (kindAt s o)) (a .last) s o)
-  unfolding rows kindRows isBroken pick
+  unfolding rows kindRows isBroken ifElse
   here = refl
 
   pub row-39 : (n : ℕ) → (isBroken 39 (rows s o a) ≡ true) ↔ ((kindAt s o ≡ Frames 4) × Asked (a .last .guid) × (SizesTrue (a .last) (frameAt 4 n s o) → ⊥))

@@ -12,7 +12,7 @@ use Rattle.blocks.specs.declared.Limits.{Limits}
 use Rattle.entities.specs.Table.{entitiesMost}
 use Rattle.intervals.specs.Intervals.{offered}
 use Rattle.pictures.specs.Pictures.{CanBeTrue, untrue}
-use Rattle.streaming_descriptors.specs.Descriptors.{kindAt, isHeader, isFormat, isFrame, formatOf, shape, layoutOf, flagAt, lineAt, kAt, intervalsAt}
+use Rattle.streaming_descriptors.specs.Descriptors.{kindAt, isHeader, isFormat, isFrame, formatOf, shape, formatLayout, flagAt, lineAt, kAt, intervalsAt}
 use Rattle.streaming_rules.specs.declared.Sofar.{Sofar}
 use Rattle.streaming_descriptors.specs.declared.Format.{Format}
 use Rattle.streaming_descriptors.specs.declared.Frame.{Frame}
@@ -64,7 +64,7 @@ offersAt s o x = offersUnder (formatOf (kindAt s o)) s o x
 
 -- 34: the default interval is one that the frame offers
 abbrev pub defaultOffered : ℕ → List ℕ → ℕ → Bool
-defaultOffered f s o = offersUnder f s o (le32At s (o + layoutOf f .interval))
+defaultOffered f s o = offersUnder f s o (le32At s (o + formatLayout f .interval))
 
 -- 39 in words, of the frame x under format f: its sizes can be true
 abbrev pub SizesTrue : Format → Frame → Type 0

@@ -4,7 +4,7 @@ ghost use mathlib.Core.Bool.{true};
 ghost use Prim.Native.Nat.{_+_, _≤_, _<_};
 ghost use lib.ListN.{length};
 ghost use Rattle.rules.specs.Numbered.{firstRow};
-ghost use Rattle.streaming_descriptors.specs.Descriptors.{kindAt, lenAt, shape, layoutOf, frameLengthAt, formatOf};
+ghost use Rattle.streaming_descriptors.specs.Descriptors.{kindAt, lenAt, shape, formatLayout, frameLengthAt, formatOf};
 ghost use Rattle.streaming_rules.specs.Rules.{formatsMost, headRows, isUnread, misplaced, offersUnder, offersAt, defaultOffered, untrueAt, flagWrong, lineWrong, kindRows, rows};
 use blocks::Limits;
 use entities::ENTITIES_MOST;
@@ -68,7 +68,7 @@ fn header_rule(s: &[u8], at: usize, a: Sofar) -> u8
 
 // 40: the flag of a frame-based format is not 0 or 1.
 fn is_flag_wrong(s: &[u8], at: usize, format: u8) -> bool
-    requires { ⌜ at + layoutOf format .length ≤ length (now s) ⌝ }
+    requires { ⌜ at + formatLayout format .length ≤ length (now s) ⌝ }
     ensures { λ r. ⌜ r ≡ flagWrong format (now (s .entry)) at ⌝ }
 {
     if format != FRAME_BASED {
@@ -79,7 +79,7 @@ fn is_flag_wrong(s: &[u8], at: usize, format: u8) -> bool
 
 // 31, 35 and 40, of a format.
 fn format_rule(s: &[u8], at: usize, format: u8, a: Sofar) -> u8
-    requires { ⌜ (at + layoutOf format .length ≤ length (now s)) × (a .formats ≤ formatsMost) ⌝ }
+    requires { ⌜ (at + formatLayout format .length ≤ length (now s)) × (a .formats ≤ formatsMost) ⌝ }
     ensures { λ r. ⌜ r ≡ firstRow (kindRows (Kind.Formats format) (now (s .entry)) at a) ⌝ }
 {
     if le::wide(s[at + 3]) != a.formats + 1 {

@@ -1,4 +1,4 @@
-pub mod Steps
+pub mod Branches
 pub mod Begins
 pub mod Runs
 pub mod Pieces

@@ -9,7 +9,7 @@ use lib.ListN.{length, take, drop, length-drop, drop-of-length-le}
 use lib.Seq.{drop-drop, take-all}
 use lib.Dec.{ltb}
 use borrow.Author.Tests.{lt-ltb, le-ltb, ltb-true, ltb-false}
-use Rattle.rules.specs.Pick.{pick}
+use Rattle.rules.specs.IfElse.{ifElse}
 use Rattle.session.specs.declared.Session.{Session}
 use Rattle.session.specs.Refusals.{postedOf}
 use Rattle.session.specs.declared.Rest.{Rest}
@@ -39,18 +39,18 @@ pub record Cut (f : Form) (l : List ℕ) (at end : ℕ) : Type 0 where
 
 module _ (f : Form) (s at n : ℕ) (e : s ≡ sizeOf f) where
   pub end-short : n - at < s → n ≡ endOf f at n
-  unfolding pick
+  unfolding ifElse
   end-short h = rw (sym e, lt-ltb (n - at) s h)
 
   pub end-whole : s ≤ n - at → at + s ≡ endOf f at n
-  unfolding pick
+  unfolding ifElse
   end-whole h = rw (sym e, le-ltb (n - at) s h)
 
 pub cut-at : (f : Form) (l : List ℕ) (at end : ℕ) → at < length l → end ≡ endOf f at (length l) → Cut f l at end
-unfolding pick
+unfolding ifElse
 cut-at f l at end h e = go (ltb (length l - at) (sizeOf f)) refl e
   where
-    go : (x : Bool) → ltb (length l - at) (sizeOf f) ≡ x → end ≡ pick x (length l) (at + sizeOf f) → Cut f l at end
+    go : (x : Bool) → ltb (length l - at) (sizeOf f) ≡ x → end ≡ ifElse x (length l) (at + sizeOf f) → Cut f l at end
     go true q g =
         let z : length l - at < sizeOf f = ltb-true (length l - at) (sizeOf f) q in
         record { here = h; within = omega arith; next = omega arith; whole = inr (g, omega arith) }

@@ -31,7 +31,7 @@ use Rattle.books.proofs.Theorems.{never-stuck, answer-right, close-right}
 use Rattle.records.specs.declared.Form.{Form}
 use Rattle.records.specs.Record.{kindAt, bytesAt, recordBad}
 use Rattle.records.proofs.Fine.{fine}
-use Rattle.records.proofs.Steps.{most-few}
+use Rattle.records.proofs.Branches.{most-few}
 use Rattle.trace.specs.Record.{askBy, recordAsk, recordCall}
 use Rattle.trace.specs.Trace.{newTrace, numberOf, roomFor, offerOf, saidFor, saidBy, saidOf, traced, goodOf}
 use Rattle.trace.specs.Standing.{closedIn, countIn, badAfter, pastAfter, stateAfter, stateOf, goodAfter, goodRecords, offersOf, Read, saysTo}

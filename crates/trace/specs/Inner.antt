@@ -3,7 +3,7 @@ use Prim.Native.Nat.{ℕ, zero, suc, _+_, _-_}
 use mathlib.Core.List.{List}
 use mathlib.Core.Bool.{Bool, true, false}
 use lib.Dec.{ltb}
-use Rattle.rules.specs.Pick.{pick}
+use Rattle.rules.specs.IfElse.{ifElse}
 use Rattle.session.specs.declared.Rest.{Rest}
 use Rattle.session.specs.Inner.{wholeOf}
 use Rattle.records.specs.declared.Form.{Form}
@@ -17,7 +17,7 @@ use Rattle.trace.specs.Trace.{closes, goodOf}
 
 -- where the record ends that begins at `at`, of so many bytes
 abbrev pub endOf : Form → ℕ → ℕ → ℕ
-endOf f at n = pick (ltb (n - at) (sizeOf f)) n (at + sizeOf f)
+endOf f at n = ifElse (ltb (n - at) (sizeOf f)) n (at + sizeOf f)
 
 -- A TRACE IN TWO PARTS: its ledger's numbers, which are lent, and the rest
 abbrev pub goingWith : Going → List ℕ → Trace

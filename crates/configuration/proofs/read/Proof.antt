@@ -1,5 +1,5 @@
 use mathlib.Core.Path.{sym, _∙_}
-use Rattle.layout.proofs.Parts.{control-there}
+use Rattle.configuration_layout.proofs.Parts.{control-there}
 use Rattle.configuration.proofs.Reading.{laid-out, blocks-refuse, all-sound}
 use borrow.Author.Needs.{needs}
 use Rattle.configuration.proofs.read.Statement.{statement}

@@ -1,6 +1,6 @@
 use Rattle.configuration_rules.proofs.Tests.{behind-whole}
 use Rattle.configuration_rules.specs.Descriptors.{afterAt}
-use Rattle.rules.specs.Pick.{picks}
+use Rattle.rules.specs.IfElse.{ifElses}
 use borrow.Author.Needs.{needs}
 use Rattle.configuration_rules.proofs.after.Statement.{statement}
 use Rattle.configuration_rules.proofs.after.Tie as tie
@@ -10,7 +10,7 @@ is-broken-requires c κs = search needs
 
 returns : tie.Need-returns
 unfolding afterAt
-returns c = search picks depth 8
+returns c = search ifElses depth 8
 
 shared-slice-read-wide : tie.Need-shared-slice-read-wide
 shared-slice-read-wide c = search needs

@@ -4,7 +4,7 @@ use native.Mathlib.Omega.{arith}
 use Prim.Native.Nat.{_-_}
 use Rattle.configuration_text.specs.Texts.{settingLine}
 use Rattle.text.specs.Text.{lineMost}
-use Rattle.settings.specs.Inner.{settingsOf}
+use Rattle.alternate_settings.specs.Inner.{settingsOf}
 use Rattle.configuration_text.proofs.Lines.{Printed, setting-more, settings-end, settings-full}
 use borrow.Author.Needs.{needs}
 use Rattle.configuration_text.proofs.settings.Statement.{statement}

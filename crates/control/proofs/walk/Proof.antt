@@ -5,7 +5,7 @@ use native.Mathlib.Omega.{arith}
 use mathlib.Core.Path.{_≡_, refl, sym, ap, _∙_}
 use mathlib.Core.Logic.{⊎-elim}
 use Rattle.le.specs.Le.{byte}
-use Rattle.marks.specs.Marks.{marked}
+use Rattle.used_ids.specs.Marks.{marked}
 use Rattle.control.proofs.Walking.{Reading, Turn, Fine, begins, ruleHere, refuses, fine-here, has-sub, has-id, has-place, stays, gains, said-entity, head-sizes, few-entities, accepts, rejects}
 use borrow.Author.Needs.{needs}
 use Rattle.control.proofs.walk.Statement.{statement}

@@ -1,4 +1,4 @@
-use Rattle.rules.specs.Pick.{picks}
+use Rattle.rules.specs.IfElse.{ifElses}
 use Rattle.control_map.specs.Answer.{controlByte}
 use borrow.Author.Needs.{needs}
 use Rattle.control_map.proofs.control_byte.Statement.{statement}
@@ -6,7 +6,7 @@ use Rattle.control_map.proofs.control_byte.Tie as tie
 
 returns : tie.Need-returns
 unfolding controlByte
-returns c = search picks depth 8
+returns c = search ifElses depth 8
 
 add-byte-at : tie.Need-add-byte-at
 add-byte-at c = search needs
@@ -16,7 +16,7 @@ byte-at-requires c κs = search needs
 
 returns-2 : tie.Need-returns-2
 unfolding controlByte
-returns-2 c = search picks depth 8
+returns-2 c = search ifElses depth 8
 
 pub control-byte-spec : {M : Type 1} → statement M
 control-byte-spec = tie.close (tie.spec returns add-byte-at byte-at-requires returns-2)

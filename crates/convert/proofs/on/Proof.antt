@@ -1,4 +1,4 @@
-use Rattle.convert.proofs.Steps.{has-kind, has-head, data-ends, data-fits, long-put, on-is}
+use Rattle.convert.proofs.Branches.{has-kind, has-head, data-ends, data-fits, long-put, on-is}
 use borrow.Author.Needs.{needs}
 use Rattle.convert.proofs.on.Statement.{statement}
 use Rattle.convert.proofs.on.Tie as tie

@@ -1,4 +1,4 @@
-use Rattle.convert.proofs.Steps.{one-stopped, one-after, one-bad, one-good, good-room}
+use Rattle.convert.proofs.Branches.{one-stopped, one-after, one-bad, one-good, good-room}
 use borrow.Author.Needs.{needs}
 use Rattle.convert.proofs.one.Statement.{statement}
 use Rattle.convert.proofs.one.Tie as tie

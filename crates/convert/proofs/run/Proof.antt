@@ -2,7 +2,7 @@ use Prim.Native.Nat.{_-_}
 use native.Mathlib.Omega.{arith}
 use denote.Ref.{now}
 use lib.ListN.{length}
-use Rattle.convert.proofs.Steps.{Ran, there, run-begins, run-ends, run-room, run-on}
+use Rattle.convert.proofs.Branches.{Ran, there, run-begins, run-ends, run-room, run-on}
 use borrow.Author.Needs.{needs}
 use Rattle.convert.proofs.run.Statement.{statement}
 use Rattle.convert.proofs.run.Tie as tie

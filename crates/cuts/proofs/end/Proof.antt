@@ -1,4 +1,4 @@
-use Rattle.cuts.proofs.Steps.{rest-within}
+use Rattle.cuts.proofs.Branches.{rest-within}
 use borrow.Author.Needs.{needs}
 use Rattle.cuts.proofs.end.Statement.{statement}
 use Rattle.cuts.proofs.end.Tie as tie

@@ -1,4 +1,4 @@
-use Rattle.cuts.proofs.Steps.{put-first}
+use Rattle.cuts.proofs.Branches.{put-first}
 use borrow.Author.Needs.{needs}
 use Rattle.cuts.proofs.fill.Statement.{statement}
 use Rattle.cuts.proofs.fill.Tie as tie

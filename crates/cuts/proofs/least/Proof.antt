@@ -1,4 +1,4 @@
-use Rattle.cuts.proofs.Steps.{first-least, second-least}
+use Rattle.cuts.proofs.Branches.{first-least, second-least}
 use Rattle.cuts.proofs.least.Statement.{statement}
 use Rattle.cuts.proofs.least.Tie as tie
 

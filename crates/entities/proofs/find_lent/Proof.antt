@@ -41,7 +41,7 @@ use denote.Triple.Statement.{Contract, Triple}
 use denote.Triple.Table.{entered, cited}
 use denote.Triple.Walked.{says, Stays, stay-none, stay-none-slice, walkOf, goes-none, goes-none-slice, Walks, ends-at, walked, walk-meets}
 use denote.Exit.{yes}
-use Rattle.rules.specs.Pick.{pick}
+use Rattle.rules.specs.IfElse.{ifElse}
 use Rattle.rules.specs.Pad.{pad}
 use Rattle.entities.specs.Table.{entitiesMost, noEntity, foundAmong}
 use Rattle.entities.specs.declared.Entity.{Entity}
@@ -99,7 +99,7 @@ module _ {M : Type 1} (𝓤 : URA M) (H : Heap 𝓤) (A : Atoms 𝓤) (mem : Mem
 
 -- the answer of the lookup in places by value, of which n were lent and k are used
 abbrev answer : List Entity → ℕ → ℕ → ℕ → Found
-answer r n k c = pick (leb n k) (foundAmong r n c) (foundAmong r k c)
+answer r n k c = ifElse (leb n k) (foundAmong r n c) (foundAmong r k c)
 
 -- all lent places by value
 abbrev taken : List Entity → List Entity

@@ -1,5 +1,5 @@
 use borrow.Author.Needs.{needs}
-use Rattle.rules.specs.Pick.{picks}
+use Rattle.rules.specs.IfElse.{ifElses}
 use Rattle.entities.proofs.find_placed.Statement.{statement}
 use Rattle.entities.proofs.find_placed.Tie as tie
 
@@ -9,7 +9,7 @@ find-among-requires c κs = search needs
 
 -- src/lib.rt:152:9
 returns : tie.Need-returns
-returns c = search picks depth 8
+returns c = search ifElses depth 8
 
 -- src/lib.rt:154:5
 find-among-requires-2 : tie.Need-find-among-requires-2
@@ -17,7 +17,7 @@ find-among-requires-2 c κs = search needs
 
 -- src/lib.rt:148:1
 returns-2 : tie.Need-returns-2
-returns-2 c = search picks depth 8
+returns-2 c = search ifElses depth 8
 
 pub find-placed-spec : {M : Type 1} → statement M
 find-placed-spec = tie.close (tie.spec find-among-requires returns find-among-requires-2 returns-2)

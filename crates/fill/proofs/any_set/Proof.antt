@@ -1,4 +1,4 @@
-use Rattle.fill.proofs.Steps.{set-found, set-on, set-end}
+use Rattle.fill.proofs.Rounds.{set-found, set-on, set-end}
 use Prim.Native.Nat.{_≤_, _-_}
 use mathlib.Core.Path.{_≡_, refl}
 use lib.ListN.{length, drop}

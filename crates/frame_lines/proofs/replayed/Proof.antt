@@ -1,4 +1,4 @@
-use Rattle.frame_lines.proofs.Steps.{delivered, still, dropped}
+use Rattle.frame_lines.proofs.Branches.{delivered, still, dropped}
 use borrow.Author.Needs.{needs}
 use Rattle.frame_lines.proofs.replayed.Statement.{statement}
 use Rattle.frame_lines.proofs.replayed.Tie as tie

@@ -1,5 +1,5 @@
 use Rattle.endings.specs.Inner.{toldIn}
-use Rattle.frame_lines.proofs.Steps.{both}
+use Rattle.frame_lines.proofs.Branches.{both}
 use borrow.Author.Needs.{needs}
 use Rattle.frame_lines.proofs.tell.Statement.{statement}
 use Rattle.frame_lines.proofs.tell.Tie as tie

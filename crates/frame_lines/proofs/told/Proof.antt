@@ -1,4 +1,4 @@
-use Rattle.frame_lines.proofs.Steps.{told-none, told-unshown, told-replayed, told-frame}
+use Rattle.frame_lines.proofs.Branches.{told-none, told-unshown, told-replayed, told-frame}
 use borrow.Author.Needs.{needs}
 use Rattle.frame_lines.proofs.told.Statement.{statement}
 use Rattle.frame_lines.proofs.told.Tie as tie

@@ -1,4 +1,4 @@
-use Rattle.rules.specs.Pick.{said-yes, said-no}
+use Rattle.rules.specs.IfElse.{said-yes, said-no}
 use mathlib.Core.Path.{refl}
 use borrow.Author.Needs.{needs}
 use Rattle.frames.proofs.turned_why.Statement.{statement}

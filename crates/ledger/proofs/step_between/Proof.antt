@@ -1,4 +1,4 @@
-use Rattle.rules.specs.Pick.{picks}
+use Rattle.rules.specs.IfElse.{ifElses}
 use borrow.Author.Needs.{needs}
 use Rattle.ledger.proofs.step_between.Statement.{statement}
 use Rattle.ledger.proofs.step_between.Tie as tie
@@ -19,10 +19,10 @@ cast-t12 : tie.Need-cast-t12
 cast-t12 c = search needs
 
 returns : tie.Need-returns
-returns c = search picks depth 8
+returns c = search ifElses depth 8
 
 returns-2 : tie.Need-returns-2
-returns-2 c = search picks depth 8
+returns-2 c = search ifElses depth 8
 
 pub step-between-spec : {M : Type 1} → statement M
 step-between-spec =

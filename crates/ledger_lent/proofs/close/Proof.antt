@@ -1,4 +1,4 @@
-use Rattle.ledger_lent.proofs.Steps.{closed-is}
+use Rattle.ledger_lent.proofs.Branches.{closed-is}
 use borrow.Author.Needs.{needs}
 use Rattle.ledger_lent.proofs.close.Statement.{statement}
 use Rattle.ledger_lent.proofs.close.Tie as tie

@@ -1,4 +1,4 @@
-use Rattle.ledger_lent.proofs.Steps.{reported-is}
+use Rattle.ledger_lent.proofs.Branches.{reported-is}
 use borrow.Author.Needs.{needs}
 use Rattle.ledger_lent.proofs.lost.Statement.{statement}
 use Rattle.ledger_lent.proofs.lost.Tie as tie

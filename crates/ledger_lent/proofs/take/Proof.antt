@@ -1,4 +1,4 @@
-use Rattle.ledger_lent.proofs.Steps.{taken-is}
+use Rattle.ledger_lent.proofs.Branches.{taken-is}
 use borrow.Author.Needs.{needs}
 use Rattle.ledger_lent.proofs.take.Statement.{statement}
 use Rattle.ledger_lent.proofs.take.Tie as tie

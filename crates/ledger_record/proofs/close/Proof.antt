@@ -1,5 +1,5 @@
-use Rattle.places.proofs.Steps.{right-size}
-use Rattle.ledger_record.proofs.Steps.{close-54, close-refused, close-closed}
+use Rattle.places.proofs.Branches.{right-size}
+use Rattle.ledger_record.proofs.Branches.{close-54, close-refused, close-closed}
 use borrow.Author.Needs.{needs}
 use Rattle.ledger_record.proofs.close.Statement.{statement}
 use Rattle.ledger_record.proofs.close.Tie as tie

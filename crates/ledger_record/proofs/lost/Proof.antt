@@ -1,5 +1,5 @@
-use Rattle.places.proofs.Steps.{right-size}
-use Rattle.ledger_record.proofs.Steps.{lost-54, lost-refused, lost-noted}
+use Rattle.places.proofs.Branches.{right-size}
+use Rattle.ledger_record.proofs.Branches.{lost-54, lost-refused, lost-noted}
 use borrow.Author.Needs.{needs}
 use Rattle.ledger_record.proofs.lost.Statement.{statement}
 use Rattle.ledger_record.proofs.lost.Tie as tie

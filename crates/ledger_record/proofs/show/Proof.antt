@@ -1,4 +1,4 @@
-use Rattle.ledger_record.proofs.Steps.{shows}
+use Rattle.ledger_record.proofs.Branches.{shows}
 use borrow.Author.Needs.{needs}
 use Rattle.ledger_record.proofs.show.Statement.{statement}
 use Rattle.ledger_record.proofs.show.Tie as tie

@@ -1,5 +1,5 @@
-use Rattle.places.proofs.Steps.{right-size}
-use Rattle.ledger_record.proofs.Steps.{take-54, take-refused, take-met}
+use Rattle.places.proofs.Branches.{right-size}
+use Rattle.ledger_record.proofs.Branches.{take-54, take-refused, take-met}
 use borrow.Author.Needs.{needs}
 use Rattle.ledger_record.proofs.take.Statement.{statement}
 use Rattle.ledger_record.proofs.take.Tie as tie

@@ -1,5 +1,5 @@
 use Prim.Native.Nat.{_-_}
-use Rattle.long_records.proofs.Steps.{Cleared, clear-begins, clear-on, clear-ends}
+use Rattle.long_records.proofs.Rounds.{Cleared, clear-begins, clear-on, clear-ends}
 use borrow.Author.Needs.{needs}
 use Rattle.long_records.proofs.clear.Statement.{statement}
 use Rattle.long_records.proofs.clear.Tie as tie

@@ -1,6 +1,6 @@
 use mathlib.Core.Path.{refl}
 use native.Mathlib.Omega.{arith}
-use Rattle.long_records.proofs.Steps.{record-put}
+use Rattle.long_records.proofs.Rounds.{record-put}
 use borrow.Author.Needs.{needs}
 use Rattle.long_records.proofs.write.Statement.{statement}
 use Rattle.long_records.proofs.write.Tie as tie

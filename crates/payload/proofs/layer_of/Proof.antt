@@ -1,7 +1,7 @@
 use mathlib.Core.Path.{sym, _∙_}
 use native.Mathlib.Omega.{arith}
 use Rattle.payload.proofs.Readings.{layer-room}
-use Rattle.rules.specs.Pick.{picks}
+use Rattle.rules.specs.IfElse.{ifElses}
 use Rattle.payload.specs.Transfer.{layerOf}
 use borrow.Author.Needs.{needs}
 use Rattle.payload.proofs.layer_of.Statement.{statement}
@@ -18,11 +18,11 @@ le16-requires c κs = let h = layer-room (c .before .before .before .before .arg
 
 returns : tie.Need-returns
 unfolding layerOf
-returns c = rw (← c .before .layer-place .ensures .0) (search picks depth 8)
+returns c = rw (← c .before .layer-place .ensures .0) (search ifElses depth 8)
 
 returns-2 : tie.Need-returns-2
 unfolding layerOf
-returns-2 c = search picks depth 8
+returns-2 c = search ifElses depth 8
 
 pub layer-of-spec : {M : Type 1} → statement M
 layer-of-spec =

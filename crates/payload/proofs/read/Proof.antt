@@ -1,6 +1,6 @@
 use native.Mathlib.Omega.{arith}
 use Rattle.sizes.specs.declared.HeaderKind.the-variants.{Old, Vp8}
-use Rattle.payload.specs.Layouts.{layoutOf}
+use Rattle.payload.specs.Layouts.{headerLayout}
 use Rattle.payload.proofs.Laid.{laid}
 use Rattle.payload.proofs.Readings.{idle-here, read-kind}
 use borrow.Author.Needs.{needs}
@@ -14,23 +14,23 @@ enum-told : tie.Need-enum-told
 enum-told c = search needs
 
 read-by-requires : tie.Need-read-by-requires
-unfolding layoutOf
+unfolding headerLayout
 read-by-requires c κs = laid Old
 
 enum-told-2 : tie.Need-enum-told-2
 enum-told-2 c = search needs
 
 read-by-requires-2 : tie.Need-read-by-requires-2
-unfolding layoutOf
+unfolding headerLayout
 read-by-requires-2 c κs = laid Vp8
 
 returns-2 : tie.Need-returns-2
-unfolding layoutOf
+unfolding headerLayout
 returns-2 c =
     read-kind (c .before .before .before .before .before .args .o) _ Old _ (omega (arith, c .before .before .before .if1 .left)) (c .before .enum-told .given .1) (c .read-by .ensures)
 
 returns-3 : tie.Need-returns-3
-unfolding layoutOf
+unfolding headerLayout
 returns-3 c =
     read-kind (c .before .before .before .before .before .args .o) _ Vp8 _ (omega (arith, c .before .before .before .if1 .left)) (c .before .enum-told2 .given .1) (c .read-by2 .ensures)
 

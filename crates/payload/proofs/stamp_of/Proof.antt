@@ -1,7 +1,7 @@
 use mathlib.Core.Path.{sym, _∙_}
 use native.Mathlib.Omega.{arith}
 use Rattle.payload.proofs.Readings.{stamp-room}
-use Rattle.rules.specs.Pick.{picks}
+use Rattle.rules.specs.IfElse.{ifElses}
 use Rattle.payload.specs.Transfer.{stampOf}
 use borrow.Author.Needs.{needs}
 use Rattle.payload.proofs.stamp_of.Statement.{statement}
@@ -15,11 +15,11 @@ le32-requires c κs = let h = stamp-room (c .before .before .before .args .l) _ 
 
 returns : tie.Need-returns
 unfolding stampOf
-returns c = search picks depth 8
+returns c = search ifElses depth 8
 
 returns-2 : tie.Need-returns-2
 unfolding stampOf
-returns-2 c = search picks depth 8
+returns-2 c = search ifElses depth 8
 
 pub stamp-of-spec : {M : Type 1} → statement M
 stamp-of-spec = tie.close (tie.spec flag-requires le32-requires returns returns-2)

@@ -1,4 +1,4 @@
-use Rattle.places.proofs.Steps.{broken-size, broken-rest}
+use Rattle.places.proofs.Branches.{broken-size, broken-rest}
 use borrow.Author.Needs.{needs}
 use Rattle.places.proofs.broken.Statement.{statement}
 use Rattle.places.proofs.broken.Tie as tie

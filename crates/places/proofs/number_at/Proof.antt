@@ -1,4 +1,4 @@
-use Rattle.places.proofs.Steps.{past}
+use Rattle.places.proofs.Branches.{past}
 use borrow.Author.Needs.{needs}
 use Rattle.places.proofs.number_at.Statement.{statement}
 use Rattle.places.proofs.number_at.Tie as tie

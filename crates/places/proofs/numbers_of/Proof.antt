@@ -1,6 +1,6 @@
 use Prim.Native.Nat.{_-_}
 use mathlib.Core.Path.{refl}
-use Rattle.places.proofs.Steps.{Read, one-read, all-read}
+use Rattle.places.proofs.Branches.{Read, one-read, all-read}
 use borrow.Author.Needs.{needs}
 use Rattle.places.proofs.numbers_of.Statement.{statement}
 use Rattle.places.proofs.numbers_of.Tie as tie

@@ -1,4 +1,4 @@
-use Rattle.places.proofs.Steps.{right-size, held-none, held-all}
+use Rattle.places.proofs.Branches.{right-size, held-none, held-all}
 use borrow.Author.Needs.{needs}
 use Rattle.places.proofs.read.Statement.{statement}
 use Rattle.places.proofs.read.Tie as tie

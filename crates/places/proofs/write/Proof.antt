@@ -1,4 +1,4 @@
-use Rattle.places.proofs.Steps.{written-none, written-all}
+use Rattle.places.proofs.Branches.{written-none, written-all}
 use borrow.Author.Needs.{needs}
 use Rattle.places.proofs.write.Statement.{statement}
 use Rattle.places.proofs.write.Tie as tie

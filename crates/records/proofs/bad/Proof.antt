@@ -1,5 +1,5 @@
 use native.Mathlib.Omega.{arith}
-use Rattle.records.proofs.Steps.{bad-size, bad-kind, bad-second, bad-length, bad-transfer, bad-filled, bad-empty, reads-kind, reads-head, reads-fill, head-few}
+use Rattle.records.proofs.Branches.{bad-size, bad-kind, bad-second, bad-length, bad-transfer, bad-filled, bad-empty, reads-kind, reads-head, reads-fill, head-few}
 use borrow.Author.Needs.{needs}
 use Rattle.records.proofs.bad.Statement.{statement}
 use Rattle.records.proofs.bad.Tie as tie

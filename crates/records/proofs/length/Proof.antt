@@ -1,4 +1,4 @@
-use Rattle.records.proofs.Steps.{length-short, length-long}
+use Rattle.records.proofs.Branches.{length-short, length-long}
 use borrow.Author.Needs.{needs}
 use Rattle.records.proofs.length.Statement.{statement}
 use Rattle.records.proofs.length.Tie as tie

@@ -1,4 +1,4 @@
-use Rattle.records.proofs.Steps.{second-long}
+use Rattle.records.proofs.Branches.{second-long}
 use borrow.Author.Needs.{needs}
 use Rattle.records.proofs.second.Statement.{statement}
 use Rattle.records.proofs.second.Tie as tie

@@ -4,7 +4,7 @@ use native.Mathlib.Omega.{arith}
 use lib.ListN.{length}
 use Rattle.trace.specs.Inner.{goodWith}
 use Rattle.replay.specs.Inner.{replayOf}
-use Rattle.replay.proofs.Steps.{Following, fits-said, one-leads, one-text, ends-at, follow-begins, follow-room, next-here, follow-decides, follow-on, follow-ends}
+use Rattle.replay.proofs.Records.{Following, fits-said, one-leads, one-text, ends-at, follow-begins, follow-room, next-here, follow-decides, follow-on, follow-ends}
 use borrow.Author.Needs.{needs}
 use Rattle.replay.proofs.follow.Statement.{statement}
 use Rattle.replay.proofs.follow.Tie as tie

@@ -1,4 +1,4 @@
-use Rattle.replay.proofs.Steps.{begins}
+use Rattle.replay.proofs.Records.{begins}
 use borrow.Author.Needs.{needs}
 use Rattle.replay.proofs.new.Statement.{statement}
 use Rattle.replay.proofs.new.Tie as tie

@@ -1,7 +1,7 @@
 use denote.Ref.{now}
 use Rattle.endings.specs.Inner.{listIn}
 use Rattle.replay.specs.Inner.{tellSaid}
-use Rattle.replay.proofs.Steps.{lined-silent, lined-told}
+use Rattle.replay.proofs.Records.{lined-silent, lined-told}
 use borrow.Author.Needs.{needs}
 use Rattle.replay.proofs.put_lines.Statement.{statement}
 use Rattle.replay.proofs.put_lines.Tie as tie

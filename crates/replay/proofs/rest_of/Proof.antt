@@ -1,4 +1,4 @@
-use Rattle.replay.proofs.Steps.{positive}
+use Rattle.replay.proofs.Records.{positive}
 use native.Mathlib.Omega.{arith}
 use Rattle.replay.proofs.Read.{stop-is, stop-bounds, rested}
 use borrow.Author.Needs.{needs}

@@ -1,5 +1,5 @@
 use mathlib.Core.Path.{sym, _∙_}
-use Rattle.replay.proofs.Steps.{run-decided, run-follows}
+use Rattle.replay.proofs.Records.{run-decided, run-follows}
 use borrow.Author.Needs.{needs}
 use Rattle.replay.proofs.run.Statement.{statement}
 use Rattle.replay.proofs.run.Tie as tie

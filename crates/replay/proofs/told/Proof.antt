@@ -1,5 +1,5 @@
 use native.Mathlib.Omega.{arith}
-use Rattle.replay.proofs.Steps.{head-small, fits-transfer, tells-transfer, tells-close, tells-nothing}
+use Rattle.replay.proofs.Records.{head-small, fits-transfer, tells-transfer, tells-close, tells-nothing}
 use borrow.Author.Needs.{needs}
 use Rattle.replay.proofs.told.Statement.{statement}
 use Rattle.replay.proofs.told.Tie as tie

@@ -1,4 +1,4 @@
-use Rattle.rules.specs.Pick.{picks}
+use Rattle.rules.specs.IfElse.{ifElses}
 use Rattle.setup_arguments.specs.Arguments.{wordOf}
 use borrow.Author.Needs.{needs}
 use Rattle.setup_arguments.proofs.word_of.Statement.{statement}
@@ -12,14 +12,14 @@ signed-requires c κs = search needs
 
 returns : tie.Need-returns
 unfolding wordOf
-returns c = search picks depth 8
+returns c = search ifElses depth 8
 
 read-requires : tie.Need-read-requires
 read-requires c κs = search needs
 
 returns-2 : tie.Need-returns-2
 unfolding wordOf
-returns-2 c = search picks depth 8
+returns-2 c = search ifElses depth 8
 
 pub word-of-spec : {M : Type 1} → statement M
 word-of-spec =

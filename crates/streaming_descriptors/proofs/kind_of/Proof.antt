@@ -1,40 +1,40 @@
 use Rattle.streaming_descriptors.proofs.Subtypes.{within, below, above}
 use Rattle.streaming_descriptors.specs.Descriptors.{kindOf}
-use Rattle.rules.specs.Pick.{pick}
+use Rattle.rules.specs.IfElse.{ifElse}
 use mathlib.Core.Logic.{⊎-elim, inl, inr}
 use Rattle.streaming_descriptors.proofs.kind_of.Statement.{statement}
 use Rattle.streaming_descriptors.proofs.kind_of.Tie as tie
 
 returns : tie.Need-returns
-unfolding kindOf pick
+unfolding kindOf ifElse
 returns c = rw (c .match .keys1)
 
 returns-2 : tie.Need-returns-2
-unfolding kindOf pick
+unfolding kindOf ifElse
 returns-2 c = rw (c .match .keys2)
 
 returns-3 : tie.Need-returns-3
-unfolding kindOf pick
+unfolding kindOf ifElse
 returns-3 c = rw (c .match .keys3)
 
 returns-4 : tie.Need-returns-4
-unfolding kindOf pick
+unfolding kindOf ifElse
 returns-4 c = rw (c .match .keys4)
 
 returns-5 : tie.Need-returns-5
-unfolding kindOf pick
+unfolding kindOf ifElse
 returns-5 c = rw (c .match .keys5)
 
 returns-6 : tie.Need-returns-6
-unfolding kindOf pick
+unfolding kindOf ifElse
 returns-6 c = rw (c .match .keys6)
 
 returns-7 : tie.Need-returns-7
-unfolding kindOf pick
+unfolding kindOf ifElse
 returns-7 c = rw (c .match .keys7)
 
 returns-8 : tie.Need-returns-8
-unfolding kindOf pick
+unfolding kindOf ifElse
 returns-8 c = ⊎-elim (λ e. rw e) (λ e. rw e) (c .match .keys8)
 
 returns-9 : tie.Need-returns-9

@@ -1,19 +1,19 @@
-use Rattle.streaming_descriptors.specs.Descriptors.{layoutOf}
-use Rattle.rules.specs.Pick.{pick}
+use Rattle.streaming_descriptors.specs.Descriptors.{formatLayout}
+use Rattle.rules.specs.IfElse.{ifElse}
 use Rattle.streaming_descriptors.proofs.Subtypes.{no-layout}
 use Rattle.streaming_descriptors.proofs.layout_of.Statement.{statement}
 use Rattle.streaming_descriptors.proofs.layout_of.Tie as tie
 
 returns : tie.Need-returns
-unfolding layoutOf pick
+unfolding formatLayout ifElse
 returns c = rw (c .match .keys1)
 
 returns-2 : tie.Need-returns-2
-unfolding layoutOf pick
+unfolding formatLayout ifElse
 returns-2 c = rw (c .match .keys2)
 
 returns-3 : tie.Need-returns-3
-unfolding layoutOf pick
+unfolding formatLayout ifElse
 returns-3 c = rw (c .match .keys3)
 
 returns-4 : tie.Need-returns-4

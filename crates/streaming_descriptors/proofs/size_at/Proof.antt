@@ -1,4 +1,4 @@
-use Rattle.rules.specs.Pick.{picks}
+use Rattle.rules.specs.IfElse.{ifElses}
 use borrow.Author.Needs.{needs}
 use Rattle.streaming_descriptors.proofs.size_at.Statement.{statement}
 use Rattle.streaming_descriptors.proofs.size_at.Tie as tie
@@ -10,10 +10,10 @@ le32-requires : tie.Need-le32-requires
 le32-requires c κs = search needs
 
 returns : tie.Need-returns
-returns c = search picks
+returns c = search ifElses
 
 returns-2 : tie.Need-returns-2
-returns-2 c = search picks
+returns-2 c = search ifElses
 
 pub size-at-spec : {M : Type 1} → statement M
 size-at-spec = tie.close (tie.spec add-le32 le32-requires returns returns-2)

@@ -1,4 +1,4 @@
-use Rattle.trace.proofs.Steps.{answered-taken, answered-refused}
+use Rattle.trace.proofs.Branches.{answered-taken, answered-refused}
 use borrow.Author.Needs.{needs}
 use Rattle.trace.proofs.answered.Statement.{statement}
 use Rattle.trace.proofs.answered.Tie as tie

@@ -1,7 +1,7 @@
 use Prim.Native.Nat.{_+_, _-_}
-use Rattle.trace.proofs.Steps.{call-transfer, call-lost, call-close}
+use Rattle.trace.proofs.Branches.{call-transfer, call-lost, call-close}
 use Rattle.session.specs.Inner.{wholeOf}
-use Rattle.records.proofs.Steps.{size-least, head-few, head-most}
+use Rattle.records.proofs.Branches.{size-least, head-few, head-most}
 use native.Mathlib.Omega.{arith}
 use denote.Ref.{now}
 use borrow.Author.Needs.{needs}

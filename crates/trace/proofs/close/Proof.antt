@@ -1,5 +1,5 @@
 use denote.Ref.{now}
-use Rattle.trace.proofs.Steps.{close-refused, close-closed}
+use Rattle.trace.proofs.Branches.{close-refused, close-closed}
 use borrow.Author.Needs.{needs}
 use Rattle.trace.proofs.close.Statement.{statement}
 use Rattle.session.specs.Inner.{wholeOf}

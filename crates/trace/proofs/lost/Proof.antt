@@ -1,5 +1,5 @@
 use denote.Ref.{now}
-use Rattle.trace.proofs.Steps.{lost-refused, lost-noted}
+use Rattle.trace.proofs.Branches.{lost-refused, lost-noted}
 use borrow.Author.Needs.{needs}
 use Rattle.trace.proofs.lost.Statement.{statement}
 use Rattle.session.specs.Inner.{wholeOf}

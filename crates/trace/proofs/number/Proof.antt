@@ -1,4 +1,4 @@
-use Rattle.trace.proofs.Steps.{number-closed, number-open}
+use Rattle.trace.proofs.Branches.{number-closed, number-open}
 use borrow.Author.Needs.{needs}
 use Rattle.trace.proofs.number.Statement.{statement}
 use Rattle.trace.proofs.number.Tie as tie

@@ -1,4 +1,4 @@
-use Rattle.trace.proofs.Steps.{step-closed, step-worst, step-called}
+use Rattle.trace.proofs.Branches.{step-closed, step-worst, step-called}
 use Rattle.session.specs.Inner.{wholeOf}
 use Rattle.records.proofs.Fine.{fine}
 use denote.Ref.{now}

@@ -1,4 +1,4 @@
-use Rattle.trace.proofs.Steps.{transfer-refused, transfer-taken, transfer-handed}
+use Rattle.trace.proofs.Branches.{transfer-refused, transfer-taken, transfer-handed}
 use Rattle.session.specs.Inner.{wholeOf}
 use denote.Ref.{now}
 use borrow.Author.Needs.{needs}

@@ -1,4 +1,4 @@
-use Rattle.trace.proofs.Steps.{finish-good, finish-bad, finish-refused}
+use Rattle.trace.proofs.Branches.{finish-good, finish-bad, finish-refused}
 use borrow.Author.Needs.{needs}
 use Rattle.trace.proofs.Trace.finish.Statement.{statement}
 use Rattle.trace.proofs.Trace.finish.Tie as tie

@@ -1,4 +1,4 @@
-use Rattle.trace.proofs.Steps.{begins}
+use Rattle.trace.proofs.Branches.{begins}
 use borrow.Author.Needs.{needs}
 use Rattle.trace.proofs.Trace.new.Statement.{statement}
 use Rattle.trace.proofs.Trace.new.Tie as tie
