@@ -5,25 +5,25 @@ use mathlib.Core.Bool.{Bool, true, false, true≢false}
 use mathlib.Core.List.{List, [], _∷_, _++_, map, append-assoc, append-nil}
 use native.Mathlib.Omega.{arith}
 use Rattle.sizes.specs.declared.Opening.{Opening}
-use Rattle.payload.specs.declared.Header.{Header}
-use Rattle.payload.specs.declared.Reading.the-variants.{Readable}
-use Rattle.payload.specs.Transfer.{readingOf}
-use Rattle.frames.specs.declared.Phase.{Phase}
-use Rattle.frames.specs.declared.Phase.the-variants.{Fresh, Under, Past}
-use Rattle.frames.specs.declared.Delivery.{Delivery}
-use Rattle.frames.specs.declared.Ended.{Ended}
-use Rattle.frames.specs.declared.Ended.the-variants.{Nothing, Frame}
-use Rattle.frames.specs.declared.Answer.{Answer}
-use Rattle.frames.specs.Track.{handing}
-use Rattle.frames.specs.Inner.{outBy, outOf}
-use Rattle.ledger.specs.declared.Ledger.{Ledger}
-use Rattle.ledger.specs.Entry.{Entry}
-use Rattle.ledger.specs.Accounts.{placeOf}
-use Rattle.session.specs.declared.Session.{Session}
-use Rattle.session.specs.declared.Outcome.{Outcome}
-use Rattle.session.specs.Session.{fresh, handedOf}
-use Rattle.session.specs.Call.{Ask, Call}
-use Rattle.session.specs.Calls.{Offer, refusal, next, after, callBy, callOf, unless, taken, run, offers, offerWith}
+use Rattle.session_rules.specs.declared.Header.{Header}
+use Rattle.session_rules.specs.declared.Reading.the-variants.{Readable}
+use Rattle.session_rules.specs.Transfer.{readingOf}
+use Rattle.session_rules.specs.declared.Phase.{Phase}
+use Rattle.session_rules.specs.declared.Phase.the-variants.{Fresh, Under, Past}
+use Rattle.session_rules.specs.declared.Delivery.{Delivery}
+use Rattle.session_rules.specs.declared.Ended.{Ended}
+use Rattle.session_rules.specs.declared.Ended.the-variants.{Nothing, Frame}
+use Rattle.session_rules.specs.declared.Answer.{Answer}
+use Rattle.session_rules.specs.Track.{handing}
+use Rattle.session_rules.specs.Turns.{outBy, outOf}
+use Rattle.session_rules.specs.declared.Ledger.{Ledger}
+use Rattle.session_rules.specs.Entry.{Entry}
+use Rattle.session_rules.specs.Accounts.{placeOf}
+use Rattle.session_rules.specs.declared.Session.{Session}
+use Rattle.session_rules.specs.declared.Outcome.{Outcome}
+use Rattle.session_rules.specs.Session.{fresh, handedOf}
+use Rattle.session_rules.specs.Call.{Ask, Call}
+use Rattle.session_rules.specs.Calls.{Offer, refusal, next, after, callBy, callOf, unless, taken, run, offers, offerWith}
 use Rattle.books.specs.Rule.{Event, idle, unreadable, missing, readable, mark, eventBy, events, isOpen, Item, entryOf, framesBy, loose, entries, lostLine, idleLine, oneIn, partIn, total, stamps, untimed, forward, back, between}
 use Rattle.books.specs.Demands.{Right, UnderWay, endedItems, fateItems}
 use Rattle.books.specs.LastReadable.{LastFid, none, lastFid, spoiltSince, Other}

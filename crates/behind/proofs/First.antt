@@ -8,22 +8,22 @@ use native.Mathlib.Omega.{arith}
 use lib.ListN.{length, take, drop, length-drop}
 use lib.Seq.{paste}
 use Rattle.sizes.specs.declared.Opening.{Opening}
-use Rattle.payload.specs.declared.Header.{Header}
-use Rattle.payload.specs.declared.Reading.{Reading}
-use Rattle.payload.specs.declared.Reading.the-variants.{Readable}
-use Rattle.payload.specs.Transfer.{readingOf}
-use Rattle.frames.specs.declared.Phase.{Phase}
-use Rattle.frames.specs.declared.Phase.the-variants.{Fresh, Under, Past}
-use Rattle.frames.specs.declared.Track.{Track}
-use Rattle.frames.specs.declared.Turn.{Turn}
-use Rattle.frames.specs.declared.Ended.the-variants.{Nothing}
-use Rattle.frames.specs.declared.Answer.{Answer}
-use Rattle.frames.specs.declared.HandOut.{HandOut}
-use Rattle.frames.specs.Inner.{turnBy, turnOf, handsBy, handsOf, outBy, outOf}
-use Rattle.session.specs.declared.Session.{Session}
-use Rattle.session.specs.declared.Outcome.{Outcome}
-use Rattle.session.specs.Call.{Ask}
-use Rattle.session.specs.Calls.{Offer, refusal}
+use Rattle.session_rules.specs.declared.Header.{Header}
+use Rattle.session_rules.specs.declared.Reading.{Reading}
+use Rattle.session_rules.specs.declared.Reading.the-variants.{Readable}
+use Rattle.session_rules.specs.Transfer.{readingOf}
+use Rattle.session_rules.specs.declared.Phase.{Phase}
+use Rattle.session_rules.specs.declared.Phase.the-variants.{Fresh, Under, Past}
+use Rattle.session_rules.specs.declared.Track.{Track}
+use Rattle.session_rules.specs.declared.Turn.{Turn}
+use Rattle.session_rules.specs.declared.Ended.the-variants.{Nothing}
+use Rattle.session_rules.specs.declared.Answer.{Answer}
+use Rattle.session_rules.specs.declared.HandOut.{HandOut}
+use Rattle.session_rules.specs.Turns.{turnBy, turnOf, handsBy, handsOf, outBy, outOf}
+use Rattle.session_rules.specs.declared.Session.{Session}
+use Rattle.session_rules.specs.declared.Outcome.{Outcome}
+use Rattle.session_rules.specs.Call.{Ask}
+use Rattle.session_rules.specs.Calls.{Offer, refusal}
 use Rattle.books.specs.LastReadable.{LastFid, Other}
 use Rattle.books.specs.Alike.{OpenedAlike, At, onward, NoneRefused, Said, saidOf, fateLength, fillOf, wayOf, Same}
 use Rattle.books.proofs.Openings.{alike-moved, reads-alike, turn-alike}

@@ -5,15 +5,15 @@ use mathlib.Core.Path.{_≡_}
 use mathlib.Core.List.{List, [], _∷_, _++_, map}
 use lib.ListN.{getD}
 use Rattle.sizes.specs.declared.Opening.{Opening}
-use Rattle.ledger.specs.declared.Account.{Account}
-use Rattle.ledger.specs.declared.Ledger.{Ledger}
-use Rattle.ledger.specs.Entry.{Entry}
-use Rattle.ledger.specs.Ledger.{countOf, bytesOf}
-use Rattle.ledger.specs.Accounts.{placeOf, lostAt, idleAt, ticksAt, backwardAt, untimedAt}
-use Rattle.session.specs.Refusals.{ledgerOf}
-use Rattle.session.specs.Session.{fresh}
-use Rattle.session.specs.Call.{Ask, Call}
-use Rattle.session.specs.Calls.{Offer, after}
+use Rattle.session_rules.specs.declared.Account.{Account}
+use Rattle.session_rules.specs.declared.Ledger.{Ledger}
+use Rattle.session_rules.specs.Entry.{Entry}
+use Rattle.session_rules.specs.Ledger.{countOf, bytesOf}
+use Rattle.session_rules.specs.Accounts.{placeOf, lostAt, idleAt, ticksAt, backwardAt, untimedAt}
+use Rattle.session_rules.specs.Refusals.{ledgerOf}
+use Rattle.session_rules.specs.Session.{fresh}
+use Rattle.session_rules.specs.Call.{Ask, Call}
+use Rattle.session_rules.specs.Calls.{Offer, after}
 use Rattle.books.specs.Rule.{Item, entryOf, events, framesBy, loose, entries, lostLine, idleLine, oneIn, partIn, total, stamps, untimed, forward, back, between}
 use Rattle.books.specs.Demands.{UnderWay}
 use Rattle.books.specs.Offers.{listOf}

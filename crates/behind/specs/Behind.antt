@@ -6,14 +6,14 @@ use mathlib.Core.Bool.{Bool, false}
 use mathlib.Core.List.{List, [], _∷_, _++_}
 use lib.ListN.{take}
 use Rattle.sizes.specs.declared.Opening.{Opening}
-use Rattle.frames.specs.declared.Phase.{Phase}
-use Rattle.frames.specs.declared.Phase.the-variants.{Fresh, Under, Past}
-use Rattle.frames.specs.declared.Answer.{Answer}
-use Rattle.session.specs.declared.Session.{Session}
-use Rattle.session.specs.declared.Outcome.{Outcome}
-use Rattle.session.specs.Session.{fresh}
-use Rattle.session.specs.Call.{Ask, Call}
-use Rattle.session.specs.Calls.{Offer, after, offers}
+use Rattle.session_rules.specs.declared.Phase.{Phase}
+use Rattle.session_rules.specs.declared.Phase.the-variants.{Fresh, Under, Past}
+use Rattle.session_rules.specs.declared.Answer.{Answer}
+use Rattle.session_rules.specs.declared.Session.{Session}
+use Rattle.session_rules.specs.declared.Outcome.{Outcome}
+use Rattle.session_rules.specs.Session.{fresh}
+use Rattle.session_rules.specs.Call.{Ask, Call}
+use Rattle.session_rules.specs.Calls.{Offer, after, offers}
 use Rattle.books.specs.Rule.{events}
 use Rattle.books.specs.LastReadable.{none, of, lastFid, spoiltSince}
 use Rattle.books.specs.Alike.{At, onward, Said, saidOf, fateLength, wayOf, heard}

@@ -9,37 +9,37 @@ use lib.ListN.{length, drop, getD-replicate}
 use lib.Dec.{eqb}
 use borrow.Author.Tests.{ne-eqb, eqb-true, eqb-false}
 use Rattle.sizes.specs.declared.Opening.{Opening}
-use Rattle.payload.specs.declared.Stamp.{Stamp}
-use Rattle.payload.specs.declared.Reading.{Reading}
-use Rattle.payload.specs.declared.Reading.the-variants.{Idle, Unreadable, Readable}
-use Rattle.payload.specs.Transfer.{readingOf}
-use Rattle.frames.specs.declared.Reason.{Reason}
-use Rattle.frames.specs.declared.Phase.{Phase}
-use Rattle.frames.specs.declared.Phase.the-variants.{Fresh, Under, Past}
-use Rattle.frames.specs.declared.Ended.{Ended}
-use Rattle.frames.specs.declared.Ended.the-variants.{Nothing, Frame}
-use Rattle.frames.specs.declared.Fate.{Fate}
-use Rattle.frames.specs.declared.Turn.{Turn}
-use Rattle.frames.specs.declared.HandOut.{HandOut}
-use Rattle.frames.specs.Track.{underCount, underBytes, handing}
-use Rattle.ledger.specs.declared.Ledger.{Ledger}
-use Rattle.ledger.specs.Entry.{Entry}
-use Rattle.ledger.specs.Ledger.{noLedger}
-use Rattle.session.specs.declared.Session.{Session}
-use Rattle.session.specs.Refusals.{postedOf, ledgerOf}
-use Rattle.session.specs.Session.{fresh}
+use Rattle.session_rules.specs.declared.Stamp.{Stamp}
+use Rattle.session_rules.specs.declared.Reading.{Reading}
+use Rattle.session_rules.specs.declared.Reading.the-variants.{Idle, Unreadable, Readable}
+use Rattle.session_rules.specs.Transfer.{readingOf}
+use Rattle.session_rules.specs.declared.Reason.{Reason}
+use Rattle.session_rules.specs.declared.Phase.{Phase}
+use Rattle.session_rules.specs.declared.Phase.the-variants.{Fresh, Under, Past}
+use Rattle.session_rules.specs.declared.Ended.{Ended}
+use Rattle.session_rules.specs.declared.Ended.the-variants.{Nothing, Frame}
+use Rattle.session_rules.specs.declared.Fate.{Fate}
+use Rattle.session_rules.specs.declared.Turn.{Turn}
+use Rattle.session_rules.specs.declared.HandOut.{HandOut}
+use Rattle.session_rules.specs.Track.{underCount, underBytes, handing}
+use Rattle.session_rules.specs.declared.Ledger.{Ledger}
+use Rattle.session_rules.specs.Entry.{Entry}
+use Rattle.session_rules.specs.Ledger.{noLedger}
+use Rattle.session_rules.specs.declared.Session.{Session}
+use Rattle.session_rules.specs.Refusals.{postedOf, ledgerOf}
+use Rattle.session_rules.specs.Session.{fresh}
 use Rattle.books.specs.Rule.{Event, idle, unreadable, missing, readable, mark, events, Item, entryOf, framesBy, loose, entries, lostLine, idleLine, oneIn, partIn, total, stamps, lastStamped, untimed, forward, back, between}
 use Rattle.books.specs.Demands.{Right, endedItems, fateItems}
 use Rattle.books.proofs.Made.{base, turnItems}
 use Rattle.books.proofs.Posts.{posts-sized, since, stampIn, gain, place-law, step-law, count-gain, bytes-gain, single-gain, total-append, last-law}
 use Rattle.books.proofs.Taken.{Proper}
 use Rattle.books.proofs.History.{itemsBy, callItems, dataNext, items, dataRun, afoot, items-right, posted, run-posts, posted-total, posted-stamps, map-append, stamps-append}
-use Rattle.ledger.specs.Accounts.{accountCount, numberCount, underAt, accountFor, placeOf, countAt, bytesAt, lostAt, idleAt, ticksAt, backwardAt, untimedAt}
-use Rattle.ledger.proofs.Places.{at, Sized, place-lt, shown-other, shown-single, shown-count, shown-bytes}
-use Rattle.ledger.proofs.Rooms.{not-under-way}
-use Rattle.frames.specs.Inner.{turnOf, outBy, closedOf}
-use Rattle.session.specs.Call.{Call}
-use Rattle.session.specs.Calls.{nextCall, run}
+use Rattle.session_rules.specs.Accounts.{accountCount, numberCount, underAt, accountFor, placeOf, countAt, bytesAt, lostAt, idleAt, ticksAt, backwardAt, untimedAt}
+use Rattle.session_rules.proofs.Places.{at, Sized, place-lt, shown-other, shown-single, shown-count, shown-bytes}
+use Rattle.session_rules.proofs.Places.{not-under-way}
+use Rattle.session_rules.specs.Turns.{turnOf, outBy, closedOf}
+use Rattle.session_rules.specs.Call.{Call}
+use Rattle.session_rules.specs.Calls.{nextCall, run}
 
 -- ---- a measure that is nothing but of a frame under way
 abbrev Settled : Entry → Type 0

@@ -3,17 +3,17 @@ use Prim.Native.Nat.{ℕ, _-_}
 use mathlib.Core.Path.{_≡_, refl, sym, ap, _∙_}
 use mathlib.Core.List.{List, [], _∷_, _++_, append-assoc}
 use lib.ListN.{length, drop}
-use Rattle.payload.specs.declared.Header.{Header}
-use Rattle.payload.specs.declared.Reading.{Reading}
-use Rattle.payload.specs.declared.Reading.the-variants.{Idle, Unreadable, Readable}
-use Rattle.payload.specs.Transfer.{readingOf}
-use Rattle.frames.specs.declared.Track.{Track}
-use Rattle.frames.specs.declared.Turn.{Turn}
-use Rattle.frames.specs.Inner.{turnOf, handsOf, spoiltOf, outOf, closedOf}
-use Rattle.session.specs.declared.Session.{Session}
-use Rattle.session.specs.Session.{readOf, tookBy, tookOf, handsFor, handsOut, handedOf}
-use Rattle.session.specs.Call.{Call}
-use Rattle.session.specs.Calls.{nextCall, run}
+use Rattle.session_rules.specs.declared.Header.{Header}
+use Rattle.session_rules.specs.declared.Reading.{Reading}
+use Rattle.session_rules.specs.declared.Reading.the-variants.{Idle, Unreadable, Readable}
+use Rattle.session_rules.specs.Transfer.{readingOf}
+use Rattle.session_rules.specs.declared.Track.{Track}
+use Rattle.session_rules.specs.declared.Turn.{Turn}
+use Rattle.session_rules.specs.Turns.{turnOf, handsOf, spoiltOf, outOf, closedOf}
+use Rattle.session_rules.specs.declared.Session.{Session}
+use Rattle.session_rules.specs.Session.{readOf, tookBy, tookOf, handsFor, handsOut, handedOf}
+use Rattle.session_rules.specs.Call.{Call}
+use Rattle.session_rules.specs.Calls.{nextCall, run}
 use Rattle.books.specs.Alike.{OpenedAlike}
 use Rattle.books.proofs.Made.{base, turnItems}
 use Rattle.books.proofs.Taken.{Proper}

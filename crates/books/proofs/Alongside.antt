@@ -7,19 +7,19 @@ use native.Mathlib.Omega.{arith}
 use lib.ListN.{length, take, drop, length-drop}
 use lib.Seq.{paste, paste-zero}
 use Rattle.sizes.specs.declared.Opening.{Opening}
-use Rattle.payload.specs.declared.Reading.{Reading}
-use Rattle.payload.specs.declared.Reading.the-variants.{Idle, Unreadable, Readable}
-use Rattle.payload.specs.Transfer.{readingOf}
-use Rattle.frames.specs.declared.Phase.{Phase}
-use Rattle.frames.specs.declared.Phase.the-variants.{Fresh, Under, Past}
-use Rattle.frames.specs.declared.Track.{Track}
-use Rattle.frames.specs.declared.Turn.{Turn}
-use Rattle.frames.specs.Inner.{turnOf, handsOf, outOf, outBy, spoiltBy, spoiltOf, closedBy, closedOf}
-use Rattle.session.specs.declared.Report.{Report}
-use Rattle.session.specs.declared.Closing.{Closing}
-use Rattle.session.specs.Session.{lostBy, lostOf, closeBy, closeOf}
-use Rattle.session.specs.Call.{Ask}
-use Rattle.session.specs.Calls.{Offer, refusal, offerWith}
+use Rattle.session_rules.specs.declared.Reading.{Reading}
+use Rattle.session_rules.specs.declared.Reading.the-variants.{Idle, Unreadable, Readable}
+use Rattle.session_rules.specs.Transfer.{readingOf}
+use Rattle.session_rules.specs.declared.Phase.{Phase}
+use Rattle.session_rules.specs.declared.Phase.the-variants.{Fresh, Under, Past}
+use Rattle.session_rules.specs.declared.Track.{Track}
+use Rattle.session_rules.specs.declared.Turn.{Turn}
+use Rattle.session_rules.specs.Turns.{turnOf, handsOf, outOf, outBy, spoiltBy, spoiltOf, closedBy, closedOf}
+use Rattle.session_rules.specs.declared.Report.{Report}
+use Rattle.session_rules.specs.declared.Closing.{Closing}
+use Rattle.session_rules.specs.Session.{lostBy, lostOf, closeBy, closeOf}
+use Rattle.session_rules.specs.Call.{Ask}
+use Rattle.session_rules.specs.Calls.{Offer, refusal, offerWith}
 use Rattle.books.proofs.Sound.{Fit}
 use Rattle.books.specs.Alike.{OpenedAlike, At, onward, NoneRefused, Said, saidOf, outLength, fillOf, wayOf, hears, heard, Same}
 use Rattle.books.proofs.Openings.{alike-moved, reads-alike, hands-alike, turn-alike}

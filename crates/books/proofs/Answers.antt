@@ -7,33 +7,33 @@ use native.Mathlib.Omega.{arith}
 use lib.ListN.{length}
 use Rattle.rules.specs.Numbered.{firstRow}
 use Rattle.sizes.specs.declared.Opening.{Opening}
-use Rattle.payload.specs.declared.Reading.{Reading}
-use Rattle.payload.specs.declared.Reading.the-variants.{Idle, Unreadable, Readable}
-use Rattle.payload.specs.Transfer.{readingOf}
-use Rattle.frames.specs.declared.Phase.{Phase}
-use Rattle.frames.specs.declared.Phase.the-variants.{Fresh, Under, Past}
-use Rattle.frames.specs.declared.Ended.{Ended}
-use Rattle.frames.specs.declared.Fate.{Fate}
-use Rattle.frames.specs.declared.Answer.{Answer}
-use Rattle.frames.specs.declared.Turn.{Turn}
-use Rattle.frames.specs.declared.HandOut.{HandOut}
-use Rattle.frames.specs.Track.{handing}
-use Rattle.session.specs.declared.Session.{Session}
-use Rattle.session.specs.declared.Outcome.{Outcome}
-use Rattle.session.specs.declared.Report.{Report}
-use Rattle.session.specs.declared.Closing.{Closing}
-use Rattle.session.specs.Refusals.{takeRows, lostRows, closeRows}
-use Rattle.session.specs.Session.{fresh, plainly, readOf, tookBy, tookOf, handsOut, handedOf, metBy, takeBy, takeOf, lostBy, lostOf, closeBy, closeOf}
+use Rattle.session_rules.specs.declared.Reading.{Reading}
+use Rattle.session_rules.specs.declared.Reading.the-variants.{Idle, Unreadable, Readable}
+use Rattle.session_rules.specs.Transfer.{readingOf}
+use Rattle.session_rules.specs.declared.Phase.{Phase}
+use Rattle.session_rules.specs.declared.Phase.the-variants.{Fresh, Under, Past}
+use Rattle.session_rules.specs.declared.Ended.{Ended}
+use Rattle.session_rules.specs.declared.Fate.{Fate}
+use Rattle.session_rules.specs.declared.Answer.{Answer}
+use Rattle.session_rules.specs.declared.Turn.{Turn}
+use Rattle.session_rules.specs.declared.HandOut.{HandOut}
+use Rattle.session_rules.specs.Track.{handing}
+use Rattle.session_rules.specs.declared.Session.{Session}
+use Rattle.session_rules.specs.declared.Outcome.{Outcome}
+use Rattle.session_rules.specs.declared.Report.{Report}
+use Rattle.session_rules.specs.declared.Closing.{Closing}
+use Rattle.session_rules.specs.Refusals.{takeRows, lostRows, closeRows}
+use Rattle.session_rules.specs.Session.{fresh, plainly, readOf, tookBy, tookOf, handsOut, handedOf, metBy, takeBy, takeOf, lostBy, lostOf, closeBy, closeOf}
 use Rattle.books.specs.Rule.{Item, framesBy}
 use Rattle.books.specs.Demands.{endedItems, fateItems, UnderWay, Gains, Says}
 use Rattle.books.specs.Demands
 use Rattle.books.proofs.Taken.{after-run, listed, taken-proper, Proper}
 use Rattle.books.proofs.History.{itemsBy, dataBy, callItems, dataNext, items, dataRun, afoot}
 use Rattle.books.proofs.Accounts.{frames-made}
-use Rattle.frames.specs.Inner.{turnOf, outBy, outOf, closedOf}
-use Rattle.session.specs.Call.{Call}
-use Rattle.session.proofs.Refused.{took-taken}
-use Rattle.session.specs.Calls.{Offer, refusal, next, after, callOf, unless, taken, nextCall, run}
+use Rattle.session_rules.specs.Turns.{turnOf, outBy, outOf, closedOf}
+use Rattle.session_rules.specs.Call.{Call}
+use Rattle.session_rules.proofs.Refused.{took-taken}
+use Rattle.session_rules.specs.Calls.{Offer, refusal, next, after, callOf, unless, taken, nextCall, run}
 
 -- ---- one call more
 abbrev pub and : List Call → Call → List Call

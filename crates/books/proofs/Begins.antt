@@ -6,24 +6,24 @@ use mathlib.Core.List.{List, [], _∷_, _++_, append-assoc, append-nil}
 use lib.ListN.{length}
 use Rattle.rules.specs.IfElse.{ifElse}
 use Rattle.sizes.specs.declared.Opening.{Opening}
-use Rattle.payload.specs.declared.Header.{Header}
-use Rattle.payload.specs.declared.Reading.{Reading}
-use Rattle.payload.specs.declared.Reading.the-variants.{Idle, Unreadable, Readable}
-use Rattle.payload.specs.Transfer.{readingOf}
-use Rattle.frames.specs.declared.Phase.{Phase}
-use Rattle.frames.specs.declared.Phase.the-variants.{Fresh, Under, Past}
-use Rattle.frames.specs.declared.Ended.{Ended}
-use Rattle.frames.specs.declared.Ended.the-variants.{Nothing, Frame}
-use Rattle.frames.specs.declared.Run.{Run}
-use Rattle.frames.specs.declared.Track.{Track}
-use Rattle.frames.specs.declared.Turn.{Turn}
-use Rattle.frames.specs.declared.Delivery.{Delivery}
-use Rattle.frames.specs.Inner.{sameOf, whyOf, begunOf, endsOf, turnedWhy, phaseOf, joinTurn, strayTurn, turnBy, turnOf, handsOf, outBy, outOf, spoiltBy, spoiltOf}
-use Rattle.ledger.specs.Entry.{Entry}
-use Rattle.session.specs.declared.Session.{Session}
-use Rattle.session.specs.Session.{fresh, readOf, tookBy, tookOf, handsFor, handsOut, handedOf}
-use Rattle.session.specs.Call.{Call}
-use Rattle.session.specs.Calls.{nextCall, run}
+use Rattle.session_rules.specs.declared.Header.{Header}
+use Rattle.session_rules.specs.declared.Reading.{Reading}
+use Rattle.session_rules.specs.declared.Reading.the-variants.{Idle, Unreadable, Readable}
+use Rattle.session_rules.specs.Transfer.{readingOf}
+use Rattle.session_rules.specs.declared.Phase.{Phase}
+use Rattle.session_rules.specs.declared.Phase.the-variants.{Fresh, Under, Past}
+use Rattle.session_rules.specs.declared.Ended.{Ended}
+use Rattle.session_rules.specs.declared.Ended.the-variants.{Nothing, Frame}
+use Rattle.session_rules.specs.declared.Run.{Run}
+use Rattle.session_rules.specs.declared.Track.{Track}
+use Rattle.session_rules.specs.declared.Turn.{Turn}
+use Rattle.session_rules.specs.declared.Delivery.{Delivery}
+use Rattle.session_rules.specs.Turns.{sameOf, whyOf, begunOf, endsOf, turnedWhy, phaseOf, joinTurn, strayTurn, turnBy, turnOf, handsOf, outBy, outOf, spoiltBy, spoiltOf}
+use Rattle.session_rules.specs.Entry.{Entry}
+use Rattle.session_rules.specs.declared.Session.{Session}
+use Rattle.session_rules.specs.Session.{fresh, readOf, tookBy, tookOf, handsFor, handsOut, handedOf}
+use Rattle.session_rules.specs.Call.{Call}
+use Rattle.session_rules.specs.Calls.{nextCall, run}
 use Rattle.books.specs.Rule.{Event, eventBy, events, isOpen, Item, framesBy}
 use Rattle.books.specs.Demands.{endedItems}
 use Rattle.books.proofs.Made.{base}

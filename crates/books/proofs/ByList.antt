@@ -6,25 +6,25 @@ use mathlib.Core.List.{List, [], _∷_, _++_, append-assoc, append-nil}
 use lib.ListN.{length, drop, length-drop}
 use Rattle.sizes.specs.declared.Opening.{Opening}
 use Rattle.sizes.specs.Framing.{byEof}
-use Rattle.payload.specs.declared.Header.{Header}
-use Rattle.payload.specs.declared.Reading.{Reading}
-use Rattle.payload.specs.declared.Reading.the-variants.{Idle, Unreadable, Readable}
-use Rattle.payload.specs.Transfer.{readingOf}
-use Rattle.frames.specs.declared.Reason.the-variants.{Gap}
-use Rattle.frames.specs.declared.Fault.the-variants.{Bad}
-use Rattle.frames.specs.declared.Phase.{Phase}
-use Rattle.frames.specs.declared.Phase.the-variants.{Fresh, Under, Past}
-use Rattle.frames.specs.declared.Ended.the-variants.{Nothing}
-use Rattle.frames.specs.declared.Turn.{Turn}
-use Rattle.frames.specs.Inner.{turnOf, handsBy, handsOf, outOf, spoiltBy, spoiltOf, closedBy, closedOf}
-use Rattle.frames.specs.Inner as track
-use Rattle.session.specs.declared.Session.{Session}
-use Rattle.session.specs.declared.Outcome.{Outcome}
-use Rattle.session.specs.declared.Report.{Report}
-use Rattle.session.specs.declared.Closing.{Closing}
-use Rattle.session.specs.Session.{fresh, readOf, tookBy, tookOf, handsFor, handsOut, handedOf, metBy, metBufferBy, missedOf, takeBy, takeOf, tookBufferBy, tookBuffer, bufferBy, bufferOf, lostBy, lostOf, closeBy, closeOf}
-use Rattle.session.specs.Call.{Call}
-use Rattle.session.specs.Calls.{Offer, refusal, after, callOf, taken, nextCall, run}
+use Rattle.session_rules.specs.declared.Header.{Header}
+use Rattle.session_rules.specs.declared.Reading.{Reading}
+use Rattle.session_rules.specs.declared.Reading.the-variants.{Idle, Unreadable, Readable}
+use Rattle.session_rules.specs.Transfer.{readingOf}
+use Rattle.session_rules.specs.declared.Reason.the-variants.{Gap}
+use Rattle.session_rules.specs.declared.Fault.the-variants.{Bad}
+use Rattle.session_rules.specs.declared.Phase.{Phase}
+use Rattle.session_rules.specs.declared.Phase.the-variants.{Fresh, Under, Past}
+use Rattle.session_rules.specs.declared.Ended.the-variants.{Nothing}
+use Rattle.session_rules.specs.declared.Turn.{Turn}
+use Rattle.session_rules.specs.Turns.{turnOf, handsBy, handsOf, outOf, spoiltBy, spoiltOf, closedBy, closedOf}
+use Rattle.session_rules.specs.Turns as track
+use Rattle.session_rules.specs.declared.Session.{Session}
+use Rattle.session_rules.specs.declared.Outcome.{Outcome}
+use Rattle.session_rules.specs.declared.Report.{Report}
+use Rattle.session_rules.specs.declared.Closing.{Closing}
+use Rattle.session_rules.specs.Session.{fresh, readOf, tookBy, tookOf, handsFor, handsOut, handedOf, metBy, metBufferBy, missedOf, takeBy, takeOf, tookBufferBy, tookBuffer, bufferBy, bufferOf, lostBy, lostOf, closeBy, closeOf}
+use Rattle.session_rules.specs.Call.{Call}
+use Rattle.session_rules.specs.Calls.{Offer, refusal, after, callOf, taken, nextCall, run}
 use Rattle.books.specs.Rule.{Event, idle, unreadable, missing, readable, mark, eventBy, events, isOpen, Seen, _or_, fault}
 use Rattle.books.specs.Answer.{lastRun, endedIn, turnedIn, endingOf, goesOn, fateOn, with, answerFor, answerOf, hands, outcomeOf, writtenFor, writtenOf}
 use Rattle.books.specs.Answer as rule

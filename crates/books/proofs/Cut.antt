@@ -9,23 +9,23 @@ use borrow.Author.Tests.{eq-eqb}
 use Rattle.rules.specs.IfElse.{ifElse}
 use Rattle.sizes.specs.declared.Opening.{Opening}
 use Rattle.sizes.specs.Framing.{byEof}
-use Rattle.payload.specs.declared.Header.{Header}
-use Rattle.payload.specs.declared.Stamp.{Stamp}
-use Rattle.payload.specs.declared.Stamp.the-variants.{Absent, At}
-use Rattle.payload.specs.declared.Layer.{Layer}
-use Rattle.frames.specs.declared.Reason.{Reason}
-use Rattle.frames.specs.declared.Reason.the-variants.{Gap, Error, Clock, Mixed, Long, Empty}
-use Rattle.frames.specs.declared.Fault.{Fault}
-use Rattle.frames.specs.declared.Fault.the-variants.{Sound, Bad}
-use Rattle.frames.specs.declared.Run.{Run}
-use Rattle.frames.specs.declared.Phase.{Phase}
-use Rattle.frames.specs.declared.Phase.the-variants.{Fresh, Under, Past}
-use Rattle.frames.specs.declared.Fate.{Fate}
-use Rattle.frames.specs.declared.Delivery.{Delivery}
-use Rattle.ledger.specs.Entry.{Entry}
+use Rattle.session_rules.specs.declared.Header.{Header}
+use Rattle.session_rules.specs.declared.Stamp.{Stamp}
+use Rattle.session_rules.specs.declared.Stamp.the-variants.{Absent, At}
+use Rattle.session_rules.specs.declared.Layer.{Layer}
+use Rattle.session_rules.specs.declared.Reason.{Reason}
+use Rattle.session_rules.specs.declared.Reason.the-variants.{Gap, Error, Clock, Mixed, Long, Empty}
+use Rattle.session_rules.specs.declared.Fault.{Fault}
+use Rattle.session_rules.specs.declared.Fault.the-variants.{Sound, Bad}
+use Rattle.session_rules.specs.declared.Run.{Run}
+use Rattle.session_rules.specs.declared.Phase.{Phase}
+use Rattle.session_rules.specs.declared.Phase.the-variants.{Fresh, Under, Past}
+use Rattle.session_rules.specs.declared.Fate.{Fate}
+use Rattle.session_rules.specs.declared.Delivery.{Delivery}
+use Rattle.session_rules.specs.Entry.{Entry}
 use Rattle.books.specs.Rule.{Seen, ahead, runs, frameOf, strayOf, closed, dataOf, _orStamp_, firstStamp, _thenLayer_, lastLayer, _or_, when, differs, mixes, faultAt, faultFrom, Item, handedOut, settled, strays, nothing, judged}
 use Rattle.books.specs.Demands.{fateItems}
-use Rattle.frames.specs.Inner.{firstOf, clashOf, earlierOf, laterOf, sameOf, mixedOf, faultOf, joinedOf, completeOf, endsOf, fateOf, phaseOf}
+use Rattle.session_rules.specs.Turns.{firstOf, clashOf, earlierOf, laterOf, sameOf, mixedOf, faultOf, joinedOf, completeOf, endsOf, fateOf, phaseOf}
 
 abbrev pub first : Bool → List Seen → List Seen
 first f [] = []

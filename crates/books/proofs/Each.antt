@@ -5,19 +5,19 @@ use mathlib.Core.Bool.{Bool, true, false, cond, _&&_}
 use mathlib.Core.List.{List, [], _∷_, _++_, map}
 use lib.ListN.{length}
 use Rattle.sizes.specs.declared.Opening.{Opening}
-use Rattle.payload.specs.declared.Header.{Header}
-use Rattle.payload.specs.declared.Reading.{Reading}
-use Rattle.payload.specs.declared.Reading.the-variants.{Idle, Unreadable, Readable}
-use Rattle.payload.specs.Transfer.{readingOf}
-use Rattle.frames.specs.declared.Ended.{Ended}
-use Rattle.frames.specs.declared.Ended.the-variants.{Nothing}
-use Rattle.frames.specs.declared.Fate.{Fate}
-use Rattle.frames.specs.declared.HandOut.{HandOut}
-use Rattle.ledger.specs.Entry.{Entry}
-use Rattle.session.specs.declared.Outcome.{Outcome}
-use Rattle.session.specs.Call.{Call}
-use Rattle.session.specs.Calls.{Offer, refusal, after, taken}
-use Rattle.session.specs.Session.{fresh, takeBy, takeOf}
+use Rattle.session_rules.specs.declared.Header.{Header}
+use Rattle.session_rules.specs.declared.Reading.{Reading}
+use Rattle.session_rules.specs.declared.Reading.the-variants.{Idle, Unreadable, Readable}
+use Rattle.session_rules.specs.Transfer.{readingOf}
+use Rattle.session_rules.specs.declared.Ended.{Ended}
+use Rattle.session_rules.specs.declared.Ended.the-variants.{Nothing}
+use Rattle.session_rules.specs.declared.Fate.{Fate}
+use Rattle.session_rules.specs.declared.HandOut.{HandOut}
+use Rattle.session_rules.specs.Entry.{Entry}
+use Rattle.session_rules.specs.declared.Outcome.{Outcome}
+use Rattle.session_rules.specs.Call.{Call}
+use Rattle.session_rules.specs.Calls.{Offer, refusal, after, taken}
+use Rattle.session_rules.specs.Session.{fresh, takeBy, takeOf}
 use Rattle.books.specs.Rule.{Event, idle, unreadable, missing, readable, mark, eventBy, events, isOpen, Seen, readables, same, ahead, runs, closes, frameOf, strayOf, closed, complete, dataOf, firstStamp, lastLayer, stillOf, fault, verdict, strays, judge, nothing, judged, entryOf, framesBy}
 use Rattle.books.specs.Answer.{lastOf, lastRun, frameEntry, reasonIn, endedIn, turnedIn, endingOf, goesOn, fateIn, fateBy, with, answerFor, hands, outOf, answerOf}
 use Rattle.books.specs.Demands.{EachHeader, EachEntry}

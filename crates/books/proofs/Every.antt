@@ -5,14 +5,14 @@ use mathlib.Core.List.{List}
 use mathlib.Core.Logic.{_↔_}
 use lib.ListN.{length}
 use Rattle.sizes.specs.declared.Opening.{Opening}
-use Rattle.frames.specs.declared.HandOut.{HandOut}
-use Rattle.session.specs.declared.Session.{Session}
-use Rattle.session.specs.declared.Outcome.{Outcome}
-use Rattle.session.specs.declared.Report.{Report}
-use Rattle.session.specs.declared.Closing.{Closing}
-use Rattle.session.specs.Session.{fresh, takeBy, takeOf, bufferBy, bufferOf, lostBy, lostOf, closeBy, closeOf}
-use Rattle.session.specs.Call.{Call}
-use Rattle.session.specs.Calls.{Offer, refusal, next, after, nextCall}
+use Rattle.session_rules.specs.declared.HandOut.{HandOut}
+use Rattle.session_rules.specs.declared.Session.{Session}
+use Rattle.session_rules.specs.declared.Outcome.{Outcome}
+use Rattle.session_rules.specs.declared.Report.{Report}
+use Rattle.session_rules.specs.declared.Closing.{Closing}
+use Rattle.session_rules.specs.Session.{fresh, takeBy, takeOf, bufferBy, bufferOf, lostBy, lostOf, closeBy, closeOf}
+use Rattle.session_rules.specs.Call.{Call}
+use Rattle.session_rules.specs.Calls.{Offer, refusal, next, after, nextCall}
 use Rattle.books.specs.Answer.{outcomeOf, endingOf, writtenOf}
 use Rattle.books.specs.HandedOut.{HandsOut}
 use Rattle.books.specs.Offers.{refusedBy, listedAs, listOf, refusedOr, takeSays, lostSays, closeSays, takeLeaves}

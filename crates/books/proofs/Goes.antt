@@ -10,25 +10,25 @@ use borrow.Author.Tests.{ltb-false}
 use Rattle.rules.specs.Numbered.{NoneOf}
 use Rattle.rules.proofs.Rows.{row-none}
 use Rattle.sizes.specs.declared.Opening.{Opening}
-use Rattle.payload.specs.declared.Reading.{Reading}
-use Rattle.payload.specs.declared.Reading.the-variants.{Idle, Unreadable, Readable}
-use Rattle.payload.specs.Transfer.{readingOf}
-use Rattle.frames.specs.declared.Fault.{Fault}
-use Rattle.frames.specs.declared.Fault.the-variants.{Sound, Bad}
-use Rattle.frames.specs.declared.Phase.{Phase}
-use Rattle.frames.specs.declared.Phase.the-variants.{Fresh, Under, Past}
-use Rattle.frames.specs.declared.Track.{Track}
-use Rattle.frames.specs.declared.Turn.{Turn}
-use Rattle.frames.specs.Track.{FilledBy}
-use Rattle.frames.specs.Inner.{turnOf, handsOf, outOf, idleTurn, unreadTurn}
-use Rattle.session.specs.declared.Session.{Session}
-use Rattle.session.specs.declared.Outcome.{Outcome}
-use Rattle.session.specs.declared.Taken.{Taken}
-use Rattle.session.specs.Refusals.{takeRows}
-use Rattle.session.proofs.Row50.{row-50}
-use Rattle.session.specs.Session.{takeBy, takeOf, bufferBy, bufferOf, metBy, metBufferBy, handsFor, handsOut, handedOf, tookBy, tookOf, tookBufferBy, tookBuffer, readOf}
-use Rattle.session.specs.Call.{Ask}
-use Rattle.session.specs.Calls.{Offer, refusal}
+use Rattle.session_rules.specs.declared.Reading.{Reading}
+use Rattle.session_rules.specs.declared.Reading.the-variants.{Idle, Unreadable, Readable}
+use Rattle.session_rules.specs.Transfer.{readingOf}
+use Rattle.session_rules.specs.declared.Fault.{Fault}
+use Rattle.session_rules.specs.declared.Fault.the-variants.{Sound, Bad}
+use Rattle.session_rules.specs.declared.Phase.{Phase}
+use Rattle.session_rules.specs.declared.Phase.the-variants.{Fresh, Under, Past}
+use Rattle.session_rules.specs.declared.Track.{Track}
+use Rattle.session_rules.specs.declared.Turn.{Turn}
+use Rattle.session_rules.specs.Track.{FilledBy}
+use Rattle.session_rules.specs.Turns.{turnOf, handsOf, outOf, idleTurn, unreadTurn}
+use Rattle.session_rules.specs.declared.Session.{Session}
+use Rattle.session_rules.specs.declared.Outcome.{Outcome}
+use Rattle.session_rules.specs.declared.Taken.{Taken}
+use Rattle.session_rules.specs.Refusals.{takeRows}
+use Rattle.session_rules.proofs.Record50.{row-50}
+use Rattle.session_rules.specs.Session.{takeBy, takeOf, bufferBy, bufferOf, metBy, metBufferBy, handsFor, handsOut, handedOf, tookBy, tookOf, tookBufferBy, tookBuffer, readOf}
+use Rattle.session_rules.specs.Call.{Ask}
+use Rattle.session_rules.specs.Calls.{Offer, refusal}
 use Rattle.books.proofs.Sound.{Snug, Fit}
 use Rattle.books.specs.Alike.{At, onward, Said, saidOf}
 

@@ -6,11 +6,11 @@ use mathlib.Core.List.{List, [], _∷_, _++_, append-assoc, append-nil}
 use native.Mathlib.Nat.{add-zero, zero-add, add-assoc}
 use lib.ListN.{length, length-append}
 use Rattle.sizes.specs.declared.Opening.{Opening}
-use Rattle.payload.specs.declared.Stamp.{Stamp}
-use Rattle.payload.specs.declared.Stamp.the-variants.{Absent, At}
-use Rattle.frames.specs.declared.Reason.the-variants.{Gap}
-use Rattle.frames.specs.declared.Fault.{Fault}
-use Rattle.frames.specs.declared.Fault.the-variants.{Sound, Bad}
+use Rattle.session_rules.specs.declared.Stamp.{Stamp}
+use Rattle.session_rules.specs.declared.Stamp.the-variants.{Absent, At}
+use Rattle.session_rules.specs.declared.Reason.the-variants.{Gap}
+use Rattle.session_rules.specs.declared.Fault.{Fault}
+use Rattle.session_rules.specs.declared.Fault.the-variants.{Sound, Bad}
 use Rattle.rules.proofs.Rows.{or-second}
 use Rattle.books.specs.Rule.{Seen, eofOf, closes, frameOf, strayOf, closed, dataOf, _orStamp_, firstStamp, _thenLayer_, lastLayer, stillOf, _or_, when, faultAt, gapAfter, faultFrom, gapBefore, fault}
 use Rattle.books.specs.Answer.{earlier}

@@ -10,27 +10,27 @@ use lib.Dec.{eqb}
 use borrow.Author.Tests.{eq-eqb, ne-eqb}
 use Rattle.sizes.specs.declared.Opening.{Opening}
 use Rattle.sizes.specs.Framing.{byEof}
-use Rattle.payload.specs.declared.Header.{Header}
-use Rattle.payload.specs.declared.Reading.{Reading}
-use Rattle.payload.specs.declared.Reading.the-variants.{Idle, Unreadable, Readable}
-use Rattle.payload.specs.Transfer.{readingOf}
-use Rattle.frames.specs.declared.Fault.{Fault}
-use Rattle.frames.specs.declared.Fault.the-variants.{Sound, Bad}
-use Rattle.frames.specs.declared.Answer.{Answer}
-use Rattle.frames.specs.declared.HandOut.{HandOut}
-use Rattle.frames.specs.declared.Phase.{Phase}
-use Rattle.frames.specs.declared.Phase.the-variants.{Fresh, Under, Past}
-use Rattle.frames.specs.Inner.{handsBy, handsOf, outBy}
-use Rattle.frames.specs.Inner as track
-use Rattle.session.specs.declared.Session.{Session}
-use Rattle.session.specs.declared.Outcome.{Outcome}
-use Rattle.session.specs.Session.{fresh, handsOut, handedOf, takeOf}
-use Rattle.session.specs.Session as session
-use Rattle.session.specs.Refusals.{recordBroken, takeRows}
+use Rattle.session_rules.specs.declared.Header.{Header}
+use Rattle.session_rules.specs.declared.Reading.{Reading}
+use Rattle.session_rules.specs.declared.Reading.the-variants.{Idle, Unreadable, Readable}
+use Rattle.session_rules.specs.Transfer.{readingOf}
+use Rattle.session_rules.specs.declared.Fault.{Fault}
+use Rattle.session_rules.specs.declared.Fault.the-variants.{Sound, Bad}
+use Rattle.session_rules.specs.declared.Answer.{Answer}
+use Rattle.session_rules.specs.declared.HandOut.{HandOut}
+use Rattle.session_rules.specs.declared.Phase.{Phase}
+use Rattle.session_rules.specs.declared.Phase.the-variants.{Fresh, Under, Past}
+use Rattle.session_rules.specs.Turns.{handsBy, handsOf, outBy}
+use Rattle.session_rules.specs.Turns as track
+use Rattle.session_rules.specs.declared.Session.{Session}
+use Rattle.session_rules.specs.declared.Outcome.{Outcome}
+use Rattle.session_rules.specs.Session.{fresh, handsOut, handedOf, takeOf}
+use Rattle.session_rules.specs.Session as session
+use Rattle.session_rules.specs.Refusals.{recordBroken, takeRows}
 use Rattle.rules.specs.Numbered.{NoneOf}
 use Rattle.rules.proofs.Rows.{row-none}
-use Rattle.session.specs.Call.{Ask, Call, heardOf}
-use Rattle.session.specs.Calls.{Offer, refusal, next, after, callOf, taken, nextCall, offerWith}
+use Rattle.session_rules.specs.Call.{Ask, Call, heardOf}
+use Rattle.session_rules.specs.Calls.{Offer, refusal, next, after, callOf, taken, nextCall, offerWith}
 use Rattle.books.specs.Rule.{Event, idle, unreadable, missing, readable, mark, eventBy, events, Seen, marks, readables, frameOf, closed, dataOf, fault}
 use Rattle.books.specs.Answer.{lastRun, turns, isSound, handsIn, handsFor, hands, outOf}
 use Rattle.books.specs.Answer as rule

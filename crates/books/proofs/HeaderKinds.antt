@@ -8,21 +8,21 @@ use lib.ListN.{length}
 use lib.Dec.{eqb}
 use Rattle.sizes.specs.declared.Opening.{Opening}
 use Rattle.sizes.specs.declared.HeaderKind.the-variants.{Old, Vp8}
-use Rattle.payload.specs.declared.Header.{Header}
-use Rattle.payload.specs.declared.Stamp.{Stamp}
-use Rattle.payload.specs.declared.Layer.{Layer}
-use Rattle.payload.proofs.OldKind.{no-layer}
-use Rattle.payload.proofs.Vp8.{no-still, its-stamp}
-use Rattle.frames.specs.declared.Reason.the-variants.{Empty}
-use Rattle.frames.specs.declared.Fault.{Fault}
-use Rattle.frames.specs.declared.Fault.the-variants.{Sound, Bad}
-use Rattle.frames.specs.declared.Ended.{Ended}
-use Rattle.frames.specs.declared.HandOut.{HandOut}
-use Rattle.ledger.specs.declared.Ledger.{Ledger}
-use Rattle.ledger.specs.Entry.{Entry}
-use Rattle.session.specs.Call.{Call}
-use Rattle.session.specs.Calls.{Offer, refusal, after, taken}
-use Rattle.session.specs.Session.{fresh, takeOf, closeBy, closeOf}
+use Rattle.session_rules.specs.declared.Header.{Header}
+use Rattle.session_rules.specs.declared.Stamp.{Stamp}
+use Rattle.session_rules.specs.declared.Layer.{Layer}
+use Rattle.session_rules.proofs.OldKind.{no-layer}
+use Rattle.session_rules.proofs.Vp8.{no-still, its-stamp}
+use Rattle.session_rules.specs.declared.Reason.the-variants.{Empty}
+use Rattle.session_rules.specs.declared.Fault.{Fault}
+use Rattle.session_rules.specs.declared.Fault.the-variants.{Sound, Bad}
+use Rattle.session_rules.specs.declared.Ended.{Ended}
+use Rattle.session_rules.specs.declared.HandOut.{HandOut}
+use Rattle.session_rules.specs.declared.Ledger.{Ledger}
+use Rattle.session_rules.specs.Entry.{Entry}
+use Rattle.session_rules.specs.Call.{Call}
+use Rattle.session_rules.specs.Calls.{Offer, refusal, after, taken}
+use Rattle.session_rules.specs.Session.{fresh, takeOf, closeBy, closeOf}
 use Rattle.books.specs.Rule.{events, Seen, frameOf, complete, dataOf, _orStamp_, firstStamp, _thenLayer_, lastLayer, stillOf, fault, handedOut, verdict, loose, entryOf, framesBy, total, noStamp, untimed}
 use Rattle.books.specs.Answer.{lastRun, frameEntry, reasonIn, fateIn}
 use Rattle.books.specs.Demands.{Right, EachHeader, EachEntry, FilmHeader, Film, NoStill}

@@ -9,11 +9,11 @@ use lib.Seq.{paste, length-paste, take-paste}
 use lib.Dec.{ltb}
 use borrow.Author.Tests.{ltb-false}
 use Rattle.sizes.specs.declared.Opening.{Opening}
-use Rattle.payload.specs.declared.Header.{Header}
-use Rattle.frames.specs.declared.Reason.{Reason}
-use Rattle.frames.specs.declared.Reason.the-variants.{Gap, Error, Clock, Mixed, Long}
-use Rattle.frames.specs.declared.Fault.{Fault}
-use Rattle.frames.specs.declared.Fault.the-variants.{Sound, Bad}
+use Rattle.session_rules.specs.declared.Header.{Header}
+use Rattle.session_rules.specs.declared.Reason.{Reason}
+use Rattle.session_rules.specs.declared.Reason.the-variants.{Gap, Error, Clock, Mixed, Long}
+use Rattle.session_rules.specs.declared.Fault.{Fault}
+use Rattle.session_rules.specs.declared.Fault.the-variants.{Sound, Bad}
 use Rattle.books.specs.Rule.{Seen, same, frameOf, strayOf, closed, dataOf, firstStamp, stillOf, _or_, when, differs, mixes, faultAt, gapAfter, fault}
 use Rattle.books.specs.Answer.{earlier, writtenBy, writtenIn}
 use Rattle.books.proofs.OneMore.{seenWith, spoilLast, markLast, grown}

@@ -5,13 +5,13 @@ use mathlib.Core.Bool.{false}
 use mathlib.Core.List.{List}
 use Rattle.sizes.specs.declared.Opening.{Opening}
 use Rattle.sizes.specs.Sizes.{sizesBroken}
-use Rattle.ledger.specs.declared.Account.{Account}
-use Rattle.ledger.specs.Accounts.{accounts}
-use Rattle.ledger.specs.Ledger.{shownOf}
-use Rattle.session.specs.declared.Session.{Session}
-use Rattle.session.specs.Refusals.{recordBroken, ledgerOf}
-use Rattle.session.specs.Session.{fresh}
-use Rattle.session.specs.Calls.{Offer, after, taken}
+use Rattle.session_rules.specs.declared.Account.{Account}
+use Rattle.session_rules.specs.Accounts.{accounts}
+use Rattle.session_rules.specs.Ledger.{shownOf}
+use Rattle.session_rules.specs.declared.Session.{Session}
+use Rattle.session_rules.specs.Refusals.{recordBroken, ledgerOf}
+use Rattle.session_rules.specs.Session.{fresh}
+use Rattle.session_rules.specs.Calls.{Offer, after, taken}
 use Rattle.books.specs.Rule.{entries, numbersOf, stamps, lastStamped, received}
 use Rattle.books.specs.Demands.{Right, over, allBytes}
 use Rattle.books.proofs.Taken.{after-run, taken-proper}

@@ -8,29 +8,29 @@ use lib.ListN.{length, drop, length-drop}
 use Rattle.rules.specs.IfElse.{ifElse}
 use Rattle.sizes.specs.declared.Opening.{Opening}
 use Rattle.sizes.specs.Framing.{byEof}
-use Rattle.payload.specs.declared.Header.{Header}
-use Rattle.payload.specs.declared.Reading.{Reading}
-use Rattle.payload.specs.declared.Reading.the-variants.{Idle, Unreadable, Readable}
-use Rattle.payload.specs.Transfer.{readingOf}
-use Rattle.frames.specs.declared.Fault.{Fault}
-use Rattle.frames.specs.declared.Fault.the-variants.{Sound, Bad}
-use Rattle.frames.specs.declared.Reason.the-variants.{Cut}
-use Rattle.frames.specs.declared.Phase.{Phase}
-use Rattle.frames.specs.declared.Phase.the-variants.{Fresh, Under, Past}
-use Rattle.frames.specs.declared.Ended.{Ended}
-use Rattle.frames.specs.declared.Ended.the-variants.{Nothing, Frame}
-use Rattle.frames.specs.declared.Fate.{Fate}
-use Rattle.frames.specs.declared.Answer.{Answer}
-use Rattle.frames.specs.declared.Turn.{Turn}
-use Rattle.frames.specs.declared.Delivery.{Delivery}
-use Rattle.frames.specs.declared.HandOut.{HandOut}
-use Rattle.frames.specs.Track.{handing}
-use Rattle.ledger.specs.Entry.{Entry}
-use Rattle.ledger.specs.declared.Ledger.{Ledger}
-use Rattle.ledger.specs.Ledger.{postOf, endedOf, fatedOf, answeredOf}
-use Rattle.session.specs.declared.Session.{Session}
-use Rattle.session.specs.Refusals.{postedOf}
-use Rattle.session.specs.Session.{readOf, tookBy, tookOf, handsFor, handsOut, handedOf, missedOf}
+use Rattle.session_rules.specs.declared.Header.{Header}
+use Rattle.session_rules.specs.declared.Reading.{Reading}
+use Rattle.session_rules.specs.declared.Reading.the-variants.{Idle, Unreadable, Readable}
+use Rattle.session_rules.specs.Transfer.{readingOf}
+use Rattle.session_rules.specs.declared.Fault.{Fault}
+use Rattle.session_rules.specs.declared.Fault.the-variants.{Sound, Bad}
+use Rattle.session_rules.specs.declared.Reason.the-variants.{Cut}
+use Rattle.session_rules.specs.declared.Phase.{Phase}
+use Rattle.session_rules.specs.declared.Phase.the-variants.{Fresh, Under, Past}
+use Rattle.session_rules.specs.declared.Ended.{Ended}
+use Rattle.session_rules.specs.declared.Ended.the-variants.{Nothing, Frame}
+use Rattle.session_rules.specs.declared.Fate.{Fate}
+use Rattle.session_rules.specs.declared.Answer.{Answer}
+use Rattle.session_rules.specs.declared.Turn.{Turn}
+use Rattle.session_rules.specs.declared.Delivery.{Delivery}
+use Rattle.session_rules.specs.declared.HandOut.{HandOut}
+use Rattle.session_rules.specs.Track.{handing}
+use Rattle.session_rules.specs.Entry.{Entry}
+use Rattle.session_rules.specs.declared.Ledger.{Ledger}
+use Rattle.session_rules.specs.Ledger.{postOf, endedOf, fatedOf, answeredOf}
+use Rattle.session_rules.specs.declared.Session.{Session}
+use Rattle.session_rules.specs.Refusals.{postedOf}
+use Rattle.session_rules.specs.Session.{readOf, tookBy, tookOf, handsFor, handsOut, handedOf, missedOf}
 use Rattle.books.specs.Rule.{Event, readable, eventBy, events, isOpen, _or_, Item, entryOf, loose, total, stamps, stampsOf}
 use Rattle.books.specs.Demands.{endedItems, fateItems}
 use Rattle.books.proofs.Made.{base, turnItems, Framed, turn-framed}
@@ -38,9 +38,9 @@ use Rattle.books.proofs.Cut.{cont}
 use Rattle.books.proofs.Owed.{owed, Holds, and-false, read-law, Whole, hands-whole, outItems, mark-law, idle-law, spoil-law, unread-law, spoil-holds, read-holds}
 use Rattle.books.proofs.Posts.{posts, posts-append, total-append}
 use Rattle.books.proofs.Taken.{Hands, Proper}
-use Rattle.frames.specs.Inner.{sameOf, begunOf, turnedWhy, joinTurn, strayTurn, turnBy, turnOf, handsOf, outBy, outOf, spoiltOf, closedBy, closedOf, whyOf}
-use Rattle.session.specs.Call.{Call}
-use Rattle.session.specs.Calls.{nextCall, run}
+use Rattle.session_rules.specs.Turns.{sameOf, begunOf, turnedWhy, joinTurn, strayTurn, turnBy, turnOf, handsOf, outBy, outOf, spoiltOf, closedBy, closedOf, whyOf}
+use Rattle.session_rules.specs.Call.{Call}
+use Rattle.session_rules.specs.Calls.{nextCall, run}
 
 -- ---- what one call enters, with the data so far
 abbrev pub itemsBy : Reading → Session → List ℕ → List ℕ → List Item

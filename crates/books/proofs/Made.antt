@@ -5,21 +5,21 @@ use mathlib.Core.List.{List, [], _++_}
 use lib.Dec.{eqb}
 use Rattle.rules.specs.IfElse.{ifElse}
 use Rattle.sizes.specs.declared.Opening.{Opening}
-use Rattle.payload.specs.declared.Header.{Header}
-use Rattle.payload.specs.declared.Stamp.{Stamp}
-use Rattle.payload.specs.declared.Layer.{Layer}
-use Rattle.frames.specs.declared.Reason.the-variants.{Empty}
-use Rattle.frames.specs.declared.Fault.{Fault}
-use Rattle.frames.specs.declared.Fault.the-variants.{Sound, Bad}
-use Rattle.frames.specs.declared.Run.{Run}
-use Rattle.frames.specs.declared.Ended.the-variants.{Nothing, Frame}
-use Rattle.frames.specs.declared.Fate.{Fate}
-use Rattle.frames.specs.declared.Phase.{Phase}
-use Rattle.frames.specs.declared.Phase.the-variants.{Fresh, Under, Past}
-use Rattle.frames.specs.declared.Turn.{Turn}
+use Rattle.session_rules.specs.declared.Header.{Header}
+use Rattle.session_rules.specs.declared.Stamp.{Stamp}
+use Rattle.session_rules.specs.declared.Layer.{Layer}
+use Rattle.session_rules.specs.declared.Reason.the-variants.{Empty}
+use Rattle.session_rules.specs.declared.Fault.{Fault}
+use Rattle.session_rules.specs.declared.Fault.the-variants.{Sound, Bad}
+use Rattle.session_rules.specs.declared.Run.{Run}
+use Rattle.session_rules.specs.declared.Ended.the-variants.{Nothing, Frame}
+use Rattle.session_rules.specs.declared.Fate.{Fate}
+use Rattle.session_rules.specs.declared.Phase.{Phase}
+use Rattle.session_rules.specs.declared.Phase.the-variants.{Fresh, Under, Past}
+use Rattle.session_rules.specs.declared.Turn.{Turn}
 use Rattle.books.specs.Rule.{Item}
 use Rattle.books.specs.Demands.{endedItems, fateItems}
-use Rattle.frames.specs.Inner.{sameOf, whyOf, begunOf, joinedOf, completeOf, endsOf, turnedWhy, fateOf, joinTurn, strayTurn, turnBy}
+use Rattle.session_rules.specs.Turns.{sameOf, whyOf, begunOf, joinedOf, completeOf, endsOf, turnedWhy, fateOf, joinTurn, strayTurn, turnBy}
 
 -- the data that the frame of a transfer with this FID has had before it
 abbrev pub base : Phase → Bool → List ℕ → List ℕ

@@ -7,15 +7,15 @@ use native.Mathlib.Omega.{arith}
 use native.Mathlib.Nat.{zero-add}
 use Rattle.sizes.specs.declared.Opening.{Opening}
 use Rattle.sizes.specs.Sizes.{frameSizeBroken, sizesBroken}
-use Rattle.payload.specs.declared.Reading.{Reading}
-use Rattle.payload.specs.declared.Reading.the-variants.{Idle, Unreadable, Readable}
-use Rattle.payload.specs.Transfer.{readingOf}
-use Rattle.rule_50.specs.Rule50.{rule50}
-use Rattle.session.specs.declared.Session.{Session}
-use Rattle.session.specs.Refusals.{recordBroken}
-use Rattle.session.specs.Session.{fresh, noSession, readOf, tookBy, tookOf, handedOf, handsOut}
-use Rattle.session.specs.Call.{Call}
-use Rattle.session.specs.Calls.{Offer, refusal, next, after, callOf, unless, taken, nextCall, run}
+use Rattle.session_rules.specs.declared.Reading.{Reading}
+use Rattle.session_rules.specs.declared.Reading.the-variants.{Idle, Unreadable, Readable}
+use Rattle.session_rules.specs.Transfer.{readingOf}
+use Rattle.session_rules.specs.Rule50.{rule50}
+use Rattle.session_rules.specs.declared.Session.{Session}
+use Rattle.session_rules.specs.Refusals.{recordBroken}
+use Rattle.session_rules.specs.Session.{fresh, noSession, readOf, tookBy, tookOf, handedOf, handsOut}
+use Rattle.session_rules.specs.Call.{Call}
+use Rattle.session_rules.specs.Calls.{Offer, refusal, next, after, callOf, unless, taken, nextCall, run}
 use Rattle.books.specs.Rule.{isOpen}
 use Rattle.books.specs.Offers.{takenIn, refusedBy, listedAs, listFrom, listOf}
 use Rattle.books.proofs.Taken.{Proper, taken-proper, after-run, next-taken, next-refused, listed}

@@ -3,7 +3,7 @@ use mathlib.Core.Path.{_≡_, refl, sym, _∙_, ap}
 use mathlib.Core.Bool.{Bool, true, false, cond, not, _||_, Bool·beq}
 use mathlib.Core.List.{List, [], _∷_, _++_}
 use Prim.Native.Nat.{ℕ}
-use Rattle.payload.specs.declared.Header.{Header}
+use Rattle.session_rules.specs.declared.Header.{Header}
 use Rattle.books.specs.Rule.{Event, idle, unreadable, missing, readable, mark, Seen, spoiled, marks, readables, same, ahead, runs}
 use Rattle.books.specs.Answer.{lastOf}
 use Rattle.books.proofs.Cut.{first, later, runs-cut}

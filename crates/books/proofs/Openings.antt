@@ -6,17 +6,17 @@ use mathlib.Core.List.{List, [], _∷_}
 use Rattle.rules.specs.IfElse.{ifElse}
 use Rattle.sizes.specs.declared.Opening.{Opening}
 use Rattle.sizes.specs.declared.HeaderKind.the-variants.{Old}
-use Rattle.payload.specs.declared.Header.{Header}
-use Rattle.payload.specs.Layouts.{headerLayout}
-use Rattle.payload.specs.Transfer.{sortedBy, readingOf}
-use Rattle.frames.specs.declared.Reason.the-variants.{Cut, Empty}
-use Rattle.frames.specs.declared.Run.{Run}
-use Rattle.frames.specs.declared.Phase.{Phase}
-use Rattle.frames.specs.declared.Phase.the-variants.{Fresh, Under, Past}
-use Rattle.frames.specs.declared.Track.{Track}
-use Rattle.frames.specs.declared.Ended.{Ended}
-use Rattle.frames.specs.declared.Ended.the-variants.{Nothing, Frame}
-use Rattle.frames.specs.Inner.{sameOf, readyOf, whyOf, begunOf, joinedOf, writtenOf, phaseOf, fateOf, joinTurn, strayTurn, turnBy, turnOf, handsBy, handsOf}
+use Rattle.session_rules.specs.declared.Header.{Header}
+use Rattle.session_rules.specs.Layouts.{headerLayout}
+use Rattle.session_rules.specs.Transfer.{sortedBy, readingOf}
+use Rattle.session_rules.specs.declared.Reason.the-variants.{Cut, Empty}
+use Rattle.session_rules.specs.declared.Run.{Run}
+use Rattle.session_rules.specs.declared.Phase.{Phase}
+use Rattle.session_rules.specs.declared.Phase.the-variants.{Fresh, Under, Past}
+use Rattle.session_rules.specs.declared.Track.{Track}
+use Rattle.session_rules.specs.declared.Ended.{Ended}
+use Rattle.session_rules.specs.declared.Ended.the-variants.{Nothing, Frame}
+use Rattle.session_rules.specs.Turns.{sameOf, readyOf, whyOf, begunOf, joinedOf, writtenOf, phaseOf, fateOf, joinTurn, strayTurn, turnBy, turnOf, handsBy, handsOf}
 use Rattle.books.specs.Alike.{OpenedAlike}
 
 pub alike-itself : (o : Opening) → OpenedAlike o o

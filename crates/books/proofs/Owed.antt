@@ -9,26 +9,26 @@ use borrow.Author.Tests.{eq-eqb, ne-eqb}
 use Rattle.rules.specs.IfElse.{ifElse}
 use Rattle.sizes.specs.declared.Opening.{Opening}
 use Rattle.sizes.specs.Framing.{byEof}
-use Rattle.payload.specs.declared.Header.{Header}
-use Rattle.payload.specs.declared.Stamp.{Stamp}
-use Rattle.payload.specs.declared.Stamp.the-variants.{Absent}
-use Rattle.payload.specs.declared.Layer.{Layer}
-use Rattle.frames.specs.declared.Reason.the-variants.{Gap, Cut, Empty}
-use Rattle.frames.specs.declared.Fault.{Fault}
-use Rattle.frames.specs.declared.Fault.the-variants.{Sound, Bad}
-use Rattle.frames.specs.declared.Run.{Run}
-use Rattle.frames.specs.declared.Phase.{Phase}
-use Rattle.frames.specs.declared.Phase.the-variants.{Fresh, Under, Past}
-use Rattle.frames.specs.declared.Ended.the-variants.{Nothing, Frame}
-use Rattle.frames.specs.declared.Turn.{Turn}
-use Rattle.frames.specs.declared.Delivery.{Delivery}
-use Rattle.frames.specs.Track.{handing}
-use Rattle.ledger.specs.Entry.{Entry}
+use Rattle.session_rules.specs.declared.Header.{Header}
+use Rattle.session_rules.specs.declared.Stamp.{Stamp}
+use Rattle.session_rules.specs.declared.Stamp.the-variants.{Absent}
+use Rattle.session_rules.specs.declared.Layer.{Layer}
+use Rattle.session_rules.specs.declared.Reason.the-variants.{Gap, Cut, Empty}
+use Rattle.session_rules.specs.declared.Fault.{Fault}
+use Rattle.session_rules.specs.declared.Fault.the-variants.{Sound, Bad}
+use Rattle.session_rules.specs.declared.Run.{Run}
+use Rattle.session_rules.specs.declared.Phase.{Phase}
+use Rattle.session_rules.specs.declared.Phase.the-variants.{Fresh, Under, Past}
+use Rattle.session_rules.specs.declared.Ended.the-variants.{Nothing, Frame}
+use Rattle.session_rules.specs.declared.Turn.{Turn}
+use Rattle.session_rules.specs.declared.Delivery.{Delivery}
+use Rattle.session_rules.specs.Track.{handing}
+use Rattle.session_rules.specs.Entry.{Entry}
 use Rattle.books.specs.Rule.{Event, idle, unreadable, missing, readable, mark, Seen, spoiled, marks, readables, runs, _orStamp_, _or_, when, Item, handedOut, settled, judged, nothing}
 use Rattle.books.specs.Demands.{endedItems, fateItems}
 use Rattle.books.proofs.Made.{base, turnItems}
 use Rattle.books.proofs.Cut.{first, later, runs-cut, cont, cont-new, pass, onward, or-sound, stamp-absent, same-beq, take-law}
-use Rattle.frames.specs.Inner.{firstOf, whyOf, sameOf, begunOf, joinedOf, endsOf, turnedWhy, fateOf, phaseOf, joinTurn, strayTurn, turnBy, readyOf, handsBy, outBy, spoiltBy}
+use Rattle.session_rules.specs.Turns.{firstOf, whyOf, sameOf, begunOf, joinedOf, endsOf, turnedWhy, fateOf, phaseOf, joinTurn, strayTurn, turnBy, readyOf, handsBy, outBy, spoiltBy}
 
 -- what the rule owes, from a phase, whether a gap is pending, the data so far, and the events to come; p is whether the session stays open
 abbrev pub owed : Opening → Bool → Phase → Bool → List ℕ → List Event → List Item

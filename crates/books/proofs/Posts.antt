@@ -8,19 +8,19 @@ use native.Mathlib.Omega.{arith}
 use lib.Dec.{ltb, eqb}
 use borrow.Author.Tests.{ne-eqb}
 use Rattle.rules.specs.IfElse.{ifElse}
-use Rattle.payload.specs.declared.Stamp.{Stamp}
-use Rattle.payload.specs.declared.Stamp.the-variants.{Absent, At}
-use Rattle.frames.specs.declared.Reason.{Reason}
-use Rattle.frames.specs.declared.Delivery.{Delivery}
-use Rattle.ledger.specs.declared.Account.{Account}
-use Rattle.ledger.specs.Entry.{Entry}
-use Rattle.ledger.specs.declared.Step.the-variants.{Forward, Backward}
-use Rattle.ledger.specs.declared.Ledger.{Ledger}
-use Rattle.ledger.specs.Step.{aheadOf}
-use Rattle.ledger.specs.Ledger.{enteredOf, steppedOf, timedBy, timedOf, postOf}
-use Rattle.ledger.proofs.Places.{at, Sized, place-lt, plus-sized, plus-at, plus-last, entryGain, entered-sized, entered-at, entered-last, count-gains, bytes-gains, others-keep}
+use Rattle.session_rules.specs.declared.Stamp.{Stamp}
+use Rattle.session_rules.specs.declared.Stamp.the-variants.{Absent, At}
+use Rattle.session_rules.specs.declared.Reason.{Reason}
+use Rattle.session_rules.specs.declared.Delivery.{Delivery}
+use Rattle.session_rules.specs.declared.Account.{Account}
+use Rattle.session_rules.specs.Entry.{Entry}
+use Rattle.session_rules.specs.declared.Step.the-variants.{Forward, Backward}
+use Rattle.session_rules.specs.declared.Ledger.{Ledger}
+use Rattle.session_rules.specs.Step.{aheadOf}
+use Rattle.session_rules.specs.Ledger.{enteredOf, steppedOf, timedBy, timedOf, postOf}
+use Rattle.session_rules.proofs.Places.{at, Sized, place-lt, plus-sized, plus-at, plus-last, entryGain, entered-sized, entered-at, entered-last, count-gains, bytes-gains, others-keep}
 use Rattle.books.specs.Rule.{lostLine, idleLine, oneIn, partIn, total, stampList, stampsOf, stamps, lastStamped, noStamp, step, forward, back, between}
-use Rattle.ledger.specs.Accounts.{accountCount, placeOf, accountFor, countAt, bytesAt, lostAt, idleAt, ticksAt, backwardAt, untimedAt}
+use Rattle.session_rules.specs.Accounts.{accountCount, placeOf, accountFor, countAt, bytesAt, lostAt, idleAt, ticksAt, backwardAt, untimedAt}
 
 -- ---- the time
 abbrev pub since : (ℕ → ℕ → ℕ) → Stamp → Stamp → ℕ

@@ -5,19 +5,19 @@ use mathlib.Core.List.{List, [], _∷_}
 use native.Mathlib.Omega.{arith}
 use lib.ListN.{length, getD}
 use Rattle.sizes.specs.declared.Opening.{Opening}
-use Rattle.ledger.specs.declared.Account.{Account}
-use Rattle.ledger.specs.declared.Ledger.{Ledger}
-use Rattle.ledger.specs.Accounts.{accounts, placeOf, numberCount}
-use Rattle.ledger.specs.Ledger.{countOf, bytesOf}
-use Rattle.session.specs.Refusals.{postedOf, ledgerOf}
-use Rattle.session.specs.Session.{fresh}
+use Rattle.session_rules.specs.declared.Account.{Account}
+use Rattle.session_rules.specs.declared.Ledger.{Ledger}
+use Rattle.session_rules.specs.Accounts.{accounts, placeOf, numberCount}
+use Rattle.session_rules.specs.Ledger.{countOf, bytesOf}
+use Rattle.session_rules.specs.Refusals.{postedOf, ledgerOf}
+use Rattle.session_rules.specs.Session.{fresh}
 use Rattle.books.specs.Rule.{entries, accountNumbers, numbersOf}
 use Rattle.books.specs.Demands.{Right}
 use Rattle.books.proofs.Taken.{Proper}
 use Rattle.books.proofs.Accounts.{end-sized, all-right}
-use Rattle.ledger.proofs.Places.{Sized, shown-sized}
-use Rattle.session.specs.Call.{Call}
-use Rattle.session.specs.Calls.{run}
+use Rattle.session_rules.proofs.Places.{Sized, shown-sized}
+use Rattle.session_rules.specs.Call.{Call}
+use Rattle.session_rules.specs.Calls.{run}
 
 -- a list is the list of what stands at its places
 abbrev spelt : ℕ → ℕ → List ℕ → List ℕ

@@ -7,23 +7,23 @@ use native.Mathlib.Omega.{arith}
 use lib.ListN.{length, length-append, length-drop}
 use lib.Dec.{eqb}
 use Rattle.sizes.specs.declared.Opening.{Opening}
-use Rattle.payload.specs.declared.Stamp.{Stamp}
-use Rattle.payload.specs.declared.Layer.{Layer}
-use Rattle.payload.specs.declared.Reading.{Reading}
-use Rattle.payload.specs.declared.Reading.the-variants.{Idle, Unreadable, Readable}
-use Rattle.payload.specs.Transfer.{readingOf}
-use Rattle.payload.proofs.Readings.{idle-exactly, readable-fits}
-use Rattle.frames.specs.declared.Reason.the-variants.{Gap, Error, Clock, Mixed, Long, Cut, Empty}
-use Rattle.frames.specs.declared.Fault.{Fault}
-use Rattle.frames.specs.declared.Fault.the-variants.{Sound, Bad}
-use Rattle.ledger.specs.declared.Account.{Account}
-use Rattle.ledger.specs.Entry.{Entry}
+use Rattle.session_rules.specs.declared.Stamp.{Stamp}
+use Rattle.session_rules.specs.declared.Layer.{Layer}
+use Rattle.session_rules.specs.declared.Reading.{Reading}
+use Rattle.session_rules.specs.declared.Reading.the-variants.{Idle, Unreadable, Readable}
+use Rattle.session_rules.specs.Transfer.{readingOf}
+use Rattle.session_rules.proofs.Readings.{idle-exactly, readable-fits}
+use Rattle.session_rules.specs.declared.Reason.the-variants.{Gap, Error, Clock, Mixed, Long, Cut, Empty}
+use Rattle.session_rules.specs.declared.Fault.{Fault}
+use Rattle.session_rules.specs.declared.Fault.the-variants.{Sound, Bad}
+use Rattle.session_rules.specs.declared.Account.{Account}
+use Rattle.session_rules.specs.Entry.{Entry}
 use Rattle.books.specs.Rule.{Event, idle, unreadable, missing, readable, mark, eventBy, events, isOpen, Seen, readables, same, ahead, runs, closes, frameOf, strayOf, complete, dataOf, firstStamp, lastLayer, stillOf, fault, Item, handedOut, verdict, strays, judge, nothing, judged, framesBy, loose, entryOf, entries, bytesIn, partIn, total, received}
 use Rattle.books.specs.Demands.{over}
 use Rattle.books.proofs.Posts.{total-append}
 use Rattle.books.proofs.History.{map-append}
-use Rattle.ledger.specs.Accounts.{placeOf, accounts}
-use Rattle.session.specs.Call.{Call}
+use Rattle.session_rules.specs.Accounts.{placeOf, accounts}
+use Rattle.session_rules.specs.Call.{Call}
 
 -- ---- what a reading says of its transfer's bytes
 abbrev Sound₀ : List ℕ → Reading → Type 0

@@ -5,30 +5,30 @@ use mathlib.Core.Bool.{cond, false}
 use mathlib.Core.List.{List, [], _∷_, _++_, map}
 use lib.ListN.{replicate}
 use Rattle.rules.specs.IfElse.{ifElse}
-use Rattle.rules.specs.Numbered.{firstFrom, anyBelow}
+use Rattle.rules.specs.Numbered.{anyBelow}
 use Rattle.sizes.specs.Sizes.{frameSizeBroken, payloadSizeBroken, sizesBroken}
 use Rattle.sizes.specs.declared.Opening.{Opening}
 use Rattle.sizes.specs.declared.HeaderKind.the-variants.{Old, Vp8}
 use Rattle.sizes.specs.Framing.{byEof}
-use Rattle.payload.specs.declared.Stamp.{Stamp}
-use Rattle.frames.specs.declared.Reason.{Reason}
-use Rattle.frames.specs.declared.Ended.{Ended}
-use Rattle.frames.specs.declared.Fate.{Fate}
-use Rattle.frames.specs.declared.Answer.{Answer}
+use Rattle.session_rules.specs.declared.Stamp.{Stamp}
+use Rattle.session_rules.specs.declared.Reason.{Reason}
+use Rattle.session_rules.specs.declared.Ended.{Ended}
+use Rattle.session_rules.specs.declared.Fate.{Fate}
+use Rattle.session_rules.specs.declared.Answer.{Answer}
 use Rattle.books.specs.Answer.{answerOf, with, hands, outcomeOf, endingOf}
-use Rattle.payload.specs.declared.Layer.{Layer}
-use Rattle.payload.specs.Layouts.{headerLayout}
-use Rattle.payload.specs.Transfer.{flagOf, layerPlace, needOf, flagsBy, stampOf, layerOf, headerBy, readingOf}
-use Rattle.ledger.specs.Ledger.{plusOf, timedOf, postOf, shownOf}
-use Rattle.session.specs.declared.Session.{Session}
-use Rattle.session.specs.declared.Outcome.{Outcome}
-use Rattle.session.specs.Refusals.{ledgerOf}
-use Rattle.session.specs.Session.{fresh, readOf, tookOf, handsOut, handedOf, takeOf, lostOf, closeOf}
+use Rattle.session_rules.specs.declared.Layer.{Layer}
+use Rattle.session_rules.specs.Layouts.{headerLayout}
+use Rattle.session_rules.specs.Transfer.{flagOf, layerPlace, needOf, rowsBy, stampOf, layerOf, headerBy, readingOf}
+use Rattle.session_rules.specs.Ledger.{plusOf, timedOf, postOf, shownOf}
+use Rattle.session_rules.specs.declared.Session.{Session}
+use Rattle.session_rules.specs.declared.Outcome.{Outcome}
+use Rattle.session_rules.specs.Refusals.{ledgerOf}
+use Rattle.session_rules.specs.Session.{fresh, readOf, tookOf, handsOut, handedOf, takeOf, lostOf, closeOf}
 use Rattle.books.specs.Rule.{entries, numbersOf}
-use Rattle.frames.specs.Inner.{turnOf, handsOf, outOf, spoiltOf, closedOf}
-use Rattle.rule_50.specs.Rule50.{rule50, fillBroken, accountsBroken, countsBroken}
-use Rattle.session.specs.Call.{Ask, Call, heardOf}
-use Rattle.session.specs.Calls.{Offer, after, taken, offerWith}
+use Rattle.session_rules.specs.Turns.{turnOf, handsOf, outOf, spoiltOf, closedOf}
+use Rattle.session_rules.specs.Rule50.{rule50, fillBroken, accountsBroken, countsBroken}
+use Rattle.session_rules.specs.Call.{Ask, Call, heardOf}
+use Rattle.session_rules.specs.Calls.{Offer, after, taken, offerWith}
 
 -- frame size 256, payload size 62
 abbrev pub opening : Opening
@@ -50,15 +50,15 @@ abbrev pub printed : List ℕ
 printed = 1 ∷ 3 ∷ 1 ∷ 2 ∷ 0 ∷ 0 ∷ 0 ∷ 0 ∷ 0 ∷ 0 ∷ 1 ∷ 1 ∷ 0 ∷ 0 ∷ 0 ∷ 0 ∷ 0 ∷ 0 ∷ 0 ∷ 0 ∷ 1 ∷ 1 ∷ 1 ∷ 1 ∷ 6 ∷ 12 ∷ 0 ∷ 0 ∷ 0 ∷ 0 ∷ 1 ∷ []
 
 pub by-rule : numbersOf (entries opening (map Call.transfer transfers)) ≡ printed
-unfolding ifElse firstFrom byEof headerLayout flagOf layerPlace needOf flagsBy stampOf layerOf headerBy readingOf
+unfolding ifElse byEof headerLayout flagOf layerPlace needOf rowsBy stampOf layerOf headerBy readingOf
 by-rule = refl
 
 pub by-session : ledgerOf (after (fresh opening) (map (Offer.take (replicate 256 0)) transfers)) .numbers ≡ printed
-unfolding ifElse firstFrom anyBelow frameSizeBroken payloadSizeBroken byEof headerLayout flagOf layerPlace needOf flagsBy stampOf layerOf headerBy readingOf turnOf spoiltOf closedOf plusOf timedOf postOf shownOf sizesBroken fillBroken accountsBroken countsBroken rule50 readOf tookOf handsOut handsOf takeOf
+unfolding ifElse anyBelow frameSizeBroken payloadSizeBroken byEof headerLayout flagOf layerPlace needOf rowsBy stampOf layerOf headerBy readingOf turnOf spoiltOf closedOf plusOf timedOf postOf shownOf sizesBroken fillBroken accountsBroken countsBroken rule50 readOf tookOf handsOut handsOf takeOf
 by-session = refl
 
 pub all-taken : taken (fresh opening) (map (Offer.take (replicate 256 0)) transfers) ≡ map Call.transfer transfers
-unfolding ifElse firstFrom anyBelow frameSizeBroken payloadSizeBroken byEof headerLayout flagOf layerPlace needOf flagsBy stampOf layerOf headerBy readingOf turnOf spoiltOf closedOf plusOf timedOf postOf shownOf sizesBroken fillBroken accountsBroken countsBroken rule50 readOf tookOf handsOut handsOf takeOf
+unfolding ifElse anyBelow frameSizeBroken payloadSizeBroken byEof headerLayout flagOf layerPlace needOf rowsBy stampOf layerOf headerBy readingOf turnOf spoiltOf closedOf plusOf timedOf postOf shownOf sizesBroken fillBroken accountsBroken countsBroken rule50 readOf tookOf handsOut handsOf takeOf
 all-taken = refl
 
 -- and what each of its transfers answers
@@ -78,7 +78,7 @@ pub answers-by-rule : answersFrom [] transfers
     ∷ only (Fate.Unreadable 61)
     ∷ only (Fate.Dropped Reason.Gap)
     ∷ []
-unfolding ifElse firstFrom byEof headerLayout flagOf layerPlace needOf flagsBy stampOf layerOf headerBy readingOf
+unfolding ifElse byEof headerLayout flagOf layerPlace needOf rowsBy stampOf layerOf headerBy readingOf
 answers-by-rule = refl
 
 -- Stills among the film (document 02, Ten): the step of 32 goes over a stamped still, which is in its own account; then a frame that is mixed.
@@ -104,24 +104,24 @@ billed-apart =
     5 ∷ 9 ∷ 1 ∷ 1 ∷ 0 ∷ 0 ∷ 0 ∷ 0 ∷ 0 ∷ 0 ∷ 0 ∷ 0 ∷ 0 ∷ 0 ∷ 1 ∷ 1 ∷ 1 ∷ 2 ∷ 0 ∷ 0 ∷ 0 ∷ 0 ∷ 0 ∷ 0 ∷ 9 ∷ 42 ∷ 1 ∷ 0 ∷ 32 ∷ 1 ∷ 1 ∷ []
 
 pub stills-by-rule : numbersOf (entries opening among-film) ≡ billed-apart
-unfolding ifElse firstFrom byEof headerLayout flagOf layerPlace needOf flagsBy stampOf layerOf headerBy readingOf
+unfolding ifElse byEof headerLayout flagOf layerPlace needOf rowsBy stampOf layerOf headerBy readingOf
 stills-by-rule = refl
 
 pub stills-by-session : ledgerOf (after (fresh opening) (map (offerWith (replicate 256 0)) asked-film)) .numbers ≡ billed-apart
-unfolding ifElse firstFrom anyBelow frameSizeBroken payloadSizeBroken byEof headerLayout flagOf layerPlace needOf flagsBy stampOf layerOf headerBy readingOf turnOf spoiltOf closedOf plusOf timedOf postOf shownOf sizesBroken fillBroken accountsBroken countsBroken rule50 readOf tookOf handsOut handsOf takeOf lostOf
+unfolding ifElse anyBelow frameSizeBroken payloadSizeBroken byEof headerLayout flagOf layerPlace needOf rowsBy stampOf layerOf headerBy readingOf turnOf spoiltOf closedOf plusOf timedOf postOf shownOf sizesBroken fillBroken accountsBroken countsBroken rule50 readOf tookOf handsOut handsOf takeOf lostOf
 stills-by-session = refl
 
 -- what its still, its mixed frame and an empty still answer
 pub still-answer : answerOf opening [] (0x06 ∷ 0xA7 ∷ 0x07 ∷ 0x00 ∷ 0x00 ∷ 0x00 ∷ 0x73 ∷ []) ≡ only (Fate.Still (record { len = 1; stamp = Stamp.At 7; layer = Layer.Absent }))
-unfolding ifElse firstFrom byEof headerLayout flagOf layerPlace needOf flagsBy stampOf layerOf headerBy readingOf
+unfolding ifElse byEof headerLayout flagOf layerPlace needOf rowsBy stampOf layerOf headerBy readingOf
 still-answer = refl
 
 pub mixed-answer : answerOf opening (Call.transfer (0x02 ∷ 0x81 ∷ 0x6D ∷ []) ∷ []) (0x02 ∷ 0xA3 ∷ 0x6E ∷ []) ≡ only (Fate.Dropped Reason.Mixed)
-unfolding ifElse firstFrom byEof headerLayout flagOf layerPlace needOf flagsBy stampOf layerOf headerBy readingOf
+unfolding ifElse byEof headerLayout flagOf layerPlace needOf rowsBy stampOf layerOf headerBy readingOf
 mixed-answer = refl
 
 pub empty-still : answerOf opening [] (0x02 ∷ 0xA2 ∷ []) ≡ only (Fate.Dropped Reason.Empty)
-unfolding ifElse firstFrom byEof headerLayout flagOf layerPlace needOf flagsBy stampOf layerOf headerBy readingOf
+unfolding ifElse byEof headerLayout flagOf layerPlace needOf rowsBy stampOf layerOf headerBy readingOf
 empty-still = refl
 
 -- A camera that sends no EOF (document 02, Two): frame size 256, payload size 62, framing 1, so that D1 is clear. Two frames are handed out, each before a transfer that is
@@ -167,15 +167,15 @@ abbrev pub by-fid : List ℕ
 by-fid = 2 ∷ 3 ∷ 1 ∷ 2 ∷ 0 ∷ 0 ∷ 0 ∷ 0 ∷ 0 ∷ 0 ∷ 1 ∷ 1 ∷ 1 ∷ 0 ∷ 0 ∷ 0 ∷ 0 ∷ 0 ∷ 0 ∷ 0 ∷ 0 ∷ 0 ∷ 0 ∷ 0 ∷ 8 ∷ 16 ∷ 1 ∷ 0 ∷ 0 ∷ 0 ∷ 2 ∷ []
 
 pub no-eof-by-rule : numbersOf (entries no-eof listed) ≡ by-fid
-unfolding ifElse firstFrom byEof headerLayout flagOf layerPlace needOf flagsBy stampOf layerOf headerBy readingOf
+unfolding ifElse byEof headerLayout flagOf layerPlace needOf rowsBy stampOf layerOf headerBy readingOf
 no-eof-by-rule = refl
 
 pub no-eof-by-session : ledgerOf (after (fresh no-eof) (map (offerWith (replicate 256 0)) asked)) .numbers ≡ by-fid
-unfolding ifElse firstFrom anyBelow frameSizeBroken payloadSizeBroken byEof headerLayout flagOf layerPlace needOf flagsBy stampOf layerOf headerBy readingOf turnOf spoiltOf closedOf plusOf timedOf postOf shownOf sizesBroken fillBroken accountsBroken countsBroken rule50 readOf tookOf handsOut handsOf handedOf outOf takeOf lostOf closeOf
+unfolding ifElse anyBelow frameSizeBroken payloadSizeBroken byEof headerLayout flagOf layerPlace needOf rowsBy stampOf layerOf headerBy readingOf turnOf spoiltOf closedOf plusOf timedOf postOf shownOf sizesBroken fillBroken accountsBroken countsBroken rule50 readOf tookOf handsOut handsOf handedOf outOf takeOf lostOf closeOf
 no-eof-by-session = refl
 
 pub no-eof-listed : taken (fresh no-eof) (map (offerWith (replicate 256 0)) asked) ≡ listed
-unfolding ifElse firstFrom anyBelow frameSizeBroken payloadSizeBroken byEof headerLayout flagOf layerPlace needOf flagsBy stampOf layerOf headerBy readingOf turnOf spoiltOf closedOf plusOf timedOf postOf shownOf sizesBroken fillBroken accountsBroken countsBroken rule50 readOf tookOf handsOut handsOf handedOf outOf takeOf lostOf closeOf
+unfolding ifElse anyBelow frameSizeBroken payloadSizeBroken byEof headerLayout flagOf layerPlace needOf rowsBy stampOf layerOf headerBy readingOf turnOf spoiltOf closedOf plusOf timedOf postOf shownOf sizesBroken fillBroken accountsBroken countsBroken rule50 readOf tookOf handsOut handsOf handedOf outOf takeOf lostOf closeOf
 no-eof-listed = refl
 
 -- what each take comes to by the rule, and what close answers
@@ -206,11 +206,11 @@ pub no-eof-outcomes : outcomesFrom no-eof [] asked
     ∷ kept-after Reason.Empty
     ∷ kept
     ∷ []
-unfolding ifElse firstFrom byEof headerLayout flagOf layerPlace needOf flagsBy stampOf layerOf headerBy readingOf
+unfolding ifElse byEof headerLayout flagOf layerPlace needOf rowsBy stampOf layerOf headerBy readingOf
 no-eof-outcomes = refl
 
 pub no-eof-close : endingOf no-eof (Call.transfer (0x02 ∷ 0x80 ∷ 0xEE ∷ []) ∷ []) ≡ Ended.Frame Reason.Cut
-unfolding ifElse firstFrom byEof headerLayout flagOf layerPlace needOf flagsBy stampOf layerOf headerBy readingOf
+unfolding ifElse byEof headerLayout flagOf layerPlace needOf rowsBy stampOf layerOf headerBy readingOf
 no-eof-close = refl
 
 -- VP8 cameras (document 02, Twelve): a frame's layer is that of its last transfer that has one. Each transfer has the stamp 16; 84 announces a layer, 02 more is EOF.
@@ -235,11 +235,11 @@ abbrev three-sent : List Ask
 three-sent = sent 0x0A 0x84 (0x34 ∷ 0x12 ∷ 0xAA ∷ []) ∷ sent 0x08 0x04 (0xBB ∷ []) ∷ sent 0x0A 0x86 (0x78 ∷ 0x56 ∷ 0xCC ∷ []) ∷ []
 
 pub last-layer-by-rule : outcomesFrom (vp8 3) [] three-sent ≡ kept ∷ kept ∷ delivered 3 (Layer.At 22136) ∷ []
-unfolding ifElse firstFrom byEof headerLayout flagOf layerPlace needOf flagsBy stampOf layerOf headerBy readingOf
+unfolding ifElse byEof headerLayout flagOf layerPlace needOf rowsBy stampOf layerOf headerBy readingOf
 last-layer-by-rule = refl
 
 pub last-layer-by-session : outcomesBy (fresh (vp8 3)) three-sent ≡ kept ∷ kept ∷ delivered 3 (Layer.At 22136) ∷ []
-unfolding ifElse firstFrom anyBelow frameSizeBroken payloadSizeBroken byEof headerLayout flagOf layerPlace needOf flagsBy stampOf layerOf headerBy readingOf turnOf spoiltOf closedOf plusOf timedOf postOf shownOf sizesBroken fillBroken accountsBroken countsBroken rule50 readOf tookOf handsOut handsOf handedOf outOf takeOf lostOf closeOf
+unfolding ifElse anyBelow frameSizeBroken payloadSizeBroken byEof headerLayout flagOf layerPlace needOf rowsBy stampOf layerOf headerBy readingOf turnOf spoiltOf closedOf plusOf timedOf postOf shownOf sizesBroken fillBroken accountsBroken countsBroken rule50 readOf tookOf handsOut handsOf handedOf outOf takeOf lostOf closeOf
 last-layer-by-session = refl
 
 -- only the first has one
@@ -247,11 +247,11 @@ abbrev two-sent : List Ask
 two-sent = sent 0x0A 0x84 (0x34 ∷ 0x12 ∷ 0xAA ∷ []) ∷ sent 0x08 0x06 (0xBB ∷ []) ∷ []
 
 pub only-layer-by-rule : outcomesFrom (vp8 3) [] two-sent ≡ kept ∷ delivered 2 (Layer.At 4660) ∷ []
-unfolding ifElse firstFrom byEof headerLayout flagOf layerPlace needOf flagsBy stampOf layerOf headerBy readingOf
+unfolding ifElse byEof headerLayout flagOf layerPlace needOf rowsBy stampOf layerOf headerBy readingOf
 only-layer-by-rule = refl
 
 pub only-layer-by-session : outcomesBy (fresh (vp8 3)) two-sent ≡ kept ∷ delivered 2 (Layer.At 4660) ∷ []
-unfolding ifElse firstFrom anyBelow frameSizeBroken payloadSizeBroken byEof headerLayout flagOf layerPlace needOf flagsBy stampOf layerOf headerBy readingOf turnOf spoiltOf closedOf plusOf timedOf postOf shownOf sizesBroken fillBroken accountsBroken countsBroken rule50 readOf tookOf handsOut handsOf handedOf outOf takeOf lostOf closeOf
+unfolding ifElse anyBelow frameSizeBroken payloadSizeBroken byEof headerLayout flagOf layerPlace needOf rowsBy stampOf layerOf headerBy readingOf turnOf spoiltOf closedOf plusOf timedOf postOf shownOf sizesBroken fillBroken accountsBroken countsBroken rule50 readOf tookOf handsOut handsOf handedOf outOf takeOf lostOf closeOf
 only-layer-by-session = refl
 
 -- D5 is set in one transfer and clear in the other: delivered, no still and no mixed
@@ -259,11 +259,11 @@ abbrev intra-sent : List Ask
 intra-sent = sent 0x08 0x24 (0xAA ∷ []) ∷ sent 0x08 0x06 (0xBB ∷ []) ∷ []
 
 pub intra-frame-by-rule : outcomesFrom (vp8 3) [] intra-sent ≡ kept ∷ delivered 2 Layer.Absent ∷ []
-unfolding ifElse firstFrom byEof headerLayout flagOf layerPlace needOf flagsBy stampOf layerOf headerBy readingOf
+unfolding ifElse byEof headerLayout flagOf layerPlace needOf rowsBy stampOf layerOf headerBy readingOf
 intra-frame-by-rule = refl
 
 pub intra-frame-by-session : outcomesBy (fresh (vp8 3)) intra-sent ≡ kept ∷ delivered 2 Layer.Absent ∷ []
-unfolding ifElse firstFrom anyBelow frameSizeBroken payloadSizeBroken byEof headerLayout flagOf layerPlace needOf flagsBy stampOf layerOf headerBy readingOf turnOf spoiltOf closedOf plusOf timedOf postOf shownOf sizesBroken fillBroken accountsBroken countsBroken rule50 readOf tookOf handsOut handsOf handedOf outOf takeOf lostOf closeOf
+unfolding ifElse anyBelow frameSizeBroken payloadSizeBroken byEof headerLayout flagOf layerPlace needOf rowsBy stampOf layerOf headerBy readingOf turnOf spoiltOf closedOf plusOf timedOf postOf shownOf sizesBroken fillBroken accountsBroken countsBroken rule50 readOf tookOf handsOut handsOf handedOf outOf takeOf lostOf closeOf
 intra-frame-by-session = refl
 
 -- framing 1, so that D1 is clear: the frame is handed out with its layer, before a transfer that is offered again
@@ -275,9 +275,9 @@ abbrev handed-layer : Outcome
 handed-layer = Outcome.Handed (record { still = false; delivery = record { len = 2; stamp = Stamp.At 16; layer = Layer.At 4660 } })
 
 pub handed-layer-by-rule : outcomesFrom (vp8 1) [] turned-sent ≡ kept ∷ kept ∷ handed-layer ∷ kept ∷ []
-unfolding ifElse firstFrom byEof headerLayout flagOf layerPlace needOf flagsBy stampOf layerOf headerBy readingOf
+unfolding ifElse byEof headerLayout flagOf layerPlace needOf rowsBy stampOf layerOf headerBy readingOf
 handed-layer-by-rule = refl
 
 pub handed-layer-by-session : outcomesBy (fresh (vp8 1)) turned-sent ≡ kept ∷ kept ∷ handed-layer ∷ kept ∷ []
-unfolding ifElse firstFrom anyBelow frameSizeBroken payloadSizeBroken byEof headerLayout flagOf layerPlace needOf flagsBy stampOf layerOf headerBy readingOf turnOf spoiltOf closedOf plusOf timedOf postOf shownOf sizesBroken fillBroken accountsBroken countsBroken rule50 readOf tookOf handsOut handsOf handedOf outOf takeOf lostOf closeOf
+unfolding ifElse anyBelow frameSizeBroken payloadSizeBroken byEof headerLayout flagOf layerPlace needOf rowsBy stampOf layerOf headerBy readingOf turnOf spoiltOf closedOf plusOf timedOf postOf shownOf sizesBroken fillBroken accountsBroken countsBroken rule50 readOf tookOf handsOut handsOf handedOf outOf takeOf lostOf closeOf
 handed-layer-by-session = refl

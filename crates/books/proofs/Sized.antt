@@ -4,25 +4,25 @@ use mathlib.Core.Bool.{Bool, true, false}
 use mathlib.Core.List.{List}
 use lib.ListN.{length}
 use Rattle.rules.specs.Numbered.{firstRow}
-use Rattle.payload.specs.declared.Reading.{Reading}
-use Rattle.payload.specs.declared.Reading.the-variants.{Idle, Unreadable, Readable}
-use Rattle.payload.specs.Transfer.{readingOf}
-use Rattle.frames.specs.declared.Ended.{Ended}
-use Rattle.frames.specs.declared.Ended.the-variants.{Nothing, Frame}
-use Rattle.frames.specs.declared.Fate.{Fate}
-use Rattle.frames.specs.declared.Turn.{Turn}
-use Rattle.frames.specs.declared.HandOut.{HandOut}
-use Rattle.frames.specs.Track.{handing}
-use Rattle.ledger.specs.declared.Ledger.{Ledger}
-use Rattle.ledger.specs.Entry.{Entry}
-use Rattle.ledger.specs.Ledger.{postOf, endedOf, fatedOf}
-use Rattle.session.specs.declared.Session.{Session}
-use Rattle.session.specs.Refusals.{postedOf, takeRows, lostRows, closeRows}
-use Rattle.session.specs.Session.{turned, readOf, tookBy, tookOf, handsOut, handedOf, metBy, takeBy, takeOf, lostBy, lostOf, closeBy, closeOf}
+use Rattle.session_rules.specs.declared.Reading.{Reading}
+use Rattle.session_rules.specs.declared.Reading.the-variants.{Idle, Unreadable, Readable}
+use Rattle.session_rules.specs.Transfer.{readingOf}
+use Rattle.session_rules.specs.declared.Ended.{Ended}
+use Rattle.session_rules.specs.declared.Ended.the-variants.{Nothing, Frame}
+use Rattle.session_rules.specs.declared.Fate.{Fate}
+use Rattle.session_rules.specs.declared.Turn.{Turn}
+use Rattle.session_rules.specs.declared.HandOut.{HandOut}
+use Rattle.session_rules.specs.Track.{handing}
+use Rattle.session_rules.specs.declared.Ledger.{Ledger}
+use Rattle.session_rules.specs.Entry.{Entry}
+use Rattle.session_rules.specs.Ledger.{postOf, endedOf, fatedOf}
+use Rattle.session_rules.specs.declared.Session.{Session}
+use Rattle.session_rules.specs.Refusals.{postedOf, takeRows, lostRows, closeRows}
+use Rattle.session_rules.specs.Session.{turned, readOf, tookBy, tookOf, handsOut, handedOf, metBy, takeBy, takeOf, lostBy, lostOf, closeBy, closeOf}
 use Rattle.books.proofs.Posts.{post-sized}
-use Rattle.ledger.proofs.Places.{Sized}
-use Rattle.frames.specs.Inner.{outOf, closedOf}
-use Rattle.session.specs.Calls.{Offer, next}
+use Rattle.session_rules.proofs.Places.{Sized}
+use Rattle.session_rules.specs.Turns.{outOf, closedOf}
+use Rattle.session_rules.specs.Calls.{Offer, next}
 
 module _ (s : Session) (z : Sized (postedOf s)) where
   ended-sized : (e : Ended) (gone : ℕ) (l : Ledger) → Sized l → Sized (endedOf l e gone)

@@ -11,33 +11,33 @@ use Rattle.rules.specs.IfElse.{ifElse}
 use Rattle.rules.specs.Numbered.{firstRow, NoneOf}
 use Rattle.rules.proofs.Rows.{Numbered, row-none, any-none}
 use Rattle.sizes.specs.declared.Opening.{Opening}
-use Rattle.payload.specs.declared.Header.{Header}
-use Rattle.payload.specs.declared.Reading.{Reading}
-use Rattle.payload.specs.declared.Reading.the-variants.{Idle, Unreadable, Readable}
-use Rattle.payload.specs.Transfer.{readingOf}
-use Rattle.frames.specs.declared.Reason.{Reason}
-use Rattle.frames.specs.declared.Reason.the-variants.{Gap, Error, Clock, Mixed, Long}
-use Rattle.frames.specs.declared.Fault.{Fault}
-use Rattle.frames.specs.declared.Fault.the-variants.{Sound, Bad}
-use Rattle.frames.specs.declared.Run.{Run}
-use Rattle.frames.specs.declared.Phase.{Phase}
-use Rattle.frames.specs.declared.Phase.the-variants.{Fresh, Under, Past}
-use Rattle.frames.specs.declared.Ended.the-variants.{Nothing, Frame}
-use Rattle.session.specs.declared.Session.{Session}
-use Rattle.session.specs.Refusals.{recordBroken, ledgerOf, takeRows}
-use Rattle.session.specs.Session.{fresh, readOf, tookBy, tookOf, handsOut, handedOf}
+use Rattle.session_rules.specs.declared.Header.{Header}
+use Rattle.session_rules.specs.declared.Reading.{Reading}
+use Rattle.session_rules.specs.declared.Reading.the-variants.{Idle, Unreadable, Readable}
+use Rattle.session_rules.specs.Transfer.{readingOf}
+use Rattle.session_rules.specs.declared.Reason.{Reason}
+use Rattle.session_rules.specs.declared.Reason.the-variants.{Gap, Error, Clock, Mixed, Long}
+use Rattle.session_rules.specs.declared.Fault.{Fault}
+use Rattle.session_rules.specs.declared.Fault.the-variants.{Sound, Bad}
+use Rattle.session_rules.specs.declared.Run.{Run}
+use Rattle.session_rules.specs.declared.Phase.{Phase}
+use Rattle.session_rules.specs.declared.Phase.the-variants.{Fresh, Under, Past}
+use Rattle.session_rules.specs.declared.Ended.the-variants.{Nothing, Frame}
+use Rattle.session_rules.specs.declared.Session.{Session}
+use Rattle.session_rules.specs.Refusals.{recordBroken, ledgerOf, takeRows}
+use Rattle.session_rules.specs.Session.{fresh, readOf, tookBy, tookOf, handsOut, handedOf}
 use Rattle.books.specs.Rule.{Event, eventBy, events, loose, lostLine, idleLine, received}
 use Rattle.books.specs.Demands.{Right}
 use Rattle.books.proofs.Taken.{Proper, listed, after-run}
 use Rattle.books.proofs.Accounts.{count-right, bytes-right, all-right}
 use Rattle.books.proofs.Bounds.{heard, count-bound, bytes-bound, ticks-bound, backward-bound, untimed-bound}
 use Rattle.books.proofs.History.{next-opening}
-use Rattle.ledger.specs.Accounts.{accountCount}
+use Rattle.session_rules.specs.Accounts.{accountCount}
 use Rattle.sizes.specs.Sizes.{sizesBroken}
-use Rattle.frames.specs.Inner.{firstOf, clashOf, sameOf, mixedOf, whyOf, begunOf, joinedOf, filledOf, endsOf, turnedWhy, phaseOf, joinTurn, strayTurn, turnBy, turnOf, outBy, outOf, spoiltBy, spoiltOf, closedBy, closedOf}
-use Rattle.rule_50.specs.Rule50.{rule50, unequal, fillBroken, accountBroken, accountsBroken, countsBroken}
-use Rattle.session.specs.Call.{Call}
-use Rattle.session.specs.Calls.{Offer, refusal, next, after, callOf, unless, taken, nextCall, run}
+use Rattle.session_rules.specs.Turns.{firstOf, clashOf, sameOf, mixedOf, whyOf, begunOf, joinedOf, filledOf, endsOf, turnedWhy, phaseOf, joinTurn, strayTurn, turnBy, turnOf, outBy, outOf, spoiltBy, spoiltOf, closedBy, closedOf}
+use Rattle.session_rules.specs.Rule50.{rule50, unequal, fillBroken, accountBroken, accountsBroken, countsBroken}
+use Rattle.session_rules.specs.Call.{Call}
+use Rattle.session_rules.specs.Calls.{Offer, refusal, next, after, callOf, unless, taken, nextCall, run}
 
 -- ---- fill: within the frame, and in a frame without fault its bytes
 abbrev pub Snug : ℕ → Fault → ℕ → ℕ → Type 0

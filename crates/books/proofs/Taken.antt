@@ -4,13 +4,13 @@ use mathlib.Core.Path.{_≡_, refl, sym, _∙_, ap, subst}
 use mathlib.Core.Bool.{Bool, true, false, cond}
 use mathlib.Core.List.{List, [], _∷_, _++_}
 use Rattle.rules.specs.Numbered.{orElse}
-use Rattle.session.specs.declared.Session.{Session}
-use Rattle.session.specs.Refusals.{recordBroken}
-use Rattle.session.specs.declared.Outcome.{Outcome}
-use Rattle.session.specs.Session.{handsOut, handedOf, metBy, takeBy, takeOf, lostBy, lostOf, closeBy, closeOf}
-use Rattle.session.proofs.Refused.{took-taken}
-use Rattle.session.specs.Call.{Call}
-use Rattle.session.specs.Calls.{Offer, refusal, next, after, callBy, callOf, unless, taken, nextCall, run}
+use Rattle.session_rules.specs.declared.Session.{Session}
+use Rattle.session_rules.specs.Refusals.{recordBroken}
+use Rattle.session_rules.specs.declared.Outcome.{Outcome}
+use Rattle.session_rules.specs.Session.{handsOut, handedOf, metBy, takeBy, takeOf, lostBy, lostOf, closeBy, closeOf}
+use Rattle.session_rules.proofs.Refused.{took-taken}
+use Rattle.session_rules.specs.Call.{Call}
+use Rattle.session_rules.specs.Calls.{Offer, refusal, next, after, callBy, callOf, unless, taken, nextCall, run}
 
 -- ---- what a take that is not refused is in the list: a transfer, or the mark where a frame is handed out
 as-listed : (s : Session) (t : List ℕ) (k : ℕ) (c : Bool) → k ≡ 0 → handsOut s t ≡ c → callBy (takeBy k s t .outcome) t ≡ cond c Call.handed (Call.transfer t)

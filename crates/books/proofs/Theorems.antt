@@ -9,28 +9,29 @@ use native.Mathlib.Omega.{arith}
 use lib.ListN.{length, getD, replicate}
 use lib.Dec.{eqb}
 use borrow.Author.Tests.{le-ltb}
-use Rattle.rules.specs.Numbered.{firstFrom, orElse, Down}
-use Rattle.rules.proofs.Numbered.{first-zero}
+use Rattle.rules.specs.Numbered.{firstRow, orElse}
 use Rattle.sizes.specs.declared.Opening.{Opening}
 use Rattle.sizes.specs.declared.HeaderKind.the-variants.{Old, Vp8}
 use Rattle.sizes.specs.Framing.{byEof}
-use Rattle.payload.specs.OldKind.{OldKind}
-use Rattle.payload.specs.Vp8Kind.{Vp8Kind}
-use Rattle.payload.proofs.OldKind as old
-use Rattle.payload.proofs.Vp8Kind as vp8
-use Rattle.frames.specs.declared.Answer.{Answer}
-use Rattle.frames.specs.declared.Delivery.{Delivery}
-use Rattle.frames.specs.declared.Ended.{Ended}
-use Rattle.frames.specs.declared.HandOut.{HandOut}
-use Rattle.frames.specs.Track.{handing}
-use Rattle.session.specs.declared.Session.{Session}
-use Rattle.session.specs.declared.Start.{Start}
-use Rattle.session.specs.declared.Outcome.{Outcome}
-use Rattle.session.specs.declared.Report.{Report}
-use Rattle.session.specs.declared.Closing.{Closing}
-use Rattle.refusals.specs.Refusals.{takenMost, openingFlags}
-use Rattle.session.specs.Refusals.{recordBroken, ledgerOf}
-use Rattle.session.specs.Session.{fresh, openBy, openOf, takeOf, bufferBy, bufferOf, lostOf, closeOf}
+use Rattle.session_rules.specs.OldKind.{OldKind}
+use Rattle.session_rules.specs.Vp8Kind.{Vp8Kind}
+use Rattle.session_rules.proofs.OldKind as old
+use Rattle.session_rules.proofs.Vp8Kind as vp8
+use Rattle.session_rules.specs.declared.Answer.{Answer}
+use Rattle.session_rules.specs.declared.Delivery.{Delivery}
+use Rattle.session_rules.specs.declared.Ended.{Ended}
+use Rattle.session_rules.specs.declared.HandOut.{HandOut}
+use Rattle.session_rules.specs.Track.{handing}
+use Rattle.session_rules.specs.declared.Session.{Session}
+use Rattle.session_rules.specs.declared.Start.{Start}
+use Rattle.session_rules.specs.declared.Outcome.{Outcome}
+use Rattle.session_rules.specs.declared.Report.{Report}
+use Rattle.session_rules.specs.declared.Closing.{Closing}
+use Rattle.session_rules.specs.Refusals.{takenMost, openingRows}
+use Rattle.session_rules.specs.Refusals.{recordBroken, ledgerOf}
+use Rattle.rules.proofs.Rows.{none-row}
+use Rattle.session_rules.proofs.Refused.{open-open-exactly}
+use Rattle.session_rules.specs.Session.{fresh, openBy, openOf, takeOf, bufferBy, bufferOf, lostOf, closeOf}
 use Rattle.books.specs.Rule.{events, isOpen, entries, numbersOf, stamps, lastStamped, forward, between, received}
 use Rattle.books.specs.Demands.{Right, allBytes, endedItems, fateItems, Gains, Says, Whole, Film, WithoutStills}
 use Rattle.books.specs.HandedOut.{HandsOut, HandedWhole, MarkedBefore, EofFraming}
@@ -54,28 +55,21 @@ use Rattle.books.proofs.Stills.{without-stills}
 use Rattle.books.proofs.HeaderKinds.{no-layers, reports-none, all-timed, all-film, answers-no-still, closes-no-still}
 use Rattle.books.proofs.Alongside.{heard-alike}
 use Rattle.books.proofs.Samples.{opening, transfers, printed, by-rule, by-session}
-use Rattle.ledger.specs.Accounts.{ticksAt}
+use Rattle.session_rules.specs.Accounts.{ticksAt}
 use Rattle.sizes.specs.Sizes.{sizesBroken}
-use Rattle.rule_50.specs.Rule50.{transferMost}
-use Rattle.session.specs.Call.{Ask, Call}
-use Rattle.session.specs.Calls.{Offer, refusal, next, after, taken, nextCall, run, offers, bufferAfter}
+use Rattle.session_rules.specs.Rule50.{transferMost}
+use Rattle.session_rules.specs.Call.{Ask, Call}
+use Rattle.session_rules.specs.Calls.{Offer, refusal, next, after, taken, nextCall, run, offers, bufferAfter}
 
 -- An opening that is not refused gives a fresh session of admissible sizes.
 pub opened : (o : Opening) (room : ℕ) → openOf o room .start ≡ Start.Open → (openOf o room .session ≡ fresh o) × (sizesBroken o ≡ false)
-unfolding openOf openingFlags sizesBroken
-opened o room e = go (firstFrom 45 (openingFlags o room)) refl e
-  where
-    no : (k : ℕ) → Start.Refused k ≡ Start.Open → ⊥
-    no k q = let z : _≡_ {A = ℕ} 0 1 = cc in omega arith
-
-    go : (k : ℕ) → firstFrom 45 (openingFlags o room) ≡ k → openBy k o .start ≡ Start.Open → (openBy k o .session ≡ fresh o) × (sizesBroken o ≡ false)
-    go zero q s = let d : Down (openingFlags o room) = first-zero 45 (openingFlags o room) (omega arith) q in (refl, rw (d .0, d .1 .0))
-    go (suc k) q s = absurd (no (suc k) s)
+unfolding openOf openingRows sizesBroken
+opened o room e = let d = open-open-exactly o room .0 e in rw (none-row (openingRows o room) d) (refl, rw (d .0, d .1 .0))
 
 -- One that is refused gives a session that refuses everything by 50, whatever is offered.
 pub refused-opening : (o : Opening) (room k : ℕ) → openOf o room .start ≡ Start.Refused k → (xs : List Offer) (x : Offer) → refusal (after (openOf o room .session) xs) x ≡ 50
 unfolding openOf
-refused-opening o room k e xs x = go (firstFrom 45 (openingFlags o room)) e
+refused-opening o room k e xs x = go (firstRow (openingRows o room)) e
   where
     no : Start.Open ≡ Start.Refused k → ⊥
     no q = let z : _≡_ {A = ℕ} 0 1 = cc in omega arith

@@ -9,24 +9,24 @@ use lib.Dec.{ltb, eqb}
 use Rattle.rules.specs.IfElse.{ifElse}
 use Rattle.sizes.specs.declared.Opening.{Opening}
 use Rattle.sizes.specs.Framing.{byEof}
-use Rattle.payload.specs.declared.Header.{Header}
-use Rattle.payload.specs.declared.Stamp.{Stamp}
-use Rattle.payload.specs.declared.Stamp.the-variants.{Absent}
-use Rattle.payload.specs.declared.Layer.{Layer}
-use Rattle.frames.specs.declared.Reason.the-variants.{Gap, Cut, Empty}
-use Rattle.frames.specs.declared.Fault.{Fault}
-use Rattle.frames.specs.declared.Fault.the-variants.{Sound, Bad}
-use Rattle.frames.specs.declared.Run.{Run}
-use Rattle.frames.specs.declared.Phase.{Phase}
-use Rattle.frames.specs.declared.Phase.the-variants.{Fresh, Under, Past}
-use Rattle.frames.specs.declared.Ended.{Ended}
-use Rattle.frames.specs.declared.Ended.the-variants.{Nothing, Frame}
-use Rattle.frames.specs.declared.Fate.{Fate}
-use Rattle.frames.specs.declared.Delivery.{Delivery}
-use Rattle.frames.specs.declared.Turn.{Turn}
-use Rattle.frames.specs.Inner.{whyOf, sameOf, begunOf, joinedOf, completeOf, endsOf, turnedWhy, fateOf, phaseOf, joinTurn, strayTurn, turnBy, readyOf, handsBy, outBy}
-use Rattle.frames.specs.Inner as track
-use Rattle.ledger.specs.Entry.{Entry}
+use Rattle.session_rules.specs.declared.Header.{Header}
+use Rattle.session_rules.specs.declared.Stamp.{Stamp}
+use Rattle.session_rules.specs.declared.Stamp.the-variants.{Absent}
+use Rattle.session_rules.specs.declared.Layer.{Layer}
+use Rattle.session_rules.specs.declared.Reason.the-variants.{Gap, Cut, Empty}
+use Rattle.session_rules.specs.declared.Fault.{Fault}
+use Rattle.session_rules.specs.declared.Fault.the-variants.{Sound, Bad}
+use Rattle.session_rules.specs.declared.Run.{Run}
+use Rattle.session_rules.specs.declared.Phase.{Phase}
+use Rattle.session_rules.specs.declared.Phase.the-variants.{Fresh, Under, Past}
+use Rattle.session_rules.specs.declared.Ended.{Ended}
+use Rattle.session_rules.specs.declared.Ended.the-variants.{Nothing, Frame}
+use Rattle.session_rules.specs.declared.Fate.{Fate}
+use Rattle.session_rules.specs.declared.Delivery.{Delivery}
+use Rattle.session_rules.specs.declared.Turn.{Turn}
+use Rattle.session_rules.specs.Turns.{whyOf, sameOf, begunOf, joinedOf, completeOf, endsOf, turnedWhy, fateOf, phaseOf, joinTurn, strayTurn, turnBy, readyOf, handsBy, outBy}
+use Rattle.session_rules.specs.Turns as track
+use Rattle.session_rules.specs.Entry.{Entry}
 use Rattle.books.specs.Rule.{Seen, closes, frameOf, strayOf, closed, complete, dataOf, _orStamp_, firstStamp, _thenLayer_, lastLayer, stillOf, _or_, when, faultAt, fault, handedOut, verdict}
 use Rattle.books.specs.Answer.{frameEntry, reasonIn, endedIn, turnedIn, goesOn, fateIn, fateBy, fateOn, turns, isSound, handsIn, outOf, earlier, writtenBy, writtenIn}
 use Rattle.books.proofs.Cut.{or-sound, stamp-absent, earlier-or, later-then, same-beq, fault-or}

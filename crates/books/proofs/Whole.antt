@@ -6,24 +6,24 @@ use mathlib.Core.List.{List, [], _∷_, _++_, append-assoc, append-nil}
 use lib.ListN.{length, take, drop}
 use lib.Dec.{eqb}
 use Rattle.sizes.specs.declared.Opening.{Opening}
-use Rattle.payload.specs.declared.Header.{Header}
-use Rattle.payload.specs.declared.Reading.{Reading}
-use Rattle.payload.specs.declared.Reading.the-variants.{Idle, Unreadable, Readable}
-use Rattle.payload.specs.Transfer.{readingOf}
-use Rattle.frames.specs.declared.Reason.the-variants.{Empty}
-use Rattle.frames.specs.declared.Fault.{Fault}
-use Rattle.frames.specs.declared.Fault.the-variants.{Sound, Bad}
-use Rattle.frames.specs.declared.Delivery.{Delivery}
-use Rattle.frames.specs.declared.Fate.{Fate}
-use Rattle.frames.specs.declared.HandOut.{HandOut}
-use Rattle.frames.specs.Track.{handing}
-use Rattle.frames.specs.declared.Answer.{Answer}
-use Rattle.ledger.specs.Entry.{Entry}
-use Rattle.session.specs.declared.Session.{Session}
-use Rattle.session.specs.declared.Outcome.{Outcome}
-use Rattle.session.specs.Session.{fresh, handsOut, takeOf, bufferBy, bufferOf}
-use Rattle.session.specs.Call.{Ask, Call}
-use Rattle.session.specs.Calls.{Offer, refusal, next, after, callOf, unless, taken, offerWith, bufferNext, offers, bufferAfter}
+use Rattle.session_rules.specs.declared.Header.{Header}
+use Rattle.session_rules.specs.declared.Reading.{Reading}
+use Rattle.session_rules.specs.declared.Reading.the-variants.{Idle, Unreadable, Readable}
+use Rattle.session_rules.specs.Transfer.{readingOf}
+use Rattle.session_rules.specs.declared.Reason.the-variants.{Empty}
+use Rattle.session_rules.specs.declared.Fault.{Fault}
+use Rattle.session_rules.specs.declared.Fault.the-variants.{Sound, Bad}
+use Rattle.session_rules.specs.declared.Delivery.{Delivery}
+use Rattle.session_rules.specs.declared.Fate.{Fate}
+use Rattle.session_rules.specs.declared.HandOut.{HandOut}
+use Rattle.session_rules.specs.Track.{handing}
+use Rattle.session_rules.specs.declared.Answer.{Answer}
+use Rattle.session_rules.specs.Entry.{Entry}
+use Rattle.session_rules.specs.declared.Session.{Session}
+use Rattle.session_rules.specs.declared.Outcome.{Outcome}
+use Rattle.session_rules.specs.Session.{fresh, handsOut, takeOf, bufferBy, bufferOf}
+use Rattle.session_rules.specs.Call.{Ask, Call}
+use Rattle.session_rules.specs.Calls.{Offer, refusal, next, after, callOf, unless, taken, offerWith, bufferNext, offers, bufferAfter}
 use Rattle.books.specs.Rule.{Event, idle, unreadable, missing, readable, mark, eventBy, events, isOpen, Seen, frameOf, strayOf, closed, complete, dataOf, firstStamp, lastLayer, stillOf, fault, handedOut, verdict}
 use Rattle.books.specs.Answer.{lastRun, fateIn, fateBy, fateOn, with, answerFor, answerOf, hands, outOf, writtenFor}
 use Rattle.books.specs.HandedOut.{HandedWhole}

@@ -8,20 +8,20 @@ use lib.Seq.{paste}
 use lib.Dec.{eqb}
 use Rattle.sizes.specs.declared.Opening.{Opening}
 use Rattle.sizes.specs.Framing.{byEof}
-use Rattle.payload.specs.declared.Header.{Header}
-use Rattle.payload.specs.declared.Reading.{Reading}
-use Rattle.payload.specs.declared.Reading.the-variants.{Idle, Unreadable, Readable}
-use Rattle.payload.specs.Transfer.{readingOf}
-use Rattle.frames.specs.declared.Fault.{Fault}
-use Rattle.frames.specs.declared.Fault.the-variants.{Sound, Bad}
-use Rattle.frames.specs.declared.Ended.{Ended}
-use Rattle.frames.specs.declared.Ended.the-variants.{Nothing, Frame}
-use Rattle.frames.specs.declared.Fate.{Fate}
-use Rattle.frames.specs.declared.Answer.{Answer}
-use Rattle.frames.specs.declared.HandOut.{HandOut}
-use Rattle.ledger.specs.Entry.{Entry}
-use Rattle.session.specs.declared.Outcome.{Outcome}
-use Rattle.session.specs.Call.{Call}
+use Rattle.session_rules.specs.declared.Header.{Header}
+use Rattle.session_rules.specs.declared.Reading.{Reading}
+use Rattle.session_rules.specs.declared.Reading.the-variants.{Idle, Unreadable, Readable}
+use Rattle.session_rules.specs.Transfer.{readingOf}
+use Rattle.session_rules.specs.declared.Fault.{Fault}
+use Rattle.session_rules.specs.declared.Fault.the-variants.{Sound, Bad}
+use Rattle.session_rules.specs.declared.Ended.{Ended}
+use Rattle.session_rules.specs.declared.Ended.the-variants.{Nothing, Frame}
+use Rattle.session_rules.specs.declared.Fate.{Fate}
+use Rattle.session_rules.specs.declared.Answer.{Answer}
+use Rattle.session_rules.specs.declared.HandOut.{HandOut}
+use Rattle.session_rules.specs.Entry.{Entry}
+use Rattle.session_rules.specs.declared.Outcome.{Outcome}
+use Rattle.session_rules.specs.Call.{Call}
 use Rattle.books.specs.Rule.{events, Seen, readables, runs, frameOf, strayOf, closed, complete, dataOf, firstStamp, lastLayer, stillOf, fault, verdict}
 
 -- THE LAST RUN of a list; none, where no transfer is readable

@@ -5,21 +5,21 @@ use mathlib.Core.Bool.{Bool, true, false}
 use mathlib.Core.List.{List, [], _∷_, _++_, map}
 use lib.ListN.{length, getD, take}
 use Rattle.sizes.specs.declared.Opening.{Opening}
-use Rattle.payload.specs.declared.Header.{Header}
-use Rattle.frames.specs.declared.Reason.the-variants.{Mixed}
-use Rattle.frames.specs.declared.Fault.the-variants.{Sound}
-use Rattle.frames.specs.declared.Ended.{Ended}
-use Rattle.frames.specs.declared.Ended.the-variants.{Nothing, Frame}
-use Rattle.frames.specs.declared.Fate.{Fate}
-use Rattle.frames.specs.declared.Answer.{Answer}
-use Rattle.frames.specs.declared.Delivery.{Delivery}
-use Rattle.ledger.specs.declared.Account.{Account}
-use Rattle.ledger.specs.Entry.{Entry}
-use Rattle.ledger.specs.declared.Ledger.{Ledger}
-use Rattle.ledger.specs.Ledger.{countOf, bytesOf}
+use Rattle.session_rules.specs.declared.Header.{Header}
+use Rattle.session_rules.specs.declared.Reason.the-variants.{Mixed}
+use Rattle.session_rules.specs.declared.Fault.the-variants.{Sound}
+use Rattle.session_rules.specs.declared.Ended.{Ended}
+use Rattle.session_rules.specs.declared.Ended.the-variants.{Nothing, Frame}
+use Rattle.session_rules.specs.declared.Fate.{Fate}
+use Rattle.session_rules.specs.declared.Answer.{Answer}
+use Rattle.session_rules.specs.declared.Delivery.{Delivery}
+use Rattle.session_rules.specs.declared.Account.{Account}
+use Rattle.session_rules.specs.Entry.{Entry}
+use Rattle.session_rules.specs.declared.Ledger.{Ledger}
+use Rattle.session_rules.specs.Ledger.{countOf, bytesOf}
 use Rattle.books.specs.Rule.{Event, idle, unreadable, missing, readable, mark, frameOf, strayOf, closed, dataOf, firstStamp, lastLayer, stillOf, fault, Item, framesBy, entryOf, entries, lostLine, idleLine, oneIn, partIn, total, stamps, untimed, forward, back, between}
-use Rattle.ledger.specs.Accounts.{accounts, placeOf, lostAt, idleAt, ticksAt, backwardAt, untimedAt}
-use Rattle.session.specs.Call.{Call}
+use Rattle.session_rules.specs.Accounts.{accounts, placeOf, lostAt, idleAt, ticksAt, backwardAt, untimedAt}
+use Rattle.session_rules.specs.Call.{Call}
 use Rattle.books.specs.Answer.{lastRun}
 
 -- THE LEDGER AND THE RULE: every number of a ledger is what the rule gives from the opening and the calls taken.

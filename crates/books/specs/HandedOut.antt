@@ -6,12 +6,12 @@ use mathlib.Core.List.{List, [], _∷_}
 use lib.ListN.{length, take}
 use Rattle.sizes.specs.declared.Opening.{Opening}
 use Rattle.sizes.specs.Framing.{byEof}
-use Rattle.payload.specs.declared.Header.{Header}
-use Rattle.payload.specs.declared.Reading.the-variants.{Readable}
-use Rattle.payload.specs.Transfer.{readingOf}
-use Rattle.frames.specs.declared.Fault.the-variants.{Sound}
-use Rattle.frames.specs.declared.HandOut.{HandOut}
-use Rattle.session.specs.Call.{Call}
+use Rattle.session_rules.specs.declared.Header.{Header}
+use Rattle.session_rules.specs.declared.Reading.the-variants.{Readable}
+use Rattle.session_rules.specs.Transfer.{readingOf}
+use Rattle.session_rules.specs.declared.Fault.the-variants.{Sound}
+use Rattle.session_rules.specs.declared.HandOut.{HandOut}
+use Rattle.session_rules.specs.Call.{Call}
 use Rattle.books.specs.Rule.{events, Seen, readables, runs, closes, frameOf, closed, complete, dataOf, gapAfter, fault}
 use Rattle.books.specs.Answer.{lastRun, turns, outOf}
 

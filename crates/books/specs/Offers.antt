@@ -8,13 +8,13 @@ use lib.Dec.{ltb, eqb}
 use Rattle.rules.specs.Numbered.{Row, row, firstRow}
 use Rattle.sizes.specs.declared.Opening.{Opening}
 use Rattle.sizes.specs.Sizes.{sizesBroken}
-use Rattle.rule_50.specs.Rule50.{transferMost}
-use Rattle.refusals.specs.Refusals.{takenMost}
-use Rattle.session.specs.declared.Outcome.{Outcome}
-use Rattle.session.specs.declared.Report.{Report}
-use Rattle.session.specs.declared.Closing.{Closing}
-use Rattle.session.specs.Call.{Call, transfer, lost, handed, close}
-use Rattle.session.specs.Calls.{Offer, unless}
+use Rattle.session_rules.specs.Rule50.{transferMost}
+use Rattle.session_rules.specs.Refusals.{takenMost}
+use Rattle.session_rules.specs.declared.Outcome.{Outcome}
+use Rattle.session_rules.specs.declared.Report.{Report}
+use Rattle.session_rules.specs.declared.Closing.{Closing}
+use Rattle.session_rules.specs.Call.{Call, transfer, lost, handed, close}
+use Rattle.session_rules.specs.Calls.{Offer, unless}
 use Rattle.books.specs.Rule.{isOpen}
 use Rattle.books.specs.Answer.{hands, outcomeOf, endingOf, writtenOf}
 

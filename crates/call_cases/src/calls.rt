@@ -2,11 +2,12 @@
 use crate::shown;
 use cases::input;
 use cases::print;
-use session::Closing;
-use session::Outcome;
-use session::Report;
-use session::Session;
-use session::Start;
+use recorder::Recorder;
+use session_rules::Closing;
+use session_rules::Outcome;
+use session_rules::Report;
+use session_rules::Session;
+use session_rules::Start;
 use sizes::HeaderKind;
 use sizes::Opening;
 
@@ -61,7 +62,7 @@ pub fn header_kind() -> HeaderKind {
 }
 
 pub fn open(opening: Opening, buffer: &[u8]) -> Session {
-    let opened = Session::open(opening, buffer);
+    let opened = Recorder::open(opening, buffer);
     let start = opened.start;
     match start {
         Start::Open => print::text(b"open\n"),
@@ -111,7 +112,7 @@ fn after_call(buffer: &[u8], hashed: bool) {
 // What is left at the end: the ledger, a small buffer, and the record where all is to be told.
 pub fn finish(last: Next, buffer: &[u8], whole: bool) -> bool {
     let s = last.session;
-    shown::ledger(s.ledger());
+    shown::ledger(session::ledger(s));
     if buffer.len() <= 64 {
         print::hex(b"buffer", buffer);
     }
@@ -163,7 +164,7 @@ fn take(s: Session, buffer: &mut [u8], transfer: &mut [u8]) -> Next {
 
 // The session after a transfer, and what it answers.
 pub fn offer(s: Session, buffer: &mut [u8], transfer: &[u8]) -> Session {
-    let taken = s.take(buffer, transfer);
+    let taken = Recorder { session: s }.take(buffer, transfer);
     let outcome = taken.outcome;
     match outcome {
         Outcome::Refused(number) => shown::refused(number),
@@ -174,7 +175,7 @@ pub fn offer(s: Session, buffer: &mut [u8], transfer: &[u8]) -> Session {
 }
 
 fn lost(s: Session) -> Next {
-    let reported = s.lost();
+    let reported = Recorder { session: s }.lost();
     let report = reported.report;
     let session = reported.session;
     match report {
@@ -188,7 +189,7 @@ fn lost(s: Session) -> Next {
 }
 
 fn close(s: Session) -> Next {
-    let closed = s.close();
+    let closed = Recorder { session: s }.close();
     let closing = closed.closing;
     let session = closed.session;
     match closing {

@@ -8,20 +8,21 @@ use crate::calls;
 use crate::shown;
 use cases::input;
 use cases::print;
-use frames::Fault;
-use frames::Phase;
-use frames::Reason;
-use frames::Run;
-use frames::Track;
-use ledger::Ledger;
-use ledger::Numbers;
-use payload::Layer;
-use payload::Stamp;
-use session::Closing;
-use session::Outcome;
-use session::Report;
-use session::Rest;
-use session::Session;
+use recorder::Recorder;
+use session_rules::Closing;
+use session_rules::Fault;
+use session_rules::Layer;
+use session_rules::Ledger;
+use session_rules::Numbers;
+use session_rules::Outcome;
+use session_rules::Phase;
+use session_rules::Reason;
+use session_rules::Report;
+use session_rules::Rest;
+use session_rules::Run;
+use session_rules::Session;
+use session_rules::Stamp;
+use session_rules::Track;
 use sizes::Opening;
 
 // Case G: a list of calls from the record on, told as in case E.
@@ -173,7 +174,7 @@ fn numbers() -> Numbers {
 }
 
 fn take(s: Session, buffer: &mut [u8], transfer: &[u8]) {
-    let taken = s.take(buffer, transfer);
+    let taken = Recorder { session: s }.take(buffer, transfer);
     let outcome = taken.outcome;
     match outcome {
         Outcome::Refused(number) => refused(b"take", number),
@@ -187,7 +188,7 @@ fn take(s: Session, buffer: &mut [u8], transfer: &[u8]) {
 }
 
 fn lost(s: Session) {
-    let reported = s.lost();
+    let reported = Recorder { session: s }.lost();
     let report = reported.report;
     match report {
         Report::Refused(number) => refused(b"lost", number),
@@ -197,7 +198,7 @@ fn lost(s: Session) {
 }
 
 fn close(s: Session) {
-    let closed = s.close();
+    let closed = Recorder { session: s }.close();
     let closing = closed.closing;
     match closing {
         Closing::Refused(number) => refused(b"close", number),

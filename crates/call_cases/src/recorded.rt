@@ -4,13 +4,13 @@ use crate::forged;
 use crate::shown;
 use cases::input;
 use cases::print;
-use ledger::Ledger;
 use rules::Verdict;
-use session::Closing;
-use session::Outcome;
-use session::Report;
-use session::Rest;
-use session::Session;
+use session_rules::Closing;
+use session_rules::Ledger;
+use session_rules::Outcome;
+use session_rules::Report;
+use session_rules::Rest;
+use session_rules::Session;
 
 // The rest of the session after a call, and whether the call was read.
 struct Left {

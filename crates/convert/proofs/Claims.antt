@@ -12,7 +12,7 @@ use borrow.Author.Tests.{eqb-true, not-false}
 use Rattle.rules.proofs.Rows.{or-first, or-second}
 use Rattle.rules.proofs.Lists.{no-elements}
 use Rattle.sizes.specs.declared.Opening.{Opening}
-use Rattle.session.specs.Call.{Ask, Call, heardOf}
+use Rattle.session_rules.specs.Call.{Ask, Call, heardOf}
 use Rattle.books.specs.Rule.{entries, numbersOf}
 use Rattle.records.specs.declared.Form.the-variants.{Short, Long}
 use Rattle.records.specs.Form.{sizeOf, mostOf}

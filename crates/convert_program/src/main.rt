@@ -4,7 +4,7 @@ mod input;
 use console::print;
 use console::status;
 use libc::STDIN_FILENO;
-use session::Start;
+use session_rules::Start;
 use trace::Trace;
 use trace_arguments::reading;
 

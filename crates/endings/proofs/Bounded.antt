@@ -7,17 +7,17 @@ use native.Mathlib.Omega.{arith}
 use lib.ListN.{length}
 use Rattle.rules.specs.IfElse.{ifElse-all}
 use Rattle.sizes.specs.declared.Opening.{Opening}
-use Rattle.payload.specs.Transfer.{readingOf}
-use Rattle.frames.specs.declared.Phase.{Phase}
-use Rattle.frames.specs.declared.Phase.the-variants.{Fresh, Under, Past}
-use Rattle.frames.specs.Track.{underBytes}
-use Rattle.ledger.proofs.Places.{Sized}
-use Rattle.refusals.specs.Refusals.{takenMost}
-use Rattle.session.specs.declared.Session.{Session}
-use Rattle.session.specs.Refusals.{postedOf}
-use Rattle.session.specs.Session.{fresh, tookOf, handsOut, handedOf}
-use Rattle.session.specs.Call.{Call}
-use Rattle.session.specs.Calls.{Offer, refusal, next, after, callOf, nextCall}
+use Rattle.session_rules.specs.Transfer.{readingOf}
+use Rattle.session_rules.specs.declared.Phase.{Phase}
+use Rattle.session_rules.specs.declared.Phase.the-variants.{Fresh, Under, Past}
+use Rattle.session_rules.specs.Track.{underBytes}
+use Rattle.session_rules.proofs.Places.{Sized}
+use Rattle.session_rules.specs.Refusals.{takenMost}
+use Rattle.session_rules.specs.declared.Session.{Session}
+use Rattle.session_rules.specs.Refusals.{postedOf}
+use Rattle.session_rules.specs.Session.{fresh, tookOf, handsOut, handedOf}
+use Rattle.session_rules.specs.Call.{Call}
+use Rattle.session_rules.specs.Calls.{Offer, refusal, next, after, callOf, nextCall}
 use Rattle.session.proofs.Calls.{take-ready, lost-ready}
 use Rattle.session.proofs.Ready.{ready-able}
 use Rattle.books.proofs.Sized.{next-sized}

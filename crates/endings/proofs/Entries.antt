@@ -6,14 +6,14 @@ use mathlib.Core.List.{List, [], _∷_, _++_, map}
 use lib.ListN.{length}
 use lib.Dec.{eqb}
 use Rattle.sizes.specs.declared.Opening.{Opening}
-use Rattle.payload.specs.declared.Stamp.{Stamp}
-use Rattle.payload.specs.declared.Layer.{Layer}
-use Rattle.frames.specs.declared.Reason.the-variants.{Empty}
-use Rattle.frames.specs.declared.Fault.{Fault}
-use Rattle.frames.specs.declared.Fault.the-variants.{Sound, Bad}
-use Rattle.frames.specs.declared.Delivery.{Delivery}
-use Rattle.ledger.specs.Entry.{Entry}
-use Rattle.session.specs.Call.{Call}
+use Rattle.session_rules.specs.declared.Stamp.{Stamp}
+use Rattle.session_rules.specs.declared.Layer.{Layer}
+use Rattle.session_rules.specs.declared.Reason.the-variants.{Empty}
+use Rattle.session_rules.specs.declared.Fault.{Fault}
+use Rattle.session_rules.specs.declared.Fault.the-variants.{Sound, Bad}
+use Rattle.session_rules.specs.declared.Delivery.{Delivery}
+use Rattle.session_rules.specs.Entry.{Entry}
+use Rattle.session_rules.specs.Call.{Call}
 use Rattle.books.specs.Rule.{events, isOpen, Seen, readables, runs, frameOf, strayOf, complete, dataOf, firstStamp, lastLayer, stillOf, fault, handedOut, verdict, Item, strays, nothing, judged, entryOf, framesBy}
 use Rattle.endings.specs.declared.Ending.{Ending}
 use Rattle.endings.specs.Endings.{endingIn, endingsIn, endingsOf, entrySays, entriesSay, said}

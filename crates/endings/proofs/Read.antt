@@ -8,20 +8,20 @@ use lib.ListN.{length, length-append}
 use lib.Dec.{eqb}
 use Rattle.rules.specs.IfElse.{ifElse}
 use Rattle.sizes.specs.declared.Opening.{Opening}
-use Rattle.payload.specs.declared.Header.{Header}
-use Rattle.payload.specs.declared.Stamp.{Stamp}
-use Rattle.payload.specs.declared.Layer.{Layer}
-use Rattle.payload.specs.declared.Reading.{Reading}
-use Rattle.frames.specs.declared.Reason.{Reason}
-use Rattle.frames.specs.declared.Reason.the-variants.{Empty}
-use Rattle.frames.specs.declared.Fault.{Fault}
-use Rattle.frames.specs.declared.Fault.the-variants.{Sound, Bad}
-use Rattle.frames.specs.declared.Run.{Run}
-use Rattle.frames.specs.declared.Phase.{Phase}
-use Rattle.frames.specs.declared.Phase.the-variants.{Fresh, Under, Past}
-use Rattle.frames.specs.declared.Ended.{Ended}
-use Rattle.frames.specs.Inner.{whyOf, sameOf, turnedWhy, handsBy}
-use Rattle.ledger.specs.Entry.{Entry}
+use Rattle.session_rules.specs.declared.Header.{Header}
+use Rattle.session_rules.specs.declared.Stamp.{Stamp}
+use Rattle.session_rules.specs.declared.Layer.{Layer}
+use Rattle.session_rules.specs.declared.Reading.{Reading}
+use Rattle.session_rules.specs.declared.Reason.{Reason}
+use Rattle.session_rules.specs.declared.Reason.the-variants.{Empty}
+use Rattle.session_rules.specs.declared.Fault.{Fault}
+use Rattle.session_rules.specs.declared.Fault.the-variants.{Sound, Bad}
+use Rattle.session_rules.specs.declared.Run.{Run}
+use Rattle.session_rules.specs.declared.Phase.{Phase}
+use Rattle.session_rules.specs.declared.Phase.the-variants.{Fresh, Under, Past}
+use Rattle.session_rules.specs.declared.Ended.{Ended}
+use Rattle.session_rules.specs.Turns.{whyOf, sameOf, turnedWhy, handsBy}
+use Rattle.session_rules.specs.Entry.{Entry}
 use Rattle.books.specs.Rule.{Seen, frameOf, strayOf, closed, complete, dataOf, _orStamp_, firstStamp, lastLayer, stillOf, fault, handedOut, verdict}
 use Rattle.books.specs.Answer.{frameEntry, turnedIn, goesOn, fateIn, fateBy, fateOn}
 use Rattle.books.proofs.Cut.{earlier-or, same-beq}

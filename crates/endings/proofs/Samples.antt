@@ -4,21 +4,21 @@ use mathlib.Core.Path.{_≡_, refl}
 use mathlib.Core.List.{List, [], _∷_}
 use lib.ListN.{replicate}
 use Rattle.rules.specs.IfElse.{ifElse}
-use Rattle.rules.specs.Numbered.{firstFrom, anyBelow}
+use Rattle.rules.specs.Numbered.{anyBelow}
 use Rattle.sizes.specs.declared.Opening.{Opening}
 use Rattle.sizes.specs.declared.HeaderKind.the-variants.{Old}
 use Rattle.sizes.specs.Framing.{byEof}
 use Rattle.sizes.specs.Sizes.{frameSizeBroken, payloadSizeBroken, sizesBroken}
-use Rattle.payload.specs.declared.Stamp.{Stamp}
-use Rattle.payload.specs.Layouts.{headerLayout}
-use Rattle.payload.specs.Transfer.{flagOf, layerPlace, needOf, flagsBy, stampOf, layerOf, headerBy, readingOf}
-use Rattle.frames.specs.declared.Reason.{Reason}
-use Rattle.frames.specs.Inner.{turnOf, handsOf, outOf, spoiltOf, closedOf}
-use Rattle.ledger.specs.Ledger.{plusOf, timedOf, postOf, shownOf}
-use Rattle.rule_50.specs.Rule50.{rule50, fillBroken, accountsBroken, countsBroken}
-use Rattle.session.specs.Session.{fresh, readOf, tookOf, handsOut, handedOf, takeOf, lostOf, closeOf}
-use Rattle.session.specs.Call.{Call}
-use Rattle.session.specs.Calls.{Offer}
+use Rattle.session_rules.specs.declared.Stamp.{Stamp}
+use Rattle.session_rules.specs.Layouts.{headerLayout}
+use Rattle.session_rules.specs.Transfer.{flagOf, layerPlace, needOf, rowsBy, stampOf, layerOf, headerBy, readingOf}
+use Rattle.session_rules.specs.declared.Reason.{Reason}
+use Rattle.session_rules.specs.Turns.{turnOf, handsOf, outOf, spoiltOf, closedOf}
+use Rattle.session_rules.specs.Ledger.{plusOf, timedOf, postOf, shownOf}
+use Rattle.session_rules.specs.Rule50.{rule50, fillBroken, accountsBroken, countsBroken}
+use Rattle.session_rules.specs.Session.{fresh, readOf, tookOf, handsOut, handedOf, takeOf, lostOf, closeOf}
+use Rattle.session_rules.specs.Call.{Call}
+use Rattle.session_rules.specs.Calls.{Offer}
 use Rattle.endings.specs.declared.How.{How}
 use Rattle.endings.specs.declared.Ending.{Ending}
 use Rattle.endings.specs.Endings.{endingAs, endingsOf}
@@ -70,11 +70,11 @@ abbrev delivered : List Ending
 delivered = endingAs How.Delivered 5 (Stamp.At 7) ∷ []
 
 pub delivered-list : endingsOf eof (Call.transfer (plain two) ∷ Call.transfer (stamped-end three) ∷ []) ≡ delivered
-unfolding ifElse firstFrom byEof headerLayout flagOf layerPlace needOf flagsBy stampOf layerOf headerBy readingOf
+unfolding ifElse byEof headerLayout flagOf layerPlace needOf rowsBy stampOf layerOf headerBy readingOf
 delivered-list = refl
 
 pub delivered-told : allTold (fresh eof) (take (plain two) ∷ take (stamped-end three) ∷ []) ≡ delivered
-unfolding ifElse firstFrom anyBelow frameSizeBroken payloadSizeBroken byEof headerLayout flagOf layerPlace needOf flagsBy stampOf layerOf headerBy readingOf turnOf spoiltOf closedOf plusOf timedOf postOf shownOf sizesBroken fillBroken accountsBroken countsBroken rule50 readOf tookOf handsOut handsOf takeOf
+unfolding ifElse anyBelow frameSizeBroken payloadSizeBroken byEof headerLayout flagOf layerPlace needOf rowsBy stampOf layerOf headerBy readingOf turnOf spoiltOf closedOf plusOf timedOf postOf shownOf sizesBroken fillBroken accountsBroken countsBroken rule50 readOf tookOf handsOut handsOf takeOf
 delivered-told = refl
 
 -- DROPPED, by a gap: five bytes with the first transfer's stamp, when its EOF comes
@@ -82,11 +82,11 @@ abbrev gapped : List Ending
 gapped = endingAs (How.Dropped Reason.Gap) 5 (Stamp.At 7) ∷ []
 
 pub gap-list : endingsOf eof (Call.transfer (stamped two) ∷ Call.lost ∷ Call.transfer (plain-end three) ∷ []) ≡ gapped
-unfolding ifElse firstFrom byEof headerLayout flagOf layerPlace needOf flagsBy stampOf layerOf headerBy readingOf
+unfolding ifElse byEof headerLayout flagOf layerPlace needOf rowsBy stampOf layerOf headerBy readingOf
 gap-list = refl
 
 pub gap-told : allTold (fresh eof) (take (stamped two) ∷ Offer.lost ∷ take (plain-end three) ∷ []) ≡ gapped
-unfolding ifElse firstFrom anyBelow frameSizeBroken payloadSizeBroken byEof headerLayout flagOf layerPlace needOf flagsBy stampOf layerOf headerBy readingOf turnOf spoiltOf closedOf plusOf timedOf postOf shownOf sizesBroken fillBroken accountsBroken countsBroken rule50 readOf tookOf handsOut handsOf takeOf lostOf
+unfolding ifElse anyBelow frameSizeBroken payloadSizeBroken byEof headerLayout flagOf layerPlace needOf rowsBy stampOf layerOf headerBy readingOf turnOf spoiltOf closedOf plusOf timedOf postOf shownOf sizesBroken fillBroken accountsBroken countsBroken rule50 readOf tookOf handsOut handsOf takeOf lostOf
 gap-told = refl
 
 -- DROPPED, by its clock: five bytes, and the stamp is the first of the two
@@ -94,11 +94,11 @@ abbrev clashed : List Ending
 clashed = endingAs (How.Dropped Reason.Clock) 5 (Stamp.At 7) ∷ []
 
 pub clock-list : endingsOf eof (Call.transfer (stamped two) ∷ Call.transfer (later-end three) ∷ []) ≡ clashed
-unfolding ifElse firstFrom byEof headerLayout flagOf layerPlace needOf flagsBy stampOf layerOf headerBy readingOf
+unfolding ifElse byEof headerLayout flagOf layerPlace needOf rowsBy stampOf layerOf headerBy readingOf
 clock-list = refl
 
 pub clock-told : allTold (fresh eof) (take (stamped two) ∷ take (later-end three) ∷ []) ≡ clashed
-unfolding ifElse firstFrom anyBelow frameSizeBroken payloadSizeBroken byEof headerLayout flagOf layerPlace needOf flagsBy stampOf layerOf headerBy readingOf turnOf spoiltOf closedOf plusOf timedOf postOf shownOf sizesBroken fillBroken accountsBroken countsBroken rule50 readOf tookOf handsOut handsOf takeOf
+unfolding ifElse anyBelow frameSizeBroken payloadSizeBroken byEof headerLayout flagOf layerPlace needOf rowsBy stampOf layerOf headerBy readingOf turnOf spoiltOf closedOf plusOf timedOf postOf shownOf sizesBroken fillBroken accountsBroken countsBroken rule50 readOf tookOf handsOut handsOf takeOf
 clock-told = refl
 
 -- A STILL, and a stray after it, which is no part of the frame; a frame begun by the other FID is under way
@@ -106,11 +106,11 @@ abbrev still : List Ending
 still = endingAs How.Still 2 Stamp.Absent ∷ []
 
 pub still-list : endingsOf eof (Call.transfer (still-end two) ∷ Call.transfer (stamped three) ∷ Call.transfer (other two) ∷ []) ≡ still
-unfolding ifElse firstFrom byEof headerLayout flagOf layerPlace needOf flagsBy stampOf layerOf headerBy readingOf
+unfolding ifElse byEof headerLayout flagOf layerPlace needOf rowsBy stampOf layerOf headerBy readingOf
 still-list = refl
 
 pub still-told : allTold (fresh eof) (take (still-end two) ∷ take (stamped three) ∷ take (other two) ∷ []) ≡ still
-unfolding ifElse firstFrom anyBelow frameSizeBroken payloadSizeBroken byEof headerLayout flagOf layerPlace needOf flagsBy stampOf layerOf headerBy readingOf turnOf spoiltOf closedOf plusOf timedOf postOf shownOf sizesBroken fillBroken accountsBroken countsBroken rule50 readOf tookOf handsOut handsOf takeOf
+unfolding ifElse anyBelow frameSizeBroken payloadSizeBroken byEof headerLayout flagOf layerPlace needOf rowsBy stampOf layerOf headerBy readingOf turnOf spoiltOf closedOf plusOf timedOf postOf shownOf sizesBroken fillBroken accountsBroken countsBroken rule50 readOf tookOf handsOut handsOf takeOf
 still-told = refl
 
 -- CUT, the first by the other FID and the second by close; a second close is refused
@@ -118,11 +118,11 @@ abbrev cut : List Ending
 cut = endingAs (How.Dropped Reason.Cut) 2 (Stamp.At 7) ∷ endingAs (How.Dropped Reason.Cut) 3 Stamp.Absent ∷ []
 
 pub cut-list : endingsOf eof (Call.transfer (stamped two) ∷ Call.transfer (other three) ∷ Call.close ∷ []) ≡ cut
-unfolding ifElse firstFrom byEof headerLayout flagOf layerPlace needOf flagsBy stampOf layerOf headerBy readingOf
+unfolding ifElse byEof headerLayout flagOf layerPlace needOf rowsBy stampOf layerOf headerBy readingOf
 cut-list = refl
 
 pub cut-told : allTold (fresh eof) (take (stamped two) ∷ take (other three) ∷ Offer.close ∷ Offer.close ∷ []) ≡ cut
-unfolding ifElse firstFrom anyBelow frameSizeBroken payloadSizeBroken byEof headerLayout flagOf layerPlace needOf flagsBy stampOf layerOf headerBy readingOf turnOf spoiltOf closedOf plusOf timedOf postOf shownOf sizesBroken fillBroken accountsBroken countsBroken rule50 readOf tookOf handsOut handsOf takeOf closeOf
+unfolding ifElse anyBelow frameSizeBroken payloadSizeBroken byEof headerLayout flagOf layerPlace needOf rowsBy stampOf layerOf headerBy readingOf turnOf spoiltOf closedOf plusOf timedOf postOf shownOf sizesBroken fillBroken accountsBroken countsBroken rule50 readOf tookOf handsOut handsOf takeOf closeOf
 cut-told = refl
 
 -- TWO BY ONE CALL: a frame cut by the other FID, and then the transfer's own
@@ -130,11 +130,11 @@ abbrev both : List Ending
 both = endingAs (How.Dropped Reason.Cut) 2 (Stamp.At 7) ∷ endingAs How.Delivered 3 Stamp.Absent ∷ []
 
 pub both-list : endingsOf eof (Call.transfer (stamped two) ∷ Call.transfer (other-end three) ∷ []) ≡ both
-unfolding ifElse firstFrom byEof headerLayout flagOf layerPlace needOf flagsBy stampOf layerOf headerBy readingOf
+unfolding ifElse byEof headerLayout flagOf layerPlace needOf rowsBy stampOf layerOf headerBy readingOf
 both-list = refl
 
 pub both-told : allTold (fresh eof) (take (stamped two) ∷ take (other-end three) ∷ []) ≡ both
-unfolding ifElse firstFrom anyBelow frameSizeBroken payloadSizeBroken byEof headerLayout flagOf layerPlace needOf flagsBy stampOf layerOf headerBy readingOf turnOf spoiltOf closedOf plusOf timedOf postOf shownOf sizesBroken fillBroken accountsBroken countsBroken rule50 readOf tookOf handsOut handsOf takeOf
+unfolding ifElse anyBelow frameSizeBroken payloadSizeBroken byEof headerLayout flagOf layerPlace needOf rowsBy stampOf layerOf headerBy readingOf turnOf spoiltOf closedOf plusOf timedOf postOf shownOf sizesBroken fillBroken accountsBroken countsBroken rule50 readOf tookOf handsOut handsOf takeOf
 both-told = refl
 
 -- HANDED OUT, with D1 clear: the transfer of the other FID hands the frame out, is offered again, and is under way
@@ -142,9 +142,9 @@ abbrev handed : List Ending
 handed = endingAs How.Delivered 5 (Stamp.At 7) ∷ []
 
 pub handed-list : endingsOf no-eof (Call.transfer (stamped two) ∷ Call.transfer (plain three) ∷ Call.handed ∷ Call.transfer (other two) ∷ []) ≡ handed
-unfolding ifElse firstFrom byEof headerLayout flagOf layerPlace needOf flagsBy stampOf layerOf headerBy readingOf
+unfolding ifElse byEof headerLayout flagOf layerPlace needOf rowsBy stampOf layerOf headerBy readingOf
 handed-list = refl
 
 pub handed-told : allTold (fresh no-eof) (take (stamped two) ∷ take (plain three) ∷ take (other two) ∷ take (other two) ∷ []) ≡ handed
-unfolding ifElse firstFrom anyBelow frameSizeBroken payloadSizeBroken byEof headerLayout flagOf layerPlace needOf flagsBy stampOf layerOf headerBy readingOf turnOf spoiltOf closedOf plusOf timedOf postOf shownOf sizesBroken fillBroken accountsBroken countsBroken rule50 readOf tookOf handsOut handsOf takeOf handedOf outOf
+unfolding ifElse anyBelow frameSizeBroken payloadSizeBroken byEof headerLayout flagOf layerPlace needOf rowsBy stampOf layerOf headerBy readingOf turnOf spoiltOf closedOf plusOf timedOf postOf shownOf sizesBroken fillBroken accountsBroken countsBroken rule50 readOf tookOf handsOut handsOf takeOf handedOf outOf
 handed-told = refl

@@ -6,25 +6,25 @@ use mathlib.Core.List.{List}
 use lib.ListN.{length}
 use Rattle.rules.specs.IfElse.{said-yes, said-no}
 use Rattle.sizes.specs.declared.Opening.{Opening}
-use Rattle.payload.specs.declared.Header.{Header}
-use Rattle.payload.specs.declared.Stamp.{Stamp}
-use Rattle.payload.specs.declared.Stamp.the-variants.{Absent}
-use Rattle.payload.specs.declared.Reading.{Reading}
-use Rattle.payload.specs.Transfer.{readingOf}
-use Rattle.payload.proofs.Readings.{readable-fits}
-use Rattle.frames.specs.declared.Reason.{Reason}
-use Rattle.frames.specs.declared.Run.{Run}
-use Rattle.frames.specs.declared.Phase.{Phase}
-use Rattle.frames.specs.declared.Phase.the-variants.{Under}
-use Rattle.frames.specs.declared.Ended.{Ended}
-use Rattle.frames.specs.declared.Fate.{Fate}
-use Rattle.frames.specs.declared.Delivery.{Delivery}
-use Rattle.frames.specs.declared.HandOut.{HandOut}
-use Rattle.frames.specs.declared.Answer.{Answer}
-use Rattle.frames.specs.Inner.{sameOf, earlierOf}
-use Rattle.session.specs.declared.Rest.{Rest}
-use Rattle.session.specs.declared.Outcome.{Outcome}
-use Rattle.session.specs.declared.Closing.{Closing}
+use Rattle.session_rules.specs.declared.Header.{Header}
+use Rattle.session_rules.specs.declared.Stamp.{Stamp}
+use Rattle.session_rules.specs.declared.Stamp.the-variants.{Absent}
+use Rattle.session_rules.specs.declared.Reading.{Reading}
+use Rattle.session_rules.specs.Transfer.{readingOf}
+use Rattle.session_rules.proofs.Readings.{readable-fits}
+use Rattle.session_rules.specs.declared.Reason.{Reason}
+use Rattle.session_rules.specs.declared.Run.{Run}
+use Rattle.session_rules.specs.declared.Phase.{Phase}
+use Rattle.session_rules.specs.declared.Phase.the-variants.{Under}
+use Rattle.session_rules.specs.declared.Ended.{Ended}
+use Rattle.session_rules.specs.declared.Fate.{Fate}
+use Rattle.session_rules.specs.declared.Delivery.{Delivery}
+use Rattle.session_rules.specs.declared.HandOut.{HandOut}
+use Rattle.session_rules.specs.declared.Answer.{Answer}
+use Rattle.session_rules.specs.Turns.{sameOf, earlierOf}
+use Rattle.session_rules.specs.declared.Rest.{Rest}
+use Rattle.session_rules.specs.declared.Outcome.{Outcome}
+use Rattle.session_rules.specs.declared.Closing.{Closing}
 use Rattle.endings.specs.declared.How.{How}
 use Rattle.endings.specs.declared.Told.{Told}
 use Rattle.endings.specs.Endings.{endingAs}

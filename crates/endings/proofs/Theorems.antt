@@ -2,10 +2,10 @@
 use mathlib.Core.Path.{_≡_, refl, sym, _∙_, ap}
 use mathlib.Core.List.{List, [], _∷_, _++_, map, append-assoc, append-nil}
 use Rattle.sizes.specs.declared.Opening.{Opening}
-use Rattle.session.specs.declared.Session.{Session}
-use Rattle.session.specs.Session.{fresh}
-use Rattle.session.specs.Call.{Call}
-use Rattle.session.specs.Calls.{Offer, next, after}
+use Rattle.session_rules.specs.declared.Session.{Session}
+use Rattle.session_rules.specs.Session.{fresh}
+use Rattle.session_rules.specs.Call.{Call}
+use Rattle.session_rules.specs.Calls.{Offer, next, after}
 use Rattle.books.specs.Rule.{entryOf, framesBy}
 use Rattle.books.specs.Offers.{listOf}
 use Rattle.books.proofs.Theorems.{list-right}

@@ -2,9 +2,9 @@
 use Prim.Native.Nat.{ℕ}
 use mathlib.Core.Path.{_≡_, sym, _∙_}
 use mathlib.Core.List.{List}
-use Rattle.session.specs.declared.Rest.{Rest}
-use Rattle.session.specs.declared.Outcome.{Outcome}
-use Rattle.session.specs.declared.Closing.{Closing}
+use Rattle.session_rules.specs.declared.Rest.{Rest}
+use Rattle.session_rules.specs.declared.Outcome.{Outcome}
+use Rattle.session_rules.specs.declared.Closing.{Closing}
 use Rattle.endings.specs.declared.Endings.{Endings}
 use Rattle.endings.specs.Inner.{tellTaken, tellClosed}
 

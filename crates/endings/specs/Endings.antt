@@ -5,9 +5,9 @@ use mathlib.Core.Bool.{Bool, false}
 use mathlib.Core.List.{List, [], _∷_, _++_}
 use lib.ListN.{length}
 use Rattle.sizes.specs.declared.Opening.{Opening}
-use Rattle.payload.specs.declared.Stamp.{Stamp}
-use Rattle.ledger.specs.Entry.{Entry}
-use Rattle.session.specs.Call.{Call}
+use Rattle.session_rules.specs.declared.Stamp.{Stamp}
+use Rattle.session_rules.specs.Entry.{Entry}
+use Rattle.session_rules.specs.Call.{Call}
 use Rattle.books.specs.Rule.{events, isOpen, Seen, readables, runs, frameOf, dataOf, firstStamp, nothing}
 use Rattle.books.specs.Answer.{frameEntry}
 use Rattle.endings.specs.declared.How.{How}

@@ -1,20 +1,20 @@
 // Which frames a call ended, with their length and their first stamp: what the programs print a line for.
 ghost use mathlib.Core.Path.{_≡_};
 ghost use lib.ListN.{length};
-ghost use Rattle.payload.specs.Transfer.{readingOf};
-ghost use Rattle.frames.specs.Inner.{sameOf, earlierOf};
+ghost use Rattle.session_rules.specs.Transfer.{readingOf};
+ghost use Rattle.session_rules.specs.Turns.{sameOf, earlierOf};
 ghost use Rattle.endings.specs.Inner.{droppedAs, howOut, bytesBefore, stampBefore, tellEnded, tellDropped, tellFate, tellTaken, tellClosed};
-use frames::Delivery;
-use frames::Ended;
-use frames::Fate;
-use frames::Phase;
-use frames::Reason;
-use payload::Header;
-use payload::Reading;
-use payload::Stamp;
-use session::Closing;
-use session::Outcome;
-use session::Rest;
+use session_rules::Closing;
+use session_rules::Delivery;
+use session_rules::Ended;
+use session_rules::Fate;
+use session_rules::Header;
+use session_rules::Outcome;
+use session_rules::Phase;
+use session_rules::Reading;
+use session_rules::Reason;
+use session_rules::Rest;
+use session_rules::Stamp;
 use sizes::Opening;
 
 // What became of a frame that ended.

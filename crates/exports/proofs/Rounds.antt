@@ -7,23 +7,23 @@ use lib.Arith.{digits-div}
 use native.Mathlib.Nat.{div-eq-of-lt, div-zero, zero-mul}
 use native.Mathlib.Numerals.{add-one}
 use native.Mathlib.Omega.{arith}
-use Rattle.session.specs.declared.Session.{Session}
-use Rattle.ledger.specs.Ledger.{bytesOf}
-use Rattle.session.specs.declared.Taken.{Taken}
+use Rattle.session_rules.specs.declared.Session.{Session}
+use Rattle.session_rules.specs.Ledger.{bytesOf}
+use Rattle.session_rules.specs.declared.Taken.{Taken}
 use Rattle.session.specs.declared.RestTaken.{RestTaken}
-use Rattle.session.specs.declared.Opened.{Opened}
-use Rattle.rules.specs.Numbered.{firstFrom}
-use Rattle.refusals.specs.Refusals.{openingFlags}
-use Rattle.session.specs.Refusals.{postedOf}
-use Rattle.session.specs.Session.{openOf, openBy, takeOf, bufferOf}
+use Rattle.session_rules.specs.declared.Opened.{Opened}
+use Rattle.rules.specs.Numbered.{firstRow}
+use Rattle.session_rules.specs.Refusals.{openingRows}
+use Rattle.session_rules.specs.Refusals.{postedOf}
+use Rattle.session_rules.specs.Session.{openOf, openBy, takeOf, bufferOf}
 use Rattle.books.proofs.Sized.{next-sized}
 use Rattle.exports.specs.Taking.{State, tookFirst, tookAll, opened, deliveredOf}
 use Rattle.sizes.specs.declared.Opening.{Opening}
-use Rattle.ledger.specs.declared.Account.{Account}
-use Rattle.ledger.specs.Accounts.{numberCount, placeOf}
-use Rattle.ledger.proofs.Places.{Sized}
+use Rattle.session_rules.specs.declared.Account.{Account}
+use Rattle.session_rules.specs.Accounts.{numberCount, placeOf}
+use Rattle.session_rules.proofs.Places.{Sized}
 use Rattle.session.specs.Inner.{wholeOf, takenWith}
-use Rattle.session.specs.Calls.{Offer}
+use Rattle.session_rules.specs.Calls.{Offer}
 
 pub round-less : (times i n at : ℕ) → i < times → (times - (i + 1)) * (n + 1) + (n - 0) < (times - i) * (n + 1) + (n - at)
 round-less times i n at h =
@@ -103,7 +103,7 @@ module _ (p : Opening) (size times : ℕ) (l b : List ℕ) where
   unfolding openOf
   nothing e =
       let x = no-round size l (opened p b) times e in
-      (none (firstFrom 45 (openingFlags p (length b))) ∙ ap (λ (y : State). deliveredOf y) x, ap (λ (y : State). y .buffer) x)
+      (none (firstRow (openingRows p (length b))) ∙ ap (λ (y : State). deliveredOf y) x, ap (λ (y : State). y .buffer) x)
 
   pub no-size : size ≡ 0 → Answered size l (opened p b) times 0 b
   no-size e = nothing (rw e (div-zero (length l)))

@@ -2,13 +2,13 @@
 use Prim.Native.Nat.{ℕ, zero, suc, _*_, _/_}
 use mathlib.Core.List.{List}
 use lib.ListN.{length, take, drop}
-use Rattle.session.specs.declared.Session.{Session}
-use Rattle.session.specs.Session.{openOf, takeOf, bufferOf}
+use Rattle.session_rules.specs.declared.Session.{Session}
+use Rattle.session_rules.specs.Session.{openOf, takeOf, bufferOf}
 use Rattle.sizes.specs.declared.Opening.{Opening}
-use Rattle.ledger.specs.declared.Account.{Account}
-use Rattle.ledger.specs.Accounts.{placeOf}
-use Rattle.ledger.specs.Ledger.{bytesOf}
-use Rattle.session.specs.Refusals.{postedOf}
+use Rattle.session_rules.specs.declared.Account.{Account}
+use Rattle.session_rules.specs.Accounts.{placeOf}
+use Rattle.session_rules.specs.Ledger.{bytesOf}
+use Rattle.session_rules.specs.Refusals.{postedOf}
 
 pub record State : Type 0 where
   pub session : Session

@@ -2,9 +2,10 @@
 ghost use mathlib.Core.Path.{_≡_};
 ghost use Rattle.sizes.specs.declared.HeaderKind.the-variants.{Old};
 ghost use Rattle.exports.specs.Taking.{opened, tookAll, deliveredOf};
-use ledger::Account;
-use ledger::Ledger;
-use session::Session;
+use recorder::Recorder;
+use session_rules::Account;
+use session_rules::Ledger;
+use session_rules::Session;
 use sizes::HeaderKind;
 use sizes::Opening;
 
@@ -22,7 +23,7 @@ pub extern "C" fn palkodhen_take(
     ensures { λ r. ⌜ r ≡ deliveredOf (tookAll size (now (transfers .entry)) (opened (record { frame = frame; payload = payload; framing = framing; kind = Old }) (now (buffer .entry))) times) ⌝ }
     ensures { λ _. ⌜ now (buffer .exit) ≡ tookAll size (now (transfers .entry)) (opened (record { frame = frame; payload = payload; framing = framing; kind = Old }) (now (buffer .entry))) times .buffer ⌝ }
 {
-    let start = Session::open(
+    let start = Recorder::open(
         Opening {
             frame,
             payload,
@@ -44,7 +45,7 @@ pub extern "C" fn palkodhen_take(
     let mut at: usize = 0;
     while i < times {
         let end = at + size;
-        let taken = rest.take(&mut numbers, buffer, &transfers[at..end]);
+        let taken = session::take(rest, &mut numbers, buffer, &transfers[at..end]);
         rest = taken.rest;
         at = end;
         if transfers.len() - at < size {
@@ -54,5 +55,5 @@ pub extern "C" fn palkodhen_take(
     }
     let last = rest.last;
     let l = Ledger { numbers, last };
-    l.bytes(Account::Delivered)
+    ledger::bytes(l, Account::Delivered)
 }

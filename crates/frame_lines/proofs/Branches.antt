@@ -7,7 +7,7 @@ use lib.ListN.{length}
 use lib.Seq.{paste-zero}
 use Rattle.text.specs.Put.{Put}
 use Rattle.text.proofs.Puts.{then}
-use Rattle.payload.specs.declared.Stamp.{Stamp}
+use Rattle.session_rules.specs.declared.Stamp.{Stamp}
 use Rattle.endings.specs.declared.How.{How}
 use Rattle.endings.specs.declared.How.the-variants.{Delivered, Still, Dropped}
 use Rattle.endings.specs.declared.Ending.{Ending}

@@ -4,7 +4,7 @@ use mathlib.Core.Path.{_≡_, refl, ap, _∙_}
 use mathlib.Core.List.{List, [], _∷_, _++_}
 use native.Mathlib.Omega.{arith}
 use lib.ListN.{length}
-use Rattle.payload.specs.declared.Stamp.{Stamp}
+use Rattle.session_rules.specs.declared.Stamp.{Stamp}
 use Rattle.endings.specs.declared.How.{How}
 use Rattle.endings.specs.declared.How.the-variants.{Delivered, Still, Dropped}
 use Rattle.endings.specs.declared.Ending.{Ending}

@@ -1,7 +1,7 @@
 -- What the contracts cite: one line after the other, with the number as the code counts it. Nothing here needs to be believed: proofs/Words ties it to the words.
 use Prim.Native.Nat.{ℕ, _+_, _%_, _^_}
 use mathlib.Core.List.{List, [], _∷_, _++_}
-use Rattle.payload.specs.declared.Stamp.{Stamp}
+use Rattle.session_rules.specs.declared.Stamp.{Stamp}
 use Rattle.endings.specs.declared.How.{How}
 use Rattle.endings.specs.declared.How.the-variants.{Delivered, Still, Dropped}
 use Rattle.endings.specs.declared.Ending.{Ending}

@@ -2,11 +2,11 @@
 -- none and for stills". And ours: a line for every frame that ended, with its number, its fate, its length and its stamp or a dash.
 use Prim.Native.Nat.{ℕ, _+_}
 use mathlib.Core.List.{List, [], _∷_, _++_}
-use Rattle.payload.specs.declared.Stamp.{Stamp}
-use Rattle.payload.specs.declared.Stamp.the-variants.{Absent, At}
-use Rattle.frames.specs.declared.Reason.the-variants.{Gap, Error, Clock, Mixed, Long, Cut, Empty}
-use Rattle.ledger.specs.declared.Step.the-variants.{Forward, Backward}
-use Rattle.ledger.specs.Step.{stepOf}
+use Rattle.session_rules.specs.declared.Stamp.{Stamp}
+use Rattle.session_rules.specs.declared.Stamp.the-variants.{Absent, At}
+use Rattle.session_rules.specs.declared.Reason.the-variants.{Gap, Error, Clock, Mixed, Long, Cut, Empty}
+use Rattle.session_rules.specs.declared.Step.the-variants.{Forward, Backward}
+use Rattle.session_rules.specs.Step.{stepOf}
 use Rattle.text.specs.Decimal.{decimal}
 use Rattle.text.specs.Text.{bytes, number}
 use Rattle.endings.specs.declared.How.{How}

@@ -5,7 +5,7 @@ ghost use lib.ListN.{length};
 ghost use Rattle.text.specs.Put.{Put};
 ghost use Rattle.endings.specs.declared.How.{How};
 ghost use Rattle.endings.specs.Inner.{toldIn, listIn};
-ghost use Rattle.ledger.specs.declared.Step.{Step};
+ghost use Rattle.session_rules.specs.declared.Step.{Step};
 ghost use Rattle.frame_lines.specs.declared.Since.{Since};
 ghost use Rattle.frame_lines.specs.declared.Show.{Show};
 ghost use Rattle.frame_lines.specs.Lines.{sinceOf, lastOf, sinceText, stampText, nameOf, replayText, frameText};
@@ -14,9 +14,9 @@ use endings::Ending;
 use endings::Endings;
 use endings::How;
 use endings::Told;
-use frames::Reason;
-use ledger::Step;
-use payload::Stamp;
+use session_rules::Reason;
+use session_rules::Stamp;
+use session_rules::Step;
 
 // What is printed of the frames: nothing by the ledger program, those that were delivered by a replay, all of them by the list.
 pub enum Show {

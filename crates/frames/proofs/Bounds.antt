@@ -7,24 +7,24 @@ use lib.Dec.{ltb, eqb}
 use borrow.Author.Tests.{ltb-false}
 use Rattle.rules.specs.IfElse.{ifElse-all}
 use Rattle.sizes.specs.declared.Opening.{Opening}
-use Rattle.payload.specs.declared.Header.{Header}
-use Rattle.frames.specs.declared.Reason.{Reason}
-use Rattle.payload.specs.declared.Stamp.{Stamp}
-use Rattle.payload.specs.declared.Layer.{Layer}
-use Rattle.frames.specs.declared.Reason.the-variants.{Gap, Error, Clock, Mixed, Long}
-use Rattle.frames.specs.declared.Fault.{Fault}
-use Rattle.frames.specs.declared.Fault.the-variants.{Sound, Bad}
-use Rattle.frames.specs.declared.Run.{Run}
-use Rattle.frames.specs.declared.Phase.{Phase}
-use Rattle.frames.specs.declared.Phase.the-variants.{Fresh, Under, Past}
-use Rattle.frames.specs.declared.Track.{Track}
-use Rattle.frames.specs.declared.Ended.{Ended}
-use Rattle.frames.specs.declared.Ended.the-variants.{Nothing, Frame}
-use Rattle.frames.specs.declared.Fate.{Fate}
-use Rattle.frames.specs.declared.Fate.the-variants.{Idle, Kept, Stray, Delivered, Still, Dropped, Unreadable}
-use Rattle.frames.specs.declared.Turn.{Turn}
-use Rattle.frames.specs.Track.{underBytes, FilledBy, Filled}
-use Rattle.frames.specs.Inner.{firstOf, clashOf, whyOf, sameOf, mixedOf, filledOf, writtenOf, begunOf, faultOf, joinedOf, completeOf, endsOf, turnedWhy, fateOf, phaseOf, joinTurn, strayTurn, turnBy, turnOf, outBy, outOf, spoiltBy, spoiltOf, closedBy, closedOf}
+use Rattle.session_rules.specs.declared.Header.{Header}
+use Rattle.session_rules.specs.declared.Reason.{Reason}
+use Rattle.session_rules.specs.declared.Stamp.{Stamp}
+use Rattle.session_rules.specs.declared.Layer.{Layer}
+use Rattle.session_rules.specs.declared.Reason.the-variants.{Gap, Error, Clock, Mixed, Long}
+use Rattle.session_rules.specs.declared.Fault.{Fault}
+use Rattle.session_rules.specs.declared.Fault.the-variants.{Sound, Bad}
+use Rattle.session_rules.specs.declared.Run.{Run}
+use Rattle.session_rules.specs.declared.Phase.{Phase}
+use Rattle.session_rules.specs.declared.Phase.the-variants.{Fresh, Under, Past}
+use Rattle.session_rules.specs.declared.Track.{Track}
+use Rattle.session_rules.specs.declared.Ended.{Ended}
+use Rattle.session_rules.specs.declared.Ended.the-variants.{Nothing, Frame}
+use Rattle.session_rules.specs.declared.Fate.{Fate}
+use Rattle.session_rules.specs.declared.Fate.the-variants.{Idle, Kept, Stray, Delivered, Still, Dropped, Unreadable}
+use Rattle.session_rules.specs.declared.Turn.{Turn}
+use Rattle.session_rules.specs.Track.{underBytes, FilledBy, Filled}
+use Rattle.session_rules.specs.Turns.{firstOf, clashOf, whyOf, sameOf, mixedOf, filledOf, writtenOf, begunOf, faultOf, joinedOf, completeOf, endsOf, turnedWhy, fateOf, phaseOf, joinTurn, strayTurn, turnBy, turnOf, outBy, outOf, spoiltBy, spoiltOf, closedBy, closedOf}
 
 -- ---- no fault now: none before, and none by this
 first-sound : (f : Fault) (bad : Bool) (why : Reason) → firstOf f bad why ≡ Sound → (f ≡ Sound) × (bad ≡ false)

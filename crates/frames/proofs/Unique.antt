@@ -3,15 +3,15 @@ use Prim.Native.Nat.{ℕ}
 use mathlib.Core.Bool.{Bool}
 use mathlib.Core.Path.{_≡_, sym, _∙_}
 use Rattle.sizes.specs.declared.Opening.{Opening}
-use Rattle.payload.specs.declared.Header.{Header}
-use Rattle.frames.specs.declared.Track.{Track}
-use Rattle.frames.specs.declared.Turn.{Turn}
-use Rattle.frames.specs.declared.HandOut.{HandOut}
-use Rattle.frames.specs.declared.Out.{Out}
-use Rattle.frames.specs.declared.Shut.{Shut}
-use Rattle.frames.specs.declared.Fate.{Fate}
-use Rattle.frames.specs.Track.{handing}
-use Rattle.frames.specs.Inner.{turnOf, handsOf, outOf, spoiltOf, closedOf}
+use Rattle.session_rules.specs.declared.Header.{Header}
+use Rattle.session_rules.specs.declared.Track.{Track}
+use Rattle.session_rules.specs.declared.Turn.{Turn}
+use Rattle.session_rules.specs.declared.HandOut.{HandOut}
+use Rattle.session_rules.specs.declared.Out.{Out}
+use Rattle.session_rules.specs.declared.Shut.{Shut}
+use Rattle.session_rules.specs.declared.Fate.{Fate}
+use Rattle.session_rules.specs.Track.{handing}
+use Rattle.session_rules.specs.Turns.{turnOf, handsOf, outOf, spoiltOf, closedOf}
 
 pub turn-unique : (o : Opening) (t : Track) (h : Header) (n : ℕ) (x y : Turn) → x ≡ turnOf o t h n → y ≡ turnOf o t h n → x ≡ y
 turn-unique o t h n x y p q = p ∙ sym q

@@ -1,116 +1,25 @@
 // The frame under way: turns a readable transfer into an answer. It never sees the ledger.
 ghost use mathlib.Core.Path.{_≡_};
 ghost use Prim.Native.Nat.{_+_, _<_, _^_};
-ghost use Rattle.frames.specs.Track.{handing};
-ghost use Rattle.frames.specs.Inner.{firstOf, clashOf, earlierOf, laterOf, whyOf, sameOf, begunOf, joinedOf, filledOf, writtenOf, completeOf, endsOf, turnedWhy, fateOf, phaseOf, joinTurn, strayTurn, turnOf, readyOf, handsOf, outOf, spoiltOf, closedOf, Roomy};
-use payload::Header;
-use payload::Layer;
-use payload::Stamp;
+ghost use Rattle.session_rules.specs.Track.{handing};
+ghost use Rattle.session_rules.specs.Turns.{firstOf, clashOf, earlierOf, laterOf, whyOf, sameOf, begunOf, joinedOf, filledOf, writtenOf, completeOf, endsOf, turnedWhy, fateOf, phaseOf, joinTurn, strayTurn, turnOf, readyOf, handsOf, outOf, spoiltOf, closedOf, Roomy};
+use session_rules::Answer;
+use session_rules::Delivery;
+use session_rules::Ended;
+use session_rules::Fate;
+use session_rules::Fault;
+use session_rules::HandOut;
+use session_rules::Header;
+use session_rules::Layer;
+use session_rules::Out;
+use session_rules::Phase;
+use session_rules::Reason;
+use session_rules::Run;
+use session_rules::Shut;
+use session_rules::Stamp;
+use session_rules::Track;
+use session_rules::Turn;
 use sizes::Opening;
-
-// Why a frame was not delivered. The first five are faults.
-pub enum Reason {
-    Gap,
-    Error,
-    Clock,
-    Mixed,
-    Long,
-    Cut,
-    Empty,
-}
-
-pub enum Fault {
-    Sound,
-    Bad(Reason),
-}
-
-// A frame under way: its data so far, how much of it is written, its first stamp, its run's FID, its first transfer's still
-// bit, its earliest fault, and its last layer.
-pub struct Run {
-    pub bytes: u64,
-    pub fill: usize,
-    pub stamp: Stamp,
-    pub fid: bool,
-    pub still: bool,
-    pub fault: Fault,
-    pub layer: Layer,
-}
-
-pub enum Phase {
-    // No readable transfer yet.
-    Fresh,
-    // In a frame.
-    Under(Run),
-    // After a frame, in a run of this FID.
-    Past(bool),
-}
-
-pub struct Track {
-    pub phase: Phase,
-    // An unreadable or lost transfer came since the last readable one.
-    pub gap: bool,
-}
-
-// What became of a frame that a transfer's FID, or close, ended.
-pub enum Ended {
-    Nothing,
-    Frame(Reason),
-}
-
-// The length, stamp and layer of a delivered frame or still.
-pub struct Delivery {
-    pub len: u64,
-    pub stamp: Stamp,
-    pub layer: Layer,
-}
-
-// What became of the transfer itself. Kept: the frame is still under way, faulted or not.
-pub enum Fate {
-    Idle,
-    Kept,
-    Stray,
-    Delivered(Delivery),
-    Still(Delivery),
-    Dropped(Reason),
-    // The number, 61 to 67.
-    Unreadable(u8),
-}
-
-pub struct Answer {
-    pub ended: Ended,
-    pub fate: Fate,
-}
-
-// What a transfer leads to.
-pub struct Turn {
-    pub track: Track,
-    pub answer: Answer,
-    // The bytes of the frame that the FID ended, and those of the transfer's own fate: its frame's, or a stray's.
-    pub gone: u64,
-    pub bytes: u64,
-    // How much of its data is written, and where.
-    pub at: usize,
-    pub len: usize,
-}
-
-// A frame that is handed out before a transfer of the other FID is taken: whether it is a still, and its length, stamp and layer.
-pub struct HandOut {
-    pub still: bool,
-    pub delivery: Delivery,
-}
-
-// What handing out the frame under way leads to.
-pub struct Out {
-    pub track: Track,
-    pub frame: HandOut,
-}
-
-// What close leads to.
-pub struct Shut {
-    pub track: Track,
-    pub ended: Ended,
-    pub gone: u64,
-}
 
 // The earlier fault stands.
 fn first_of(f: Fault, bad: bool, why: Reason) -> Fault
@@ -364,166 +273,164 @@ pub fn fate_for(x: HandOut) -> Fate
     }
 }
 
-impl Track {
-    // Whether a readable transfer with this header can't be taken before the frame under way is handed out: D1 of the framing byte clear, the other FID, no fault
-    // and data.
-    pub fn hands(self, o: Opening, h: Header) -> bool
-        ensures { λ x. ⌜ x ≡ handsOf o self h ⌝ }
-    {
-        if sizes::by_eof(o) {
-            return false;
-        }
-        let phase = self.phase;
-        match phase {
-            Phase::Fresh => false,
-            Phase::Past(_) => false,
-            Phase::Under(r) => {
-                if same(r.fid, h.fid) {
-                    return false;
-                }
-                let f = r.fault;
-                ready(f, r.bytes)
+// Whether a readable transfer with this header can't be taken before the frame under way is handed out: D1 of the framing byte clear, the other FID, no fault
+// and data.
+pub fn hands(track: Track, o: Opening, h: Header) -> bool
+    ensures { λ x. ⌜ x ≡ handsOf o track h ⌝ }
+{
+    if sizes::by_eof(o) {
+        return false;
+    }
+    let phase = track.phase;
+    match phase {
+        Phase::Fresh => false,
+        Phase::Past(_) => false,
+        Phase::Under(r) => {
+            if same(r.fid, h.fid) {
+                return false;
             }
+            let f = r.fault;
+            ready(f, r.bytes)
         }
     }
+}
 
-    // Hands out the frame under way. What comes after it in its run is stray, as after an EOF; the gap flag stays. Where no frame is under way, nothing is in it.
-    pub fn hand_out(self) -> Out
-        ensures { λ x. ⌜ x ≡ outOf self ⌝ }
-    {
-        let phase = self.phase;
-        match phase {
-            Phase::Fresh => Out {
-                track: self,
-                frame: HandOut {
-                    still: false,
-                    delivery: Delivery {
-                        len: 0,
-                        stamp: Stamp::Absent,
-                        layer: Layer::Absent,
-                    },
+// Hands out the frame under way. What comes after it in its run is stray, as after an EOF; the gap flag stays. Where no frame is under way, nothing is in it.
+pub fn hand_out(track: Track) -> Out
+    ensures { λ x. ⌜ x ≡ outOf track ⌝ }
+{
+    let phase = track.phase;
+    match phase {
+        Phase::Fresh => Out {
+            track: track,
+            frame: HandOut {
+                still: false,
+                delivery: Delivery {
+                    len: 0,
+                    stamp: Stamp::Absent,
+                    layer: Layer::Absent,
                 },
             },
-            Phase::Past(_) => Out {
-                track: self,
-                frame: HandOut {
-                    still: false,
-                    delivery: Delivery {
-                        len: 0,
-                        stamp: Stamp::Absent,
-                        layer: Layer::Absent,
-                    },
+        },
+        Phase::Past(_) => Out {
+            track: track,
+            frame: HandOut {
+                still: false,
+                delivery: Delivery {
+                    len: 0,
+                    stamp: Stamp::Absent,
+                    layer: Layer::Absent,
                 },
             },
-            Phase::Under(r) => {
-                let stamp = r.stamp;
-                let layer = r.layer;
-                Out {
-                    track: Track {
-                        phase: Phase::Past(r.fid),
-                        gap: self.gap,
-                    },
-                    frame: HandOut {
-                        still: r.still,
-                        delivery: Delivery {
-                            len: r.bytes,
-                            stamp,
-                            layer,
-                        },
-                    },
-                }
-            }
-        }
-    }
-
-    // Inner: a readable transfer with n bytes of data. The session has looked at the sizes (50).
-    pub fn turn(self, o: Opening, h: Header, n: usize) -> Turn
-        requires { ⌜ (Roomy (self .phase)) × (n < 2 ^ 62) ⌝ }
-        ensures { λ x. ⌜ x ≡ turnOf o self h n ⌝ }
-    {
-        let phase = self.phase;
-        match phase {
-            Phase::Fresh => join(o, begun(self.gap, h.fid, h.still), h, n, Ended::Nothing, 0),
-            Phase::Under(r) => {
-                if same(r.fid, h.fid) {
-                    return join(o, r, h, n, Ended::Nothing, 0);
-                }
-                let f = r.fault;
-                let why = why_of(f, turned_why(o));
-                join(
-                    o,
-                    begun(self.gap, h.fid, h.still),
-                    h,
-                    n,
-                    Ended::Frame(why),
-                    r.bytes,
-                )
-            }
-            Phase::Past(fid) => {
-                if same(fid, h.fid) {
-                    return stray(fid, n);
-                }
-                join(o, begun(self.gap, h.fid, h.still), h, n, Ended::Nothing, 0)
-            }
-        }
-    }
-
-    // After an unreadable or lost transfer: a gap for the frame under way, and for one that begins next.
-    pub fn spoilt(self) -> Track
-        ensures { λ x. ⌜ x ≡ spoiltOf self ⌝ }
-    {
-        let phase = self.phase;
-        match phase {
-            Phase::Fresh => Track { phase, gap: true },
-            Phase::Past(_) => Track { phase, gap: true },
-            Phase::Under(r) => {
-                let f = r.fault;
-                let fault = first_of(f, true, Reason::Gap);
-                let stamp = r.stamp;
-                let layer = r.layer;
-                Track {
-                    phase: Phase::Under(Run {
-                        fid: r.fid,
-                        still: r.still,
-                        fault,
-                        bytes: r.bytes,
-                        fill: r.fill,
+        },
+        Phase::Under(r) => {
+            let stamp = r.stamp;
+            let layer = r.layer;
+            Out {
+                track: Track {
+                    phase: Phase::Past(r.fid),
+                    gap: track.gap,
+                },
+                frame: HandOut {
+                    still: r.still,
+                    delivery: Delivery {
+                        len: r.bytes,
                         stamp,
                         layer,
-                    }),
-                    gap: true,
-                }
+                    },
+                },
             }
         }
     }
+}
 
-    // Close ends a frame under way.
-    pub fn shut(self) -> Shut
-        ensures { λ x. ⌜ x ≡ closedOf self ⌝ }
-    {
-        let phase = self.phase;
-        match phase {
-            Phase::Fresh => Shut {
-                track: self,
-                ended: Ended::Nothing,
-                gone: 0,
-            },
-            Phase::Past(_) => Shut {
-                track: self,
-                ended: Ended::Nothing,
-                gone: 0,
-            },
-            Phase::Under(r) => {
-                let f = r.fault;
-                let why = why_of(f, Reason::Cut);
-                Shut {
-                    track: Track {
-                        phase: Phase::Past(r.fid),
-                        gap: self.gap,
-                    },
-                    ended: Ended::Frame(why),
-                    gone: r.bytes,
-                }
+// Inner: a readable transfer with n bytes of data. The session has looked at the sizes (50).
+pub fn turn(track: Track, o: Opening, h: Header, n: usize) -> Turn
+    requires { ⌜ (Roomy (track .phase)) × (n < 2 ^ 62) ⌝ }
+    ensures { λ x. ⌜ x ≡ turnOf o track h n ⌝ }
+{
+    let phase = track.phase;
+    match phase {
+        Phase::Fresh => join(o, begun(track.gap, h.fid, h.still), h, n, Ended::Nothing, 0),
+        Phase::Under(r) => {
+            if same(r.fid, h.fid) {
+                return join(o, r, h, n, Ended::Nothing, 0);
+            }
+            let f = r.fault;
+            let why = why_of(f, turned_why(o));
+            join(
+                o,
+                begun(track.gap, h.fid, h.still),
+                h,
+                n,
+                Ended::Frame(why),
+                r.bytes,
+            )
+        }
+        Phase::Past(fid) => {
+            if same(fid, h.fid) {
+                return stray(fid, n);
+            }
+            join(o, begun(track.gap, h.fid, h.still), h, n, Ended::Nothing, 0)
+        }
+    }
+}
+
+// After an unreadable or lost transfer: a gap for the frame under way, and for one that begins next.
+pub fn spoilt(track: Track) -> Track
+    ensures { λ x. ⌜ x ≡ spoiltOf track ⌝ }
+{
+    let phase = track.phase;
+    match phase {
+        Phase::Fresh => Track { phase, gap: true },
+        Phase::Past(_) => Track { phase, gap: true },
+        Phase::Under(r) => {
+            let f = r.fault;
+            let fault = first_of(f, true, Reason::Gap);
+            let stamp = r.stamp;
+            let layer = r.layer;
+            Track {
+                phase: Phase::Under(Run {
+                    fid: r.fid,
+                    still: r.still,
+                    fault,
+                    bytes: r.bytes,
+                    fill: r.fill,
+                    stamp,
+                    layer,
+                }),
+                gap: true,
+            }
+        }
+    }
+}
+
+// Close ends a frame under way.
+pub fn shut(track: Track) -> Shut
+    ensures { λ x. ⌜ x ≡ closedOf track ⌝ }
+{
+    let phase = track.phase;
+    match phase {
+        Phase::Fresh => Shut {
+            track: track,
+            ended: Ended::Nothing,
+            gone: 0,
+        },
+        Phase::Past(_) => Shut {
+            track: track,
+            ended: Ended::Nothing,
+            gone: 0,
+        },
+        Phase::Under(r) => {
+            let f = r.fault;
+            let why = why_of(f, Reason::Cut);
+            Shut {
+                track: Track {
+                    phase: Phase::Past(r.fid),
+                    gap: track.gap,
+                },
+                ended: Ended::Frame(why),
+                gone: r.bytes,
             }
         }
     }

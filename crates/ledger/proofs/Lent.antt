@@ -2,20 +2,20 @@
 use Prim.Native.Nat.{ℕ}
 use mathlib.Core.Path.{_≡_, refl, _∙_}
 use mathlib.Core.List.{List}
-use Rattle.payload.specs.declared.Stamp.{Stamp}
-use Rattle.payload.specs.declared.Stamp.the-variants.{Absent, At}
-use Rattle.frames.specs.declared.Reason.{Reason}
-use Rattle.frames.specs.declared.Delivery.{Delivery}
-use Rattle.frames.specs.declared.Ended.{Ended}
-use Rattle.frames.specs.declared.Ended.the-variants.{Nothing, Frame}
-use Rattle.frames.specs.declared.Fate.{Fate}
-use Rattle.ledger.specs.declared.Account.{Account}
-use Rattle.ledger.specs.declared.Step.{Step}
-use Rattle.ledger.specs.declared.Step.the-variants.{Forward, Backward}
-use Rattle.ledger.specs.Entry.{Entry}
-use Rattle.ledger.specs.Step.{stepOf}
-use Rattle.ledger.specs.Ledger.{plusOf, steppedOf, timedOf, postOf, endedOf, fatedOf}
-use Rattle.ledger.specs.Accounts.{accountFor, lostAt, idleAt, untimedAt}
+use Rattle.session_rules.specs.declared.Stamp.{Stamp}
+use Rattle.session_rules.specs.declared.Stamp.the-variants.{Absent, At}
+use Rattle.session_rules.specs.declared.Reason.{Reason}
+use Rattle.session_rules.specs.declared.Delivery.{Delivery}
+use Rattle.session_rules.specs.declared.Ended.{Ended}
+use Rattle.session_rules.specs.declared.Ended.the-variants.{Nothing, Frame}
+use Rattle.session_rules.specs.declared.Fate.{Fate}
+use Rattle.session_rules.specs.declared.Account.{Account}
+use Rattle.session_rules.specs.declared.Step.{Step}
+use Rattle.session_rules.specs.declared.Step.the-variants.{Forward, Backward}
+use Rattle.session_rules.specs.Entry.{Entry}
+use Rattle.session_rules.specs.Step.{stepOf}
+use Rattle.session_rules.specs.Ledger.{plusOf, steppedOf, timedOf, postOf, endedOf, fatedOf}
+use Rattle.session_rules.specs.Accounts.{accountFor, lostAt, idleAt, untimedAt}
 use Rattle.ledger.specs.Inner.{plusAt, enteredIn, steppedIn, endedIn, ledgerWith}
 
 -- ---- what is entered in place is what is posted

@@ -6,13 +6,13 @@ use native.Mathlib.Omega.{arith}
 use native.Mathlib.Decide.{ℕ-discrete, decLt}
 use lib.ListN.{length, getD}
 use lib.Seq.{set-out, getD-set-same, getD-set-other}
-use Rattle.frames.specs.declared.Reason.{Reason}
-use Rattle.frames.specs.declared.Reason.the-variants.{Gap, Error, Clock, Mixed, Long, Cut, Empty}
-use Rattle.frames.specs.declared.Ended.{Ended}
-use Rattle.frames.specs.declared.Ended.the-variants.{Nothing, Frame}
-use Rattle.ledger.specs.declared.Account.{Account}
-use Rattle.ledger.proofs.Places.{place-lt}
-use Rattle.ledger.specs.Accounts.{accountCount, numberCount, underAt, placeOf, accountFor, countAt, bytesAt, lostAt}
+use Rattle.session_rules.specs.declared.Reason.{Reason}
+use Rattle.session_rules.specs.declared.Reason.the-variants.{Gap, Error, Clock, Mixed, Long, Cut, Empty}
+use Rattle.session_rules.specs.declared.Ended.{Ended}
+use Rattle.session_rules.specs.declared.Ended.the-variants.{Nothing, Frame}
+use Rattle.session_rules.specs.declared.Account.{Account}
+use Rattle.session_rules.proofs.Places.{place-lt}
+use Rattle.session_rules.specs.Accounts.{accountCount, numberCount, underAt, placeOf, accountFor, countAt, bytesAt, lostAt}
 use Rattle.ledger.specs.Inner.{plusAt, enteredIn, endedIn, Room, Spare}
 
 -- ---- n more at a place
@@ -53,15 +53,6 @@ room-ended b m l (Frame why) gone r n h = room-entered b m l (accountFor why) go
 pub entering : (b c : ℕ) (l : List ℕ) (a : Account) (n : ℕ) → Room b l → (placeOf a ≡ underAt → ⊥) → n ≤ c →
     Spare b l (placeOf a) × (n ≤ c)
 entering b c l a n r p h = (r .accounts (placeOf a) (place-lt a) p, h)
-
-pub not-under-way : (why : Reason) → placeOf (accountFor why) ≡ underAt → ⊥
-not-under-way Gap e = omega arith
-not-under-way Error e = omega arith
-not-under-way Clock e = omega arith
-not-under-way Mixed e = omega arith
-not-under-way Long e = omega arith
-not-under-way Cut e = omega arith
-not-under-way Empty e = omega arith
 
 pub adding : (b : ℕ) (l : List ℕ) (i n : ℕ) → Room b l → lostAt ≤ i → i < numberCount → b + n < 2 ^ 64 → (i < numberCount) × (getD l i 0 + n < 2 ^ 64)
 adding b l i n r p q h = (omega arith, omega (arith, r .others i p q))

@@ -2,17 +2,17 @@
 use Prim.Native.Nat.{ℕ}
 use mathlib.Core.Path.{_≡_, sym, ap, _∙_}
 use mathlib.Core.List.{List}
-use Rattle.payload.specs.declared.Stamp.{Stamp}
-use Rattle.frames.specs.declared.Ended.{Ended}
-use Rattle.frames.specs.declared.Fate.{Fate}
-use Rattle.frames.specs.declared.Answer.{Answer}
-use Rattle.frames.specs.declared.Phase.{Phase}
-use Rattle.ledger.specs.declared.Account.{Account}
-use Rattle.ledger.specs.declared.Step.{Step}
-use Rattle.ledger.specs.declared.Ledger.{Ledger}
-use Rattle.ledger.specs.Ledger.{noLedger, countOf, bytesOf, fatedOf, answeredOf, shownOf}
-use Rattle.ledger.specs.Step.{stepOf}
-use Rattle.ledger.specs.Accounts.{placeOf}
+use Rattle.session_rules.specs.declared.Stamp.{Stamp}
+use Rattle.session_rules.specs.declared.Ended.{Ended}
+use Rattle.session_rules.specs.declared.Fate.{Fate}
+use Rattle.session_rules.specs.declared.Answer.{Answer}
+use Rattle.session_rules.specs.declared.Phase.{Phase}
+use Rattle.session_rules.specs.declared.Account.{Account}
+use Rattle.session_rules.specs.declared.Step.{Step}
+use Rattle.session_rules.specs.declared.Ledger.{Ledger}
+use Rattle.session_rules.specs.Ledger.{noLedger, countOf, bytesOf, fatedOf, answeredOf, shownOf}
+use Rattle.session_rules.specs.Step.{stepOf}
+use Rattle.session_rules.specs.Accounts.{placeOf}
 use Rattle.ledger.specs.Inner.{plusAt, enteredIn, endedIn, ledgerWith}
 
 pub new-unique : (x y : Ledger) → x ≡ noLedger → y ≡ noLedger → x ≡ y

@@ -3,15 +3,15 @@ use Prim.Native.Nat.{ℕ, _+_, _≤_, _<_}
 use mathlib.Core.Path.{_≡_}
 use mathlib.Core.List.{List}
 use lib.ListN.{getD, set}
-use Rattle.payload.specs.declared.Stamp.{Stamp}
-use Rattle.frames.specs.declared.Ended.{Ended}
-use Rattle.frames.specs.declared.Ended.the-variants.{Nothing, Frame}
-use Rattle.frames.specs.declared.Fate.{Fate}
-use Rattle.ledger.specs.declared.Account.{Account}
-use Rattle.ledger.specs.declared.Step.{Step}
-use Rattle.ledger.specs.declared.Step.the-variants.{Forward, Backward}
-use Rattle.ledger.specs.declared.Ledger.{Ledger}
-use Rattle.ledger.specs.Accounts.{accountCount, placeOf, accountFor, countAt, bytesAt, lostAt, ticksAt, backwardAt, numberCount, underAt}
+use Rattle.session_rules.specs.declared.Stamp.{Stamp}
+use Rattle.session_rules.specs.declared.Ended.{Ended}
+use Rattle.session_rules.specs.declared.Ended.the-variants.{Nothing, Frame}
+use Rattle.session_rules.specs.declared.Fate.{Fate}
+use Rattle.session_rules.specs.declared.Account.{Account}
+use Rattle.session_rules.specs.declared.Step.{Step}
+use Rattle.session_rules.specs.declared.Step.the-variants.{Forward, Backward}
+use Rattle.session_rules.specs.declared.Ledger.{Ledger}
+use Rattle.session_rules.specs.Accounts.{accountCount, placeOf, accountFor, countAt, bytesAt, lostAt, ticksAt, backwardAt, numberCount, underAt}
 
 -- a ledger of lent numbers
 abbrev pub ledgerWith : List ℕ → Stamp → Ledger

@@ -2,226 +2,154 @@
 ghost use mathlib.Core.Path.{_≡_};
 ghost use Prim.Native.Nat.{_+_, _<_, _≤_, _^_};
 ghost use lib.ListN.{getD};
-ghost use Rattle.ledger.specs.Ledger.{noLedger, timedOf, fatedOf, answeredOf, shownOf, countOf, bytesOf};
-ghost use Rattle.frames.specs.Track.{underCount, underBytes};
-ghost use Rattle.ledger.specs.Step.{stepOf};
-ghost use Rattle.ledger.specs.Accounts.{accountCount, numberCount, placeOf, accountFor};
+ghost use Rattle.session_rules.specs.Ledger.{noLedger, timedOf, fatedOf, answeredOf, shownOf, countOf, bytesOf};
+ghost use Rattle.session_rules.specs.Track.{underCount, underBytes};
+ghost use Rattle.session_rules.specs.Step.{stepOf};
+ghost use Rattle.session_rules.specs.Accounts.{accountCount, numberCount, placeOf, accountFor};
 ghost use Rattle.ledger.specs.Inner.{plusAt, enteredIn, steppedIn, endedIn, fateBytes, ledgerWith, Room, Spare};
-use frames::Answer;
-use frames::Ended;
-use frames::Fate;
-use frames::Phase;
-use frames::Reason;
-use payload::Stamp;
+use session_rules::Account;
+use session_rules::Answer;
+use session_rules::Ended;
+use session_rules::Fate;
+use session_rules::Ledger;
+use session_rules::Numbers;
+use session_rules::Phase;
+use session_rules::Reason;
+use session_rules::Stamp;
+use session_rules::Step;
 
-// The accounts, in the order of print.
-pub enum Account {
-    Delivered,
-    Gap,
-    Error,
-    Clock,
-    Long,
-    Cut,
-    Empty,
-    Still,
-    Mixed,
-    UnderWay,
-    Stray,
-    Unreadable,
-    Headers,
+// The frames or transfers of an account.
+pub fn count(ledger: Ledger, a: Account) -> u64
+    ensures { λ r. ⌜ r ≡ countOf ledger (placeOf a) ⌝ }
+{
+    let at = 2 * place(a);
+    ledger.numbers[at]
 }
 
-// The signed step between two stamps: so many ticks forward, or so many backward.
-pub enum Step {
-    Forward(u32),
-    Backward(u32),
+// The bytes of an account.
+pub fn bytes(ledger: Ledger, a: Account) -> u64
+    ensures { λ r. ⌜ r ≡ bytesOf ledger (placeOf a) ⌝ }
+{
+    let at = 2 * place(a) + 1;
+    ledger.numbers[at]
 }
 
-// The numbers in the order of print: each account's count and bytes, then lost, idle, ticks, backward and untimed.
-pub type Numbers = [u64; Ledger::NUMBERS];
-
-// The numbers, and the stamp of the last delivered frame that has one.
-// What is entered is entered in place: a session lends the numbers, and none of them is copied.
-pub struct Ledger {
-    pub numbers: Numbers,
-    pub last: Stamp,
+// Inner: n more at a place. The session has looked at the bounds (50), here and below.
+pub fn plus(m: &mut Numbers, at: usize, n: u64)
+    requires { ⌜ (at < numberCount) × (getD (now m) at 0 + n < 2 ^ 64) ⌝ }
+    ensures { λ _. ⌜ now (m .exit) ≡ plusAt (now (m .entry)) at n ⌝ }
+{
+    let was = m[at];
+    m[at] = was + n;
 }
 
-impl Ledger {
-    // The limits: bytes of one transfer, transfers taken, and ticks of one step.
-    pub const BYTES: u64 = 65536;
+// Inner: one more in an account, of n bytes.
+pub fn entered(m: &mut Numbers, a: Account, n: u64)
+    requires { ⌜ (Spare (2 ^ 63 + 2 ^ 60) (now m) (placeOf a)) × (n ≤ 2 ^ 50) ⌝ }
+    ensures { λ _. ⌜ now (m .exit) ≡ enteredIn (now (m .entry)) a n ⌝ }
+{
+    let at = 2 * place(a);
+    plus(m, at, 1);
+    plus(m, at + 1, n);
+}
 
-    pub const TRANSFERS: u32 = 4294967295;
+// A step: forward adds to the ticks, backward is counted.
+fn stepped(m: &mut Numbers, s: Step)
+    requires { ⌜ Room (2 ^ 63 + 2 ^ 61) (now m) ⌝ }
+    ensures { λ _. ⌜ now (m .exit) ≡ steppedIn (now (m .entry)) s ⌝ }
+{
+    match s {
+        Step::Forward(n) => plus(m, Ledger::RUNNING, n as u64),
+        Step::Backward(_) => plus(m, Ledger::BACKWARD, 1),
+    }
+}
 
-    pub const TICKS: u64 = 2147483648;
+// The time from the last stamped delivered frame to this one; answers the last stamp.
+fn timed(m: &mut Numbers, last: Stamp, s: Stamp) -> Stamp
+    requires { ⌜ Room (2 ^ 63 + 2 ^ 61) (now m) ⌝ }
+    ensures { λ r. ⌜ ledgerWith (now (m .exit)) r ≡ timedOf (ledgerWith (now (m .entry)) last) s ⌝ }
+{
+    match s {
+        Stamp::Absent => {
+            plus(m, Ledger::UNTIMED, 1);
+            last
+        }
+        Stamp::At(b) => match last {
+            Stamp::Absent => s,
+            Stamp::At(a) => {
+                stepped(m, step_between(a, b));
+                s
+            }
+        },
+    }
+}
 
-    // Stamps are taken modulo 2^32.
-    pub const STAMPS: u64 = 4294967296;
+// Inner: a frame of so many bytes that was ended, if there is one.
+pub fn ended(m: &mut Numbers, e: Ended, gone: u64)
+    requires { ⌜ (Room (2 ^ 63 + 2 ^ 60) (now m)) × (gone ≤ 2 ^ 50) ⌝ }
+    ensures { λ _. ⌜ now (m .exit) ≡ endedIn (now (m .entry)) e gone ⌝ }
+{
+    match e {
+        Ended::Nothing => {}
+        Ended::Frame(why) => entered(m, account_for(why), gone),
+    }
+}
 
-    // How many accounts there are, and the place of the one of the frame under way.
-    pub const ACCOUNTS: usize = 13;
-
-    pub const UNDER_WAY: usize = 9;
-
-    // Where the counts stand that are no accounts, and how many numbers and lines of print there are.
-    pub const LOST: usize = 2 * Ledger::ACCOUNTS;
-
-    pub const IDLE: usize = Ledger::LOST + 1;
-
-    pub const RUNNING: usize = Ledger::LOST + 2;
-
-    pub const BACKWARD: usize = Ledger::LOST + 3;
-
-    pub const UNTIMED: usize = Ledger::LOST + 4;
-
-    pub const NUMBERS: usize = Ledger::LOST + 5;
-
-    pub const LINES: usize = Ledger::ACCOUNTS + 5;
-
-    // A fresh ledger is all zero.
-    pub fn new() -> Self
-        ensures { λ r. ⌜ r ≡ noLedger ⌝ }
-    {
-        let numbers = [0u64; Ledger::NUMBERS];
-        Ledger {
-            numbers,
-            last: Stamp::Absent,
+// Inner: a transfer's fate, with its bytes; answers the last stamp.
+pub fn fated(m: &mut Numbers, last: Stamp, f: Fate, n: u64) -> Stamp
+    requires { ⌜ (Room (2 ^ 63 + 2 ^ 60) (now m)) × (fateBytes f n ≤ 2 ^ 50) ⌝ }
+    ensures { λ r. ⌜ ledgerWith (now (m .exit)) r ≡ fatedOf (ledgerWith (now (m .entry)) last) f n ⌝ }
+{
+    match f {
+        Fate::Idle => {
+            plus(m, Ledger::IDLE, 1);
+            last
+        }
+        Fate::Kept => last,
+        Fate::Stray => {
+            entered(m, Account::Stray, n);
+            last
+        }
+        Fate::Delivered(d) => {
+            entered(m, Account::Delivered, d.len);
+            let s = d.stamp;
+            timed(m, last, s)
+        }
+        Fate::Still(d) => {
+            entered(m, Account::Still, d.len);
+            last
+        }
+        Fate::Dropped(why) => {
+            entered(m, account_for(why), n);
+            last
+        }
+        Fate::Unreadable(_) => {
+            entered(m, Account::Unreadable, n);
+            last
         }
     }
+}
 
-    // The frames or transfers of an account.
-    pub fn count(self, a: Account) -> u64
-        ensures { λ r. ⌜ r ≡ countOf self (placeOf a) ⌝ }
-    {
-        let at = 2 * place(a);
-        self.numbers[at]
-    }
+// Inner: posts an answer: the bytes of the frame that was ended, and those of the transfer's fate; answers the last stamp.
+pub fn answered(m: &mut Numbers, last: Stamp, a: Answer, gone: u64, n: u64) -> Stamp
+    requires { ⌜ (Room (2 ^ 63 + 2 ^ 59) (now m)) × (gone ≤ 2 ^ 50) × (fateBytes (a .fate) n ≤ 2 ^ 50) ⌝ }
+    ensures { λ r. ⌜ ledgerWith (now (m .exit)) r ≡ answeredOf (ledgerWith (now (m .entry)) last) a gone n ⌝ }
+{
+    let e = a.ended;
+    let f = a.fate;
+    ended(m, e, gone);
+    fated(m, last, f, n)
+}
 
-    // The bytes of an account.
-    pub fn bytes(self, a: Account) -> u64
-        ensures { λ r. ⌜ r ≡ bytesOf self (placeOf a) ⌝ }
-    {
-        let at = 2 * place(a) + 1;
-        self.numbers[at]
-    }
-
-    // Inner: n more at a place. The session has looked at the bounds (50), here and below.
-    pub fn plus(m: &mut Numbers, at: usize, n: u64)
-        requires { ⌜ (at < numberCount) × (getD (now m) at 0 + n < 2 ^ 64) ⌝ }
-        ensures { λ _. ⌜ now (m .exit) ≡ plusAt (now (m .entry)) at n ⌝ }
-    {
-        let was = m[at];
-        m[at] = was + n;
-    }
-
-    // Inner: one more in an account, of n bytes.
-    pub fn entered(m: &mut Numbers, a: Account, n: u64)
-        requires { ⌜ (Spare (2 ^ 63 + 2 ^ 60) (now m) (placeOf a)) × (n ≤ 2 ^ 50) ⌝ }
-        ensures { λ _. ⌜ now (m .exit) ≡ enteredIn (now (m .entry)) a n ⌝ }
-    {
-        let at = 2 * place(a);
-        Ledger::plus(m, at, 1);
-        Ledger::plus(m, at + 1, n);
-    }
-
-    // A step: forward adds to the ticks, backward is counted.
-    fn stepped(m: &mut Numbers, s: Step)
-        requires { ⌜ Room (2 ^ 63 + 2 ^ 61) (now m) ⌝ }
-        ensures { λ _. ⌜ now (m .exit) ≡ steppedIn (now (m .entry)) s ⌝ }
-    {
-        match s {
-            Step::Forward(n) => Ledger::plus(m, Ledger::RUNNING, n as u64),
-            Step::Backward(_) => Ledger::plus(m, Ledger::BACKWARD, 1),
-        }
-    }
-
-    // The time from the last stamped delivered frame to this one; answers the last stamp.
-    fn timed(m: &mut Numbers, last: Stamp, s: Stamp) -> Stamp
-        requires { ⌜ Room (2 ^ 63 + 2 ^ 61) (now m) ⌝ }
-        ensures { λ r. ⌜ ledgerWith (now (m .exit)) r ≡ timedOf (ledgerWith (now (m .entry)) last) s ⌝ }
-    {
-        match s {
-            Stamp::Absent => {
-                Ledger::plus(m, Ledger::UNTIMED, 1);
-                last
-            }
-            Stamp::At(b) => match last {
-                Stamp::Absent => s,
-                Stamp::At(a) => {
-                    Ledger::stepped(m, step_between(a, b));
-                    s
-                }
-            },
-        }
-    }
-
-    // Inner: a frame of so many bytes that was ended, if there is one.
-    pub fn ended(m: &mut Numbers, e: Ended, gone: u64)
-        requires { ⌜ (Room (2 ^ 63 + 2 ^ 60) (now m)) × (gone ≤ 2 ^ 50) ⌝ }
-        ensures { λ _. ⌜ now (m .exit) ≡ endedIn (now (m .entry)) e gone ⌝ }
-    {
-        match e {
-            Ended::Nothing => {}
-            Ended::Frame(why) => Ledger::entered(m, account_for(why), gone),
-        }
-    }
-
-    // Inner: a transfer's fate, with its bytes; answers the last stamp.
-    pub fn fated(m: &mut Numbers, last: Stamp, f: Fate, n: u64) -> Stamp
-        requires { ⌜ (Room (2 ^ 63 + 2 ^ 60) (now m)) × (fateBytes f n ≤ 2 ^ 50) ⌝ }
-        ensures { λ r. ⌜ ledgerWith (now (m .exit)) r ≡ fatedOf (ledgerWith (now (m .entry)) last) f n ⌝ }
-    {
-        match f {
-            Fate::Idle => {
-                Ledger::plus(m, Ledger::IDLE, 1);
-                last
-            }
-            Fate::Kept => last,
-            Fate::Stray => {
-                Ledger::entered(m, Account::Stray, n);
-                last
-            }
-            Fate::Delivered(d) => {
-                Ledger::entered(m, Account::Delivered, d.len);
-                let s = d.stamp;
-                Ledger::timed(m, last, s)
-            }
-            Fate::Still(d) => {
-                Ledger::entered(m, Account::Still, d.len);
-                last
-            }
-            Fate::Dropped(why) => {
-                Ledger::entered(m, account_for(why), n);
-                last
-            }
-            Fate::Unreadable(_) => {
-                Ledger::entered(m, Account::Unreadable, n);
-                last
-            }
-        }
-    }
-
-    // Inner: posts an answer: the bytes of the frame that was ended, and those of the transfer's fate; answers the last stamp.
-    pub fn answered(m: &mut Numbers, last: Stamp, a: Answer, gone: u64, n: u64) -> Stamp
-        requires { ⌜ (Room (2 ^ 63 + 2 ^ 59) (now m)) × (gone ≤ 2 ^ 50) × (fateBytes (a .fate) n ≤ 2 ^ 50) ⌝ }
-        ensures { λ r. ⌜ ledgerWith (now (m .exit)) r ≡ answeredOf (ledgerWith (now (m .entry)) last) a gone n ⌝ }
-    {
-        let e = a.ended;
-        let f = a.fate;
-        Ledger::ended(m, e, gone);
-        Ledger::fated(m, last, f, n)
-    }
-
-    // The ledger with the frame under way in its account.
-    pub fn shown(mut self, p: Phase) -> Self
-        ensures { λ r. ⌜ r ≡ shownOf self p ⌝ }
-    {
-        let count = under_count(p);
-        let bytes = under_bytes(p);
-        self.numbers[2 * Ledger::UNDER_WAY] = count;
-        self.numbers[2 * Ledger::UNDER_WAY + 1] = bytes;
-        self
-    }
+// The ledger with the frame under way in its account.
+pub fn shown(mut ledger: Ledger, p: Phase) -> Ledger
+    ensures { λ r. ⌜ r ≡ shownOf ledger p ⌝ }
+{
+    let count = under_count(p);
+    let bytes = under_bytes(p);
+    ledger.numbers[2 * Ledger::UNDER_WAY] = count;
+    ledger.numbers[2 * Ledger::UNDER_WAY + 1] = bytes;
+    ledger
 }
 
 fn under_count(p: Phase) -> u64

@@ -1,7 +1,7 @@
 -- Document 02, Eight: "a thin call takes it by exclusive reference". What each call leaves of the record, with its answer: as the call on lent bytes does.
 use Prim.Native.Nat.{ℕ}
 use mathlib.Core.List.{List}
-use Rattle.session.specs.declared.Rest.{Rest}
+use Rattle.session_rules.specs.declared.Rest.{Rest}
 use Rattle.session.specs.declared.RestTaken.{RestTaken}
 use Rattle.session.specs.declared.RestReported.{RestReported}
 use Rattle.session.specs.declared.RestClosed.{RestClosed}

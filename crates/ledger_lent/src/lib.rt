@@ -3,10 +3,10 @@ ghost use mathlib.Core.Path.{_≡_};
 ghost use lib.ListN.{length};
 ghost use Rattle.ledger_record.specs.Recorded.{takeBuffer};
 ghost use Rattle.ledger_lent.specs.Lent.{takenOf, reportedOf, closedOf, takenWith, reportedWith, closedWith};
-use session::Rest;
 use session::RestClosed;
 use session::RestReported;
 use session::RestTaken;
+use session_rules::Rest;
 
 // The ledger as the host program reads it.
 pub struct Record {

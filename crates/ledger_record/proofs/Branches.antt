@@ -4,20 +4,20 @@ use mathlib.Core.Path.{_≡_, refl, sym, ap, _∙_}
 use mathlib.Core.Bool.{Bool, true, false}
 use mathlib.Core.List.{List}
 use lib.ListN.{length}
-use Rattle.ledger.specs.declared.Ledger.{Ledger}
-use Rattle.ledger.specs.Ledger.{shownOf}
-use Rattle.session.specs.declared.Rest.{Rest}
+use Rattle.session_rules.specs.declared.Ledger.{Ledger}
+use Rattle.session_rules.specs.Ledger.{shownOf}
+use Rattle.session_rules.specs.declared.Rest.{Rest}
 use Rattle.session.specs.declared.RestTaken.{RestTaken}
 use Rattle.session.specs.declared.RestReported.{RestReported}
 use Rattle.session.specs.declared.RestClosed.{RestClosed}
-use Rattle.session.specs.declared.Outcome.{Outcome}
-use Rattle.session.specs.declared.Report.{Report}
-use Rattle.session.specs.declared.Closing.{Closing}
-use Rattle.session.specs.declared.Session.{Session}
-use Rattle.session.specs.declared.Taken.{Taken}
-use Rattle.session.specs.declared.Reported.{Reported}
-use Rattle.session.specs.declared.Closed.{Closed}
-use Rattle.session.specs.Session.{takeOf, bufferOf, lostOf, closeOf}
+use Rattle.session_rules.specs.declared.Outcome.{Outcome}
+use Rattle.session_rules.specs.declared.Report.{Report}
+use Rattle.session_rules.specs.declared.Closing.{Closing}
+use Rattle.session_rules.specs.declared.Session.{Session}
+use Rattle.session_rules.specs.declared.Taken.{Taken}
+use Rattle.session_rules.specs.declared.Reported.{Reported}
+use Rattle.session_rules.specs.declared.Closed.{Closed}
+use Rattle.session_rules.specs.Session.{takeOf, bufferOf, lostOf, closeOf}
 use Rattle.session.specs.Inner.{wholeOf, takenWith, reportedWith, closedWith}
 use Rattle.places.specs.Places.{recordOf, numbersIn, broken54}
 use Rattle.ledger_record.specs.Recorded.{sessionOf, recordIn, left, isRefused, isRefusedReport, isRefusedClosing, restTaken, restReported, restClosed, takeBy, takeLeftBy, takeBufferBy, takeIn, takeLeft, takeBuffer, lostBy, lostLeftBy, lostIn, lostLeft, closeBy, closeLeftBy, closeIn, closeLeft}

@@ -5,24 +5,24 @@ use mathlib.Core.List.{List}
 use native.Mathlib.Omega.{arith}
 use lib.ListN.{getD, set}
 use lib.Seq.{set-set, set-comm, getD-set-other}
-use Rattle.payload.specs.declared.Stamp.{Stamp}
-use Rattle.payload.specs.declared.Stamp.the-variants.{Absent, At}
-use Rattle.frames.specs.declared.Reason.{Reason}
-use Rattle.frames.specs.declared.Reason.the-variants.{Gap, Error, Clock, Mixed, Long, Cut, Empty}
-use Rattle.frames.specs.declared.Ended.{Ended}
-use Rattle.frames.specs.declared.Ended.the-variants.{Nothing, Frame}
-use Rattle.frames.specs.declared.Fate.{Fate}
-use Rattle.frames.specs.declared.Answer.{Answer}
-use Rattle.frames.specs.declared.Phase.{Phase}
-use Rattle.frames.specs.Track.{underCount, underBytes}
-use Rattle.ledger.specs.declared.Account.{Account}
-use Rattle.ledger.specs.declared.Ledger.{Ledger}
-use Rattle.ledger.specs.declared.Step.{Step}
-use Rattle.ledger.specs.declared.Step.the-variants.{Forward, Backward}
-use Rattle.ledger.specs.Entry.{Entry}
-use Rattle.ledger.specs.Step.{stepOf}
-use Rattle.ledger.specs.Accounts.{placeOf, accountFor, countAt, bytesAt, lostAt, idleAt, ticksAt, backwardAt, untimedAt}
-use Rattle.ledger.specs.Ledger.{plusOf, enteredOf, steppedOf, lastIs, timedBy, timedOf, postOf, endedOf, fatedOf, answeredOf, shownOf}
+use Rattle.session_rules.specs.declared.Stamp.{Stamp}
+use Rattle.session_rules.specs.declared.Stamp.the-variants.{Absent, At}
+use Rattle.session_rules.specs.declared.Reason.{Reason}
+use Rattle.session_rules.specs.declared.Reason.the-variants.{Gap, Error, Clock, Mixed, Long, Cut, Empty}
+use Rattle.session_rules.specs.declared.Ended.{Ended}
+use Rattle.session_rules.specs.declared.Ended.the-variants.{Nothing, Frame}
+use Rattle.session_rules.specs.declared.Fate.{Fate}
+use Rattle.session_rules.specs.declared.Answer.{Answer}
+use Rattle.session_rules.specs.declared.Phase.{Phase}
+use Rattle.session_rules.specs.Track.{underCount, underBytes}
+use Rattle.session_rules.specs.declared.Account.{Account}
+use Rattle.session_rules.specs.declared.Ledger.{Ledger}
+use Rattle.session_rules.specs.declared.Step.{Step}
+use Rattle.session_rules.specs.declared.Step.the-variants.{Forward, Backward}
+use Rattle.session_rules.specs.Entry.{Entry}
+use Rattle.session_rules.specs.Step.{stepOf}
+use Rattle.session_rules.specs.Accounts.{placeOf, accountFor, countAt, bytesAt, lostAt, idleAt, ticksAt, backwardAt, untimedAt}
+use Rattle.session_rules.specs.Ledger.{plusOf, enteredOf, steppedOf, lastIs, timedBy, timedOf, postOf, endedOf, fatedOf, answeredOf, shownOf}
 use Rattle.ledger_record.specs.Dead.{underIs}
 
 -- showing the frame under way covers what stood there

@@ -6,14 +6,14 @@ use mathlib.Core.List.{List, _∷_}
 use mathlib.Core.Logic.{_↔_}
 use lib.ListN.{length}
 use Rattle.rules.specs.Numbered.{Row, row, Given, here, later}
-use Rattle.session.specs.declared.Rest.{Rest}
-use Rattle.session.specs.declared.Session.{Session}
-use Rattle.session.specs.declared.Outcome.{Outcome}
-use Rattle.session.specs.declared.Report.{Report}
-use Rattle.session.specs.declared.Closing.{Closing}
-use Rattle.session.specs.Refusals.{takeRows, lostRows, closeRows}
-use Rattle.session.specs.Session.{takeOf, lostOf, closeOf}
-use Rattle.session.proofs.Refused as session
+use Rattle.session_rules.specs.declared.Rest.{Rest}
+use Rattle.session_rules.specs.declared.Session.{Session}
+use Rattle.session_rules.specs.declared.Outcome.{Outcome}
+use Rattle.session_rules.specs.declared.Report.{Report}
+use Rattle.session_rules.specs.declared.Closing.{Closing}
+use Rattle.session_rules.specs.Refusals.{takeRows, lostRows, closeRows}
+use Rattle.session_rules.specs.Session.{takeOf, lostOf, closeOf}
+use Rattle.session_rules.proofs.Refused as session
 use Rattle.places.specs.Places.{broken54}
 use Rattle.ledger_record.specs.Recorded.{sessionOf, left, isRefused, isRefusedReport, isRefusedClosing, takeRows54, lostRows54, closeRows54, takeIn, takeBy, takeLeft, takeLeftBy, takeBuffer, takeBufferBy, lostIn, lostBy, lostLeft, lostLeftBy, closeIn, closeBy, closeLeft, closeLeftBy}
 

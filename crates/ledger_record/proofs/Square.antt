@@ -6,29 +6,29 @@ use mathlib.Core.Bool.{Bool, true, false}
 use mathlib.Core.List.{List}
 use lib.ListN.{length}
 use Rattle.rules.specs.Numbered.{firstRow}
-use Rattle.payload.specs.declared.Header.{Header}
-use Rattle.payload.specs.declared.Reading.{Reading}
-use Rattle.payload.specs.declared.Reading.the-variants.{Idle, Unreadable, Readable}
-use Rattle.payload.specs.Transfer.{readingOf}
-use Rattle.frames.specs.declared.Phase.{Phase}
-use Rattle.frames.specs.declared.Turn.{Turn}
-use Rattle.frames.specs.Track.{underCount, underBytes, handing}
-use Rattle.frames.specs.Inner.{turnOf, outOf, idleTurn, unreadTurn, spoiltOf, closedOf}
-use Rattle.ledger.specs.declared.Ledger.{Ledger}
-use Rattle.ledger.specs.Entry.{Entry}
-use Rattle.ledger.specs.Ledger.{postOf, endedOf, fatedOf, answeredOf, shownOf}
-use Rattle.rule_50.specs.Rule50.{rule50}
-use Rattle.refusals.specs.Refusals.{takeRowsBy, lostRowsBy, closeRowsBy}
-use Rattle.session.specs.declared.Session.{Session}
-use Rattle.session.specs.declared.Rest.{Rest}
-use Rattle.session.specs.declared.Outcome.{Outcome}
-use Rattle.session.specs.declared.Report.{Report}
-use Rattle.session.specs.declared.Closing.{Closing}
-use Rattle.session.specs.declared.Taken.{Taken}
-use Rattle.session.specs.declared.Reported.{Reported}
-use Rattle.session.specs.declared.Closed.{Closed}
-use Rattle.session.specs.Refusals.{postedOf, ledgerOf, recordBroken, takeRows, lostRows, closeRows}
-use Rattle.session.specs.Session.{countedOf, takenBy, readOf, tookBy, tookOf, handsFor, handsOut, passedOf, handedOf, metBy, metOf, takeBy, takeOf, tookBufferBy, tookBuffer, metBufferBy, metBuffer, bufferBy, bufferOf, missedOf, lostBy, lostOf, shutOf, closeBy, closeOf}
+use Rattle.session_rules.specs.declared.Header.{Header}
+use Rattle.session_rules.specs.declared.Reading.{Reading}
+use Rattle.session_rules.specs.declared.Reading.the-variants.{Idle, Unreadable, Readable}
+use Rattle.session_rules.specs.Transfer.{readingOf}
+use Rattle.session_rules.specs.declared.Phase.{Phase}
+use Rattle.session_rules.specs.declared.Turn.{Turn}
+use Rattle.session_rules.specs.Track.{underCount, underBytes, handing}
+use Rattle.session_rules.specs.Turns.{turnOf, outOf, idleTurn, unreadTurn, spoiltOf, closedOf}
+use Rattle.session_rules.specs.declared.Ledger.{Ledger}
+use Rattle.session_rules.specs.Entry.{Entry}
+use Rattle.session_rules.specs.Ledger.{postOf, endedOf, fatedOf, answeredOf, shownOf}
+use Rattle.session_rules.specs.Rule50.{rule50}
+use Rattle.session_rules.specs.Refusals.{takeRowsBy, lostRowsBy, closeRowsBy}
+use Rattle.session_rules.specs.declared.Session.{Session}
+use Rattle.session_rules.specs.declared.Rest.{Rest}
+use Rattle.session_rules.specs.declared.Outcome.{Outcome}
+use Rattle.session_rules.specs.declared.Report.{Report}
+use Rattle.session_rules.specs.declared.Closing.{Closing}
+use Rattle.session_rules.specs.declared.Taken.{Taken}
+use Rattle.session_rules.specs.declared.Reported.{Reported}
+use Rattle.session_rules.specs.declared.Closed.{Closed}
+use Rattle.session_rules.specs.Refusals.{postedOf, ledgerOf, recordBroken, takeRows, lostRows, closeRows}
+use Rattle.session_rules.specs.Session.{countedOf, takenBy, readOf, tookBy, tookOf, handsFor, handsOut, passedOf, handedOf, metBy, metOf, takeBy, takeOf, tookBufferBy, tookBuffer, metBufferBy, metBuffer, bufferBy, bufferOf, missedOf, lostBy, lostOf, shutOf, closeBy, closeOf}
 use Rattle.session.specs.Inner.{wholeOf}
 use Rattle.places.specs.Places.{recordOf, broken54, Numbers}
 use Rattle.places.proofs.Trips.{read-back, laid-fine}

@@ -1,13 +1,13 @@
 -- The two places of the frame under way: a ledger and a session with any numbers there.
 use Prim.Native.Nat.{ℕ}
 use lib.ListN.{set}
-use Rattle.ledger.specs.declared.Ledger.{Ledger}
-use Rattle.ledger.specs.Accounts.{countAt, bytesAt, underAt}
-use Rattle.session.specs.declared.Session.{Session}
-use Rattle.session.specs.declared.Taken.{Taken}
-use Rattle.session.specs.declared.Reported.{Reported}
-use Rattle.session.specs.declared.Closed.{Closed}
-use Rattle.session.specs.Refusals.{postedOf}
+use Rattle.session_rules.specs.declared.Ledger.{Ledger}
+use Rattle.session_rules.specs.Accounts.{countAt, bytesAt, underAt}
+use Rattle.session_rules.specs.declared.Session.{Session}
+use Rattle.session_rules.specs.declared.Taken.{Taken}
+use Rattle.session_rules.specs.declared.Reported.{Reported}
+use Rattle.session_rules.specs.declared.Closed.{Closed}
+use Rattle.session_rules.specs.Refusals.{postedOf}
 use Rattle.session.specs.Inner.{wholeOf}
 
 abbrev pub underIs : ℕ → ℕ → Ledger → Ledger

@@ -4,19 +4,19 @@ use Prim.Native.Nat.{ℕ}
 use mathlib.Core.List.{List, _∷_}
 use mathlib.Core.Bool.{Bool, true, false}
 use Rattle.rules.specs.Numbered.{Row, row}
-use Rattle.session.specs.declared.Rest.{Rest}
-use Rattle.session.specs.declared.Session.{Session}
-use Rattle.session.specs.declared.Outcome.{Outcome}
-use Rattle.session.specs.declared.Report.{Report}
-use Rattle.session.specs.declared.Closing.{Closing}
-use Rattle.session.specs.declared.Taken.{Taken}
-use Rattle.session.specs.declared.Reported.{Reported}
-use Rattle.session.specs.declared.Closed.{Closed}
+use Rattle.session_rules.specs.declared.Rest.{Rest}
+use Rattle.session_rules.specs.declared.Session.{Session}
+use Rattle.session_rules.specs.declared.Outcome.{Outcome}
+use Rattle.session_rules.specs.declared.Report.{Report}
+use Rattle.session_rules.specs.declared.Closing.{Closing}
+use Rattle.session_rules.specs.declared.Taken.{Taken}
+use Rattle.session_rules.specs.declared.Reported.{Reported}
+use Rattle.session_rules.specs.declared.Closed.{Closed}
 use Rattle.session.specs.declared.RestTaken.{RestTaken}
 use Rattle.session.specs.declared.RestReported.{RestReported}
 use Rattle.session.specs.declared.RestClosed.{RestClosed}
-use Rattle.session.specs.Refusals.{ledgerOf, takeRows, lostRows, closeRows}
-use Rattle.session.specs.Session.{takeOf, bufferOf, lostOf, closeOf}
+use Rattle.session_rules.specs.Refusals.{ledgerOf, takeRows, lostRows, closeRows}
+use Rattle.session_rules.specs.Session.{takeOf, bufferOf, lostOf, closeOf}
 use Rattle.session.specs.Inner.{wholeOf}
 use Rattle.places.specs.Places.{recordOf, numbersIn, broken54}
 

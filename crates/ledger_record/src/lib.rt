@@ -5,15 +5,15 @@ ghost use lib.ListN.{length};
 ghost use Rattle.places.specs.Places.{recordSize};
 ghost use Rattle.session.specs.Inner.{wholeOf};
 ghost use Rattle.ledger_record.specs.Recorded.{recordIn, isRefused, isRefusedReport, isRefusedClosing, takeIn, takeLeft, takeBuffer, lostIn, lostLeft, closeIn, closeLeft};
-use ledger::Ledger;
-use ledger::Numbers;
-use session::Closing;
-use session::Outcome;
-use session::Report;
-use session::Rest;
 use session::RestClosed;
 use session::RestReported;
 use session::RestTaken;
+use session_rules::Closing;
+use session_rules::Ledger;
+use session_rules::Numbers;
+use session_rules::Outcome;
+use session_rules::Report;
+use session_rules::Rest;
 
 fn is_refused(o: Outcome) -> bool
     ensures { λ r. ⌜ r ≡ isRefused o ⌝ }
@@ -52,7 +52,7 @@ fn show(r: &mut [u8], rest: Rest, numbers: Numbers)
     let track = rest.track;
     let phase = track.phase;
     let l = Ledger { numbers, last };
-    let shown = l.shown(phase);
+    let shown = ledger::shown(l, phase);
     let all = shown.numbers;
     places::lay(r, all);
 }
@@ -70,7 +70,7 @@ pub fn take(r: &mut [u8], rest: Rest, buffer: &mut [u8], t: &[u8]) -> RestTaken
         };
     }
     let mut numbers = places::numbers_of(r);
-    let taken = rest.take(&mut numbers, buffer, t);
+    let taken = session::take(rest, &mut numbers, buffer, t);
     let outcome = taken.outcome;
     if is_refused(outcome) {
         return taken;
@@ -92,7 +92,7 @@ pub fn lost(r: &mut [u8], rest: Rest) -> RestReported
         };
     }
     let mut numbers = places::numbers_of(r);
-    let reported = rest.lost(&mut numbers);
+    let reported = session::lost(rest, &mut numbers);
     let report = reported.report;
     if is_refused_report(report) {
         return reported;
@@ -114,7 +114,7 @@ pub fn close(r: &mut [u8], rest: Rest) -> RestClosed
         };
     }
     let mut numbers = places::numbers_of(r);
-    let closed = rest.close(&mut numbers);
+    let closed = session::close(rest, &mut numbers);
     let closing = closed.closing;
     if is_refused_closing(closing) {
         return closed;

@@ -4,7 +4,7 @@ use mathlib.Core.List.{List, [], _∷_, _++_, append-cancel-left}
 use Prim.Native.Nat.{ℕ, _+_}
 use native.Mathlib.Omega.{arith}
 use lib.ListN.{length, getD}
-use Rattle.ledger.specs.Accounts.{numberCount}
+use Rattle.session_rules.specs.Accounts.{numberCount}
 use Rattle.trace.specs.declared.State.{State}
 use Rattle.trace.specs.declared.State.the-variants.{Good, Bad, Refused}
 use Rattle.text.specs.Text.{bytes, number, line, total}

@@ -5,7 +5,7 @@ use Prim.Native.Nat.{ℕ, _+_, _-_, _*_, _≤_, _<_}
 use native.Mathlib.Omega.{arith}
 use lib.Dec.{eqb, eqb→eq, leb, leb→le}
 use lib.ListN.{length, take, drop, getD, length-map}
-use Rattle.ledger.specs.Accounts.{accountCount, numberCount, lineCount}
+use Rattle.session_rules.specs.Accounts.{accountCount, numberCount, lineCount}
 use Rattle.text.specs.Text.{total, bytes}
 use Rattle.text.proofs.Computed.{below, equal, equal→eq}
 use Rattle.ledger_text.specs.Report.{rows, rowAt}

@@ -6,7 +6,7 @@ use native.Mathlib.Numerals.{add-one}
 use native.Mathlib.Omega.{arith}
 use lib.ListN.{length, take, drop}
 use lib.Seq.{take-suc, take-all}
-use Rattle.ledger.specs.Accounts.{lineCount}
+use Rattle.session_rules.specs.Accounts.{lineCount}
 use Rattle.text.specs.Put.{Put}
 use Rattle.text.specs.Text.{line, lines, total}
 use Rattle.text.proofs.Puts.{then}

@@ -3,8 +3,8 @@ use mathlib.Core.List.{List, [], _∷_, _++_, map}
 use Prim.Native.Nat.{ℕ, _*_}
 use Prim.Native.String.{String}
 use lib.ListN.{getD}
-use Rattle.ledger.specs.declared.Account.{Account}
-use Rattle.ledger.specs.Accounts.{accounts, lineCount}
+use Rattle.session_rules.specs.declared.Account.{Account}
+use Rattle.session_rules.specs.Accounts.{accounts, lineCount}
 use Rattle.trace.specs.declared.State.{State}
 use Rattle.trace.specs.declared.State.the-variants.{Good, Bad, Refused}
 use Rattle.frame_lines.specs.declared.Show.{Show}

@@ -7,12 +7,12 @@ ghost use Rattle.io.specs.Counts.{Counts};
 ghost use Rattle.text.specs.Put.{Put};
 ghost use Rattle.text.specs.Text.{line as Text·line, lines};
 ghost use Rattle.text.specs.Written.{answerOf, bufferOf};
-ghost use Rattle.ledger.specs.Accounts.{numberCount, lineCount};
+ghost use Rattle.session_rules.specs.Accounts.{numberCount, lineCount};
 ghost use Rattle.trace.specs.declared.State.{State};
 ghost use Rattle.ledger_text.specs.Report.{room, rowAt, rows, textOf, endText, shutText};
 ghost use Rattle.ledger_text.specs.Inner.{isUnsaid};
 use frame_lines::Show;
-use ledger::Ledger;
+use session_rules::Ledger;
 use trace::Printed;
 use trace::State;
 

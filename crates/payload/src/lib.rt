@@ -5,9 +5,14 @@ ghost use Prim.Native.Nat.{_<_, _≤_};
 ghost use lib.ListN.{length};
 ghost use lib.Dec.{ltb};
 ghost use Rattle.rules.specs.IfElse.{ifElse};
-ghost use Rattle.rules.specs.Numbered.{firstFrom};
-ghost use Rattle.payload.specs.Layouts.{Laid};
-ghost use Rattle.payload.specs.Transfer.{flagOf, flagsAt, hasLayer, layerPlace, needOf, stampMissing, stampOf, layerOf, headerBy, flagsBy, sortedBy, readingOf};
+ghost use Rattle.rules.specs.Numbered.{firstRow};
+ghost use Rattle.session_rules.specs.Layouts.{Laid};
+ghost use Rattle.session_rules.specs.Transfer.{flagOf, flagsAt, hasLayer, layerPlace, needOf, stampMissing, stampOf, layerOf, headerBy, rowsBy, sortedBy, readingOf};
+use session_rules::Header;
+use session_rules::Layer;
+use session_rules::Layout;
+use session_rules::Reading;
+use session_rules::Stamp;
 use sizes::HeaderKind;
 use sizes::Opening;
 
@@ -34,16 +39,6 @@ const SCR_BYTES: usize = 6;
 
 const LAYER_BYTES: usize = 2;
 
-// What differs between the kinds of header: the bytes of one with no field, the bit that says end of header, whether D5 marks a still, whether D7 announces a
-// layer, and whether a PTS has to be there.
-struct Layout {
-    least: usize,
-    ends: u8,
-    stills: bool,
-    layered: bool,
-    timed: bool,
-}
-
 const OLD: Layout = Layout {
     least: 2,
     ends: 7,
@@ -59,36 +54,6 @@ const VP8: Layout = Layout {
     layered: true,
     timed: true,
 };
-
-// A presentation time, or none.
-pub enum Stamp {
-    Absent,
-    At(u32),
-}
-
-// A layer field, or none.
-pub enum Layer {
-    Absent,
-    At(u16),
-}
-
-// A readable header: its length, D0, D1, D5, D6, its stamp and its layer.
-pub struct Header {
-    pub len: usize,
-    pub fid: bool,
-    pub eof: bool,
-    pub still: bool,
-    pub error: bool,
-    pub stamp: Stamp,
-    pub layer: Layer,
-}
-
-pub enum Reading {
-    Idle,
-    // The number, 61 to 67.
-    Unreadable(u8),
-    Readable(Header),
-}
 
 // Whether bit n of the flags is set.
 fn flag(flags: u32, n: u8) -> bool
@@ -161,7 +126,7 @@ fn stamp_missing(l: Layout, flags: u32) -> bool
 // The first of 61 to 67 that a transfer breaks; 0 where none is broken.
 fn unreadable_by(l: Layout, payload: usize, t: &[u8]) -> u8
     requires { ⌜ Laid l ⌝ }
-    ensures { λ r. ⌜ r ≡ firstFrom 61 (flagsBy l payload (now (t .entry))) ⌝ }
+    ensures { λ r. ⌜ r ≡ firstRow (rowsBy l payload (now (t .entry))) ⌝ }
 {
     let n = t.len();
     if n < l.least {

@@ -6,7 +6,7 @@ use lib.ListN.{getD}
 use lib.Dec.{eqb}
 use borrow.Author.Tests.{eq-eqb, ne-eqb}
 use native.Mathlib.Omega.{arith}
-use Rattle.rules.specs.IfElse.{pick}
+use Rattle.rules.specs.IfElse.{ifElse}
 use Rattle.rules.specs.declared.Verdict.the-variants.{Accepted, Refused}
 use Rattle.rules.proofs.Places.{first-place}
 use Rattle.rules.proofs.Verdicts.{apart}
@@ -20,7 +20,7 @@ use Rattle.alternate_settings.specs.declared.Choice.{Choice}
 use Rattle.alternate_settings.specs.declared.Choice.the-variants.{At, Nothing}
 use Rattle.configuration.specs.Inner.{ConfigurationIs, laid, blocks, sound, refusedBy as refusedConfiguration, acceptedWith}
 use Rattle.configuration.specs.declared.Configuration.{Configuration}
-use Rattle.picking.specs.Inner.{settingsIn, refusedBy, answerOf, PickIs, own, ifElses}
+use Rattle.picking.specs.Inner.{settingsIn, refusedBy, answerOf, PickIs, own, picks}
 use Rattle.picking.specs.declared.Picked.{Picked}
 
 pub place-in : (l : List Stream) (n i k : ℕ) → k ≡ placeOf l n i → (k ≡ n → ⊥) → n ≤ 8 → k < 8
@@ -28,12 +28,12 @@ place-in l n i k e h b = let w = first-place (λ j. eqb (getD l j noStream .inte
 
 module _ (s : List ℕ) (l : List Stream) (n i p k : ℕ) (e : k ≡ placeOf l n i) where
   pub no-stream : k ≡ n → (x : Picked) → x ≡ refusedBy 74 0 → x ≡ answerOf (fewestOf p (settingsIn s l n i))
-  unfolding settingsIn answerOf fewestFrom pick
+  unfolding settingsIn answerOf fewestFrom ifElse
   no-stream h x q = rw (← e, eq-eqb k n h) q
 
   module _ (h : k ≡ n → ⊥) (c : Choice) (f : c ≡ fewestOf p (settingsOf s i (getD l k noStream .endpoint))) where
     chosen : c ≡ fewestOf p (settingsIn s l n i)
-    unfolding settingsIn pick
+    unfolding settingsIn ifElse
     chosen = rw (← e, ne-eqb k n h) f
 
     pub none-large : c ≡ Nothing → (x : Picked) → x ≡ refusedBy 74 0 → x ≡ answerOf (fewestOf p (settingsIn s l n i))
@@ -61,4 +61,4 @@ module _ (s : List ℕ) where
     own-refused k o e x q = rw q (own c k o r e)
 
     pub then-picked : c .verdict ≡ Accepted → (x : Picked) → x ≡ answerOf (fewestOf p (settingsIn s (c .streams) (c .count) i)) → PickIs s i p x
-    then-picked e x q = let t = same-streams r e in rw (q, t .0, t .1) (ifElses c r e)
+    then-picked e x q = let t = same-streams r e in rw (q, t .0, t .1) (picks c r e)

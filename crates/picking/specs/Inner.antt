@@ -5,7 +5,7 @@ use mathlib.Core.Path.{_≡_}
 use mathlib.Core.List.{List, []}
 use lib.ListN.{getD}
 use lib.Dec.{eqb}
-use Rattle.rules.specs.IfElse.{pick}
+use Rattle.rules.specs.IfElse.{ifElse}
 use Rattle.rules.specs.declared.Verdict.the-variants.{Accepted, Refused}
 use Rattle.interfaces.specs.Limits.{noStream}
 use Rattle.interfaces.specs.Inner.{streamsOf, placeOf}
@@ -21,7 +21,7 @@ use Rattle.picking.specs.declared.Picked.{Picked}
 
 -- the settings of the first of n streams whose number is i, with their bytes at its header's endpoint; none where there is no such stream
 unfoldable pub settingsIn : List ℕ → List Stream → ℕ → ℕ → List Setting
-settingsIn s l n i = pick (eqb (placeOf l n i) n) [] (settingsOf s i (getD l (placeOf l n i) noStream .endpoint))
+settingsIn s l n i = ifElse (eqb (placeOf l n i) n) [] (settingsOf s i (getD l (placeOf l n i) noStream .endpoint))
 
 -- of the listed ones
 abbrev pub settingsFor : List ℕ → ℕ → List Setting
@@ -37,4 +37,4 @@ answerOf (At x) = record { verdict = Accepted; setting = x }
 
 pub data PickIs (s : List ℕ) (i p : ℕ) : Picked → Type 0 where
   own : (c : Configuration) (k o : ℕ) → ConfigurationIs s c → c .verdict ≡ Refused k o → PickIs s i p (refusedBy k o)
-  ifElses : (c : Configuration) → ConfigurationIs s c → c .verdict ≡ Accepted → PickIs s i p (answerOf (fewestOf p (settingsFor s i)))
+  picks : (c : Configuration) → ConfigurationIs s c → c .verdict ≡ Accepted → PickIs s i p (answerOf (fewestOf p (settingsFor s i)))

@@ -13,7 +13,7 @@ use native.Mathlib.Nat.{mod-eq-of-lt, div-eq-of-lt, add-mul-div-right, add-mul-m
 use Rattle.le.specs.Le.{le32At}
 use Rattle.fill.specs.Fill.{anySet}
 use Rattle.fill.proofs.Zeros.{none-set, zeros-unset}
-use Rattle.ledger.specs.Accounts.{numberCount}
+use Rattle.session_rules.specs.Accounts.{numberCount}
 use Rattle.places.specs.Places.{recordSize, littleOf, eights, recordOf, wordAt, wordsFrom, numbersIn, broken54, Below, Numbers}
 use Rattle.places.proofs.Laying.{eights-length}
 

@@ -7,7 +7,7 @@ use lib.ListN.{length, drop, replicate}
 use lib.Dec.{eqb}
 use Rattle.le.specs.Le.{le32At}
 use Rattle.fill.specs.Fill.{anySet}
-use Rattle.ledger.specs.Accounts.{numberCount}
+use Rattle.session_rules.specs.Accounts.{numberCount}
 use Rattle.rules.specs.declared.Verdict.{Verdict}
 use Rattle.rules.specs.declared.Verdict.the-variants.{Accepted, Refused}
 use Rattle.places.specs.declared.Held.{Held}

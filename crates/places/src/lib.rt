@@ -3,9 +3,9 @@ ghost use mathlib.Core.Path.{_≡_};
 ghost use Prim.Native.Nat.{_+_, _≤_};
 ghost use lib.ListN.{length, getD};
 ghost use Rattle.places.specs.Places.{recordSize, littleOf, wordAt, recordOf, numbersIn, broken54, heldOf, writeVerdict, written};
-use ledger::Ledger;
-use ledger::Numbers;
 use rules::Verdict;
+use session_rules::Ledger;
+use session_rules::Numbers;
 
 pub const SIZE: usize = 320;
 

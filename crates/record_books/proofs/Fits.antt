@@ -11,18 +11,18 @@ use Rattle.rules.specs.Numbered.{firstRow}
 use Rattle.rules.proofs.Rows.{row-none}
 use Rattle.sizes.specs.declared.Opening.{Opening}
 use Rattle.sizes.specs.Sizes.{sizesBroken}
-use Rattle.payload.specs.Transfer.{readingOf}
-use Rattle.frames.specs.declared.Phase.{Phase}
-use Rattle.ledger.specs.declared.Ledger.{Ledger}
-use Rattle.ledger.specs.Ledger.{shownOf}
-use Rattle.ledger.specs.Accounts.{numberCount}
-use Rattle.rule_50.specs.Rule50.{Keeps}
-use Rattle.rule_50.proofs.Row50.{row-50}
-use Rattle.refusals.specs.Refusals.{takenMost}
-use Rattle.session.specs.declared.Session.{Session}
-use Rattle.session.specs.Refusals.{ledgerOf, takeRows, lostRows, closeRows}
-use Rattle.session.specs.Session.{fresh, tookOf, handedOf, handsOut, metBy, takeBy, takeOf, lostBy, lostOf, closeBy, closeOf}
-use Rattle.session.specs.Calls.{Offer, refusal, next, after}
+use Rattle.session_rules.specs.Transfer.{readingOf}
+use Rattle.session_rules.specs.declared.Phase.{Phase}
+use Rattle.session_rules.specs.declared.Ledger.{Ledger}
+use Rattle.session_rules.specs.Ledger.{shownOf}
+use Rattle.session_rules.specs.Accounts.{numberCount}
+use Rattle.session_rules.specs.Rule50.{Keeps}
+use Rattle.session_rules.proofs.Row50.{row-50}
+use Rattle.session_rules.specs.Refusals.{takenMost}
+use Rattle.session_rules.specs.declared.Session.{Session}
+use Rattle.session_rules.specs.Refusals.{ledgerOf, takeRows, lostRows, closeRows}
+use Rattle.session_rules.specs.Session.{fresh, tookOf, handedOf, handsOut, metBy, takeBy, takeOf, lostBy, lostOf, closeBy, closeOf}
+use Rattle.session_rules.specs.Calls.{Offer, refusal, next, after}
 use Rattle.books.proofs.Sound.{took-taken}
 use Rattle.books.proofs.Taken.{next-refused}
 use Rattle.books.proofs.Theorems.{numbers-right, broken-right}

@@ -5,11 +5,11 @@ use mathlib.Core.Bool.{Bool, false}
 use mathlib.Core.List.{List, [], _∷_, _++_}
 use lib.ListN.{length}
 use Rattle.sizes.specs.declared.Opening.{Opening}
-use Rattle.ledger.specs.Ledger.{shownOf}
-use Rattle.session.specs.declared.Session.{Session}
-use Rattle.session.specs.Refusals.{ledgerOf}
-use Rattle.session.specs.Session.{fresh}
-use Rattle.session.specs.Calls.{Offer, next, after}
+use Rattle.session_rules.specs.Ledger.{shownOf}
+use Rattle.session_rules.specs.declared.Session.{Session}
+use Rattle.session_rules.specs.Refusals.{ledgerOf}
+use Rattle.session_rules.specs.Session.{fresh}
+use Rattle.session_rules.specs.Calls.{Offer, next, after}
 use Rattle.books.specs.Rule.{entries, numbersOf}
 use Rattle.books.specs.Offers.{listOf, takeSays, lostSays, closeSays, takeLeaves}
 use Rattle.books.proofs.Theorems.{numbers-right, every-answer, every-report, every-close, every-buffer}

@@ -3,10 +3,10 @@ use Prim.Native.Nat.{ℕ}
 use mathlib.Core.List.{List, [], _∷_}
 use lib.ListN.{length, replicate}
 use Rattle.sizes.specs.declared.Opening.{Opening}
-use Rattle.session.specs.declared.Rest.{Rest}
-use Rattle.session.specs.declared.Session.{Session}
-use Rattle.session.specs.Session.{fresh}
-use Rattle.session.specs.Calls.{Offer}
+use Rattle.session_rules.specs.declared.Rest.{Rest}
+use Rattle.session_rules.specs.declared.Session.{Session}
+use Rattle.session_rules.specs.Session.{fresh}
+use Rattle.session_rules.specs.Calls.{Offer}
 use Rattle.places.specs.Places.{recordSize}
 use Rattle.ledger_record.specs.Recorded.{recordIn, takeIn, takeLeft, lostIn, lostLeft, closeIn, closeLeft}
 

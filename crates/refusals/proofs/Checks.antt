@@ -8,9 +8,9 @@ use lib.Dec.{ltb, eqb}
 use borrow.Author.Tests.{lt-ltb, le-ltb, eq-eqb, ne-eqb}
 use Rattle.rules.specs.Numbered.{Row, firstRow}
 use Rattle.rules.proofs.Rows.{Numbered, row-here, row-later, row-before, row-after}
-use Rattle.rule_50.specs.Rule50.{transferMost}
+use Rattle.session_rules.specs.Rule50.{transferMost}
 use Rattle.rule_50.proofs.Checks.{said-or-yes, said-or-no}
-use Rattle.refusals.specs.Refusals.{takenMost, closeRowsBy, lostRowsBy, takeRowsBy}
+use Rattle.session_rules.specs.Refusals.{takenMost, closeRowsBy, lostRowsBy, takeRowsBy}
 
 rows-first : (rs qs : List Row) (n : ℕ) → n ≡ firstRow rs → (n ≡ 0 → ⊥) → n ≡ firstRow (rs ++ qs)
 rows-first rs qs zero e h = absurd (h refl)

@@ -2,13 +2,13 @@
 use Prim.Native.Nat.{ℕ}
 use mathlib.Core.Path.{_≡_, sym, _∙_}
 use mathlib.Core.Bool.{Bool, _||_}
-use Rattle.rules.specs.Numbered.{firstFrom, firstRow}
+use Rattle.rules.specs.Numbered.{firstRow}
 use Rattle.sizes.specs.declared.Opening.{Opening}
-use Rattle.frames.specs.declared.Phase.{Phase}
+use Rattle.session_rules.specs.declared.Phase.{Phase}
 use Rattle.rule_50.specs.Inner.{restBroken}
-use Rattle.refusals.specs.Refusals.{openingFlags, closeRowsBy, lostRowsBy, takeRowsBy}
+use Rattle.session_rules.specs.Refusals.{openingRows, closeRowsBy, lostRowsBy, takeRowsBy}
 
-pub opening-unique : (o : Opening) (room x y : ℕ) → x ≡ firstFrom 45 (openingFlags o room) → y ≡ firstFrom 45 (openingFlags o room) → x ≡ y
+pub opening-unique : (o : Opening) (room x y : ℕ) → x ≡ firstRow (openingRows o room) → y ≡ firstRow (openingRows o room) → x ≡ y
 opening-unique o room x y e f = e ∙ sym f
 
 module _ (posted : Bool) (o : Opening) (p : Phase) (closed : Bool) (taken x y : ℕ) where

@@ -1,16 +1,16 @@
 // What refuses a call: 45 to 47 of an opening, rule 50 of a session record, and 53, 52, 51, 55 in this order.
 ghost use mathlib.Core.Path.{_≡_};
 ghost use mathlib.Core.Bool.{_||_};
-ghost use Rattle.rules.specs.Numbered.{firstFrom, firstRow};
+ghost use Rattle.rules.specs.Numbered.{firstRow};
 ghost use Rattle.rule_50.specs.Inner.{restBroken};
-ghost use Rattle.refusals.specs.Refusals.{openingFlags, closeRowsBy, lostRowsBy, takeRowsBy};
-use frames::Phase;
-use ledger::Ledger;
+ghost use Rattle.session_rules.specs.Refusals.{openingRows, closeRowsBy, lostRowsBy, takeRowsBy};
+use session_rules::Ledger;
+use session_rules::Phase;
 use sizes::Opening;
 
 // The first of 45 to 47 that an opening breaks; 0 where none is broken.
 pub fn opening_refusal(o: Opening, room: usize) -> u8
-    ensures { λ r. ⌜ r ≡ firstFrom 45 (openingFlags o room) ⌝ }
+    ensures { λ r. ⌜ r ≡ firstRow (openingRows o room) ⌝ }
 {
     if sizes::frame_size_broken(o.frame) {
         return 45;

@@ -11,13 +11,13 @@ use Rattle.text.specs.Put.{Put}
 use Rattle.text.proofs.Puts.{then}
 use Rattle.cuts.specs.Cuts.{cutOf, nextOf}
 use Rattle.cuts.proofs.Walk.{Next, next-is}
-use Rattle.ledger.specs.Accounts.{numberCount}
-use Rattle.session.specs.declared.Rest.{Rest}
-use Rattle.session.specs.declared.Session.{Session}
-use Rattle.session.specs.declared.Outcome.{Outcome}
-use Rattle.session.specs.declared.Closing.{Closing}
+use Rattle.session_rules.specs.Accounts.{numberCount}
+use Rattle.session_rules.specs.declared.Rest.{Rest}
+use Rattle.session_rules.specs.declared.Session.{Session}
+use Rattle.session_rules.specs.declared.Outcome.{Outcome}
+use Rattle.session_rules.specs.declared.Closing.{Closing}
 use Rattle.session.specs.Inner.{wholeOf}
-use Rattle.session.specs.Call.{Ask}
+use Rattle.session_rules.specs.Call.{Ask}
 use Rattle.records.specs.declared.Form.{Form}
 use Rattle.records.specs.declared.Form.the-variants.{Short, Long}
 use Rattle.records.specs.Form.{sizeOf, headOf, mostOf}

@@ -9,13 +9,13 @@ use Rattle.rules.specs.Numbered.{orElse}
 use Rattle.sizes.specs.declared.Opening.{Opening}
 use Rattle.sizes.specs.Framing.{byEof}
 use Rattle.sizes.specs.Sizes.{sizesBroken}
-use Rattle.payload.specs.declared.Stamp.the-variants.{Absent}
-use Rattle.payload.specs.declared.Reading.the-variants.{Idle, Unreadable}
-use Rattle.ledger.specs.Entry.{Entry}
-use Rattle.session.specs.declared.Session.{Session}
-use Rattle.session.specs.Session.{fresh}
-use Rattle.session.specs.Call.{Call, transfer, lost, handed, close}
-use Rattle.session.specs.Calls.{Offer, offerWith, refusal, next, after, callOf, unless, taken}
+use Rattle.session_rules.specs.declared.Stamp.the-variants.{Absent}
+use Rattle.session_rules.specs.declared.Reading.the-variants.{Idle, Unreadable}
+use Rattle.session_rules.specs.Entry.{Entry}
+use Rattle.session_rules.specs.declared.Session.{Session}
+use Rattle.session_rules.specs.Session.{fresh}
+use Rattle.session_rules.specs.Call.{Call, transfer, lost, handed, close}
+use Rattle.session_rules.specs.Calls.{Offer, offerWith, refusal, next, after, callOf, unless, taken}
 use Rattle.books.specs.Rule.{Event, idle, unreadable, missing, readable, mark, events, isOpen, Seen, readables, runs, ahead, same, frameOf, dataOf, firstStamp, nothing}
 use Rattle.books.specs.Answer.{frameEntry}
 use Rattle.books.specs.Offers.{listOf}

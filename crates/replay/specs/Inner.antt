@@ -6,9 +6,9 @@ use lib.ListN.{length, take, drop}
 use lib.Seq.{paste}
 use mathlib.Core.Bool.{Bool, true, false}
 use Rattle.sizes.specs.declared.Opening.{Opening}
-use Rattle.payload.specs.declared.Stamp.the-variants.{Absent}
-use Rattle.session.specs.declared.Rest.{Rest}
-use Rattle.session.specs.declared.Session.{Session}
+use Rattle.session_rules.specs.declared.Stamp.the-variants.{Absent}
+use Rattle.session_rules.specs.declared.Rest.{Rest}
+use Rattle.session_rules.specs.declared.Session.{Session}
 use Rattle.records.specs.declared.Form.{Form}
 use Rattle.records.specs.Form.{sizeOf, headOf}
 use Rattle.records.specs.Record.{lengthAt, bytesAt}

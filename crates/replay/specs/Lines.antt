@@ -2,8 +2,8 @@
 use mathlib.Core.List.{List, []}
 use Prim.Native.Nat.{ℕ}
 use Rattle.sizes.specs.declared.Opening.{Opening}
-use Rattle.payload.specs.declared.Stamp.the-variants.{Absent}
-use Rattle.session.specs.Call.{Call}
+use Rattle.session_rules.specs.declared.Stamp.the-variants.{Absent}
+use Rattle.session_rules.specs.Call.{Call}
 use Rattle.endings.specs.declared.Ending.{Ending}
 use Rattle.endings.specs.Endings.{endingsOf}
 use Rattle.frame_lines.specs.declared.Show.{Show}

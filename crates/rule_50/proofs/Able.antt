@@ -6,15 +6,15 @@ use native.Mathlib.Omega.{arith}
 use native.Mathlib.Decide.{ℕ-discrete}
 use lib.ListN.{getD}
 use Rattle.sizes.specs.Sizes.{frameMost, Between}
-use Rattle.frames.specs.declared.Phase.{Phase}
-use Rattle.frames.specs.Track.{underBytes, FilledBy}
+use Rattle.session_rules.specs.declared.Phase.{Phase}
+use Rattle.session_rules.specs.Track.{underBytes, FilledBy}
 use Rattle.sizes.specs.declared.Opening.{Opening}
-use Rattle.ledger.specs.declared.Ledger.{Ledger}
-use Rattle.ledger.specs.Ledger.{shownOf}
-use Rattle.rule_50.specs.Rule50.{rule50, Keeps}
-use Rattle.ledger.proofs.Places.{at, Sized, shown-account, shown-single, shown-bytes}
-use Rattle.rule_50.proofs.Row50.{row-50}
-use Rattle.ledger.specs.Accounts.{accountCount, numberCount, underAt, lostAt, idleAt, ticksAt, backwardAt, untimedAt}
+use Rattle.session_rules.specs.declared.Ledger.{Ledger}
+use Rattle.session_rules.specs.Ledger.{shownOf}
+use Rattle.session_rules.specs.Rule50.{rule50, Keeps}
+use Rattle.session_rules.proofs.Places.{at, Sized, shown-account, shown-single, shown-bytes}
+use Rattle.session_rules.proofs.Row50.{row-50}
+use Rattle.session_rules.specs.Accounts.{accountCount, numberCount, underAt, lostAt, idleAt, ticksAt, backwardAt, untimedAt}
 use Rattle.ledger.specs.Inner.{Spare, Room}
 
 -- ---- the counts that are no accounts

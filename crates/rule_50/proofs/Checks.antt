@@ -8,16 +8,16 @@ use lib.Dec.{ltb}
 use borrow.Author.Tests.{lt-ltb, le-ltb, eq-eqb, ne-eqb}
 use Rattle.rules.specs.Numbered.{anyBelow}
 use Rattle.rules.proofs.Rows.{any-none, any-some}
-use Rattle.frames.specs.declared.Phase.{Phase}
-use Rattle.frames.specs.declared.Phase.the-variants.{Fresh, Under, Past}
-use Rattle.frames.specs.declared.Run.{Run}
-use Rattle.frames.specs.Track.{underCount, underBytes}
-use Rattle.payload.specs.declared.Stamp.the-variants.{Absent}
-use Rattle.ledger.specs.Accounts.{accountCount, underAt}
-use Rattle.ledger.specs.declared.Ledger.{Ledger}
-use Rattle.ledger.specs.Ledger.{countOf, bytesOf}
+use Rattle.session_rules.specs.declared.Phase.{Phase}
+use Rattle.session_rules.specs.declared.Phase.the-variants.{Fresh, Under, Past}
+use Rattle.session_rules.specs.declared.Run.{Run}
+use Rattle.session_rules.specs.Track.{underCount, underBytes}
+use Rattle.session_rules.specs.declared.Stamp.the-variants.{Absent}
+use Rattle.session_rules.specs.Accounts.{accountCount, underAt}
+use Rattle.session_rules.specs.declared.Ledger.{Ledger}
+use Rattle.session_rules.specs.Ledger.{countOf, bytesOf}
 use Rattle.sizes.specs.declared.Opening.{Opening}
-use Rattle.rule_50.specs.Rule50.{unequal, fillBroken, accountBroken, countsBroken}
+use Rattle.session_rules.specs.Rule50.{unequal, fillBroken, accountBroken, countsBroken}
 use Rattle.rule_50.specs.Inner.{underBroken, postedAccount, postedBroken, restBroken}
 use Rattle.ledger.specs.Inner.{ledgerWith}
 use Rattle.sizes.specs.Sizes.{sizesBroken}

@@ -10,15 +10,15 @@ use lib.Dec.{eqb}
 use borrow.Author.Tests.{eq-eqb, ne-eqb}
 use Rattle.rules.specs.Numbered.{anyBelow}
 use Rattle.rules.proofs.Rows.{or-first, or-second, any-none, none-any}
-use Rattle.payload.specs.declared.Stamp.{Stamp}
-use Rattle.payload.specs.declared.Stamp.the-variants.{Absent}
-use Rattle.frames.specs.declared.Phase.{Phase}
-use Rattle.ledger.specs.declared.Ledger.{Ledger}
-use Rattle.ledger.specs.Ledger.{shownOf}
-use Rattle.ledger.specs.Accounts.{accountCount, numberCount, underAt, lostAt, idleAt, ticksAt, backwardAt, untimedAt}
-use Rattle.ledger.proofs.Places.{shown-account, shown-single, shown-count, shown-bytes}
+use Rattle.session_rules.specs.declared.Stamp.{Stamp}
+use Rattle.session_rules.specs.declared.Stamp.the-variants.{Absent}
+use Rattle.session_rules.specs.declared.Phase.{Phase}
+use Rattle.session_rules.specs.declared.Ledger.{Ledger}
+use Rattle.session_rules.specs.Ledger.{shownOf}
+use Rattle.session_rules.specs.Accounts.{accountCount, numberCount, underAt, lostAt, idleAt, ticksAt, backwardAt, untimedAt}
+use Rattle.session_rules.proofs.Places.{shown-account, shown-single, shown-count, shown-bytes}
 use Rattle.sizes.specs.declared.Opening.{Opening}
-use Rattle.rule_50.specs.Rule50.{fillBroken, accountBroken, accountsBroken, countsBroken, rule50}
+use Rattle.session_rules.specs.Rule50.{fillBroken, accountBroken, accountsBroken, countsBroken, rule50}
 use Rattle.rule_50.specs.Inner.{underBroken, postedAccount, postedBroken, restBroken}
 use Rattle.ledger.specs.Inner.{ledgerWith}
 use Rattle.sizes.specs.Sizes.{sizesBroken}

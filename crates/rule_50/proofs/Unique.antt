@@ -4,7 +4,7 @@ use mathlib.Core.Path.{_≡_, sym, _∙_}
 use mathlib.Core.Bool.{Bool}
 use mathlib.Core.List.{List}
 use Rattle.sizes.specs.declared.Opening.{Opening}
-use Rattle.frames.specs.declared.Phase.{Phase}
+use Rattle.session_rules.specs.declared.Phase.{Phase}
 use Rattle.rule_50.specs.Inner.{restBroken, postedBroken}
 
 pub rest-unique : (o : Opening) (p : Phase) (n : ℕ) (x y : Bool) → x ≡ restBroken o p n → y ≡ restBroken o p n → x ≡ y

@@ -6,12 +6,12 @@ use lib.Dec.{ltb, eqb}
 use Rattle.rules.specs.Numbered.{anyBelow}
 use Rattle.sizes.specs.declared.Opening.{Opening}
 use Rattle.sizes.specs.Sizes.{sizesBroken}
-use Rattle.payload.specs.declared.Stamp.the-variants.{Absent}
-use Rattle.frames.specs.declared.Phase.{Phase}
-use Rattle.frames.specs.Track.{underCount, underBytes}
-use Rattle.ledger.specs.Accounts.{accountCount, underAt}
+use Rattle.session_rules.specs.declared.Stamp.the-variants.{Absent}
+use Rattle.session_rules.specs.declared.Phase.{Phase}
+use Rattle.session_rules.specs.Track.{underCount, underBytes}
+use Rattle.session_rules.specs.Accounts.{accountCount, underAt}
 use Rattle.ledger.specs.Inner.{ledgerWith}
-use Rattle.rule_50.specs.Rule50.{transferMost, fillBroken, accountBroken, countsBroken}
+use Rattle.session_rules.specs.Rule50.{transferMost, fillBroken, accountBroken, countsBroken}
 
 -- the account of the frame under way is the track's,
 abbrev pub underBroken : Phase → ℕ → Bool

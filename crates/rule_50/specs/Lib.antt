@@ -1,2 +1,1 @@
-pub mod Rule50
 pub mod Inner

@@ -1,17 +1,17 @@
 // Rule 50: what makes a session record unsound.
 ghost use mathlib.Core.Path.{_≡_};
 ghost use Prim.Native.Nat.{_<_, _^_};
-ghost use Rattle.payload.specs.declared.Stamp.the-variants.{Absent};
+ghost use Rattle.session_rules.specs.declared.Stamp.the-variants.{Absent};
 ghost use Rattle.rules.specs.Numbered.{anyBelow};
 ghost use Rattle.sizes.specs.Sizes.{sizesBroken};
-ghost use Rattle.ledger.specs.Accounts.{accountCount};
+ghost use Rattle.session_rules.specs.Accounts.{accountCount};
 ghost use Rattle.ledger.specs.Inner.{ledgerWith};
-ghost use Rattle.rule_50.specs.Rule50.{unequal, fillBroken, countsBroken};
+ghost use Rattle.session_rules.specs.Rule50.{unequal, fillBroken, countsBroken};
 ghost use Rattle.rule_50.specs.Inner.{underBroken, restBroken, postedAccount, postedBroken};
-use frames::Fault;
-use frames::Phase;
-use ledger::Ledger;
-use ledger::Numbers;
+use session_rules::Fault;
+use session_rules::Ledger;
+use session_rules::Numbers;
+use session_rules::Phase;
 use sizes::Opening;
 
 fn sizes_broken(o: Opening) -> bool

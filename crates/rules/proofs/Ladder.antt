@@ -1,9 +1,7 @@
--- Code that tests numbered rules one after the other and answers the first that is broken: `search ladder` goes down the list of flags beside it, `search rungs`
--- the list of rows.
+-- Code that tests numbered rules one after the other and answers the first that is broken: `search rungs` goes down the list of rows beside it.
 use mathlib.Core.Path.{_≡_, sym, _∙_, ap}
 use mathlib.Core.Bool.{Bool, true, false, not}
 use borrow.Author.Tests.{lt-ltb, le-ltb, lt-leb, le-leb, eq-eqb, ne-eqb}
-use Rattle.rules.proofs.Numbered.{first-here, first-later, first-end}
 use Rattle.rules.proofs.Rows.{row-yes, row-no}
 
 -- by a test that a callee answered
@@ -18,7 +16,5 @@ said-not-no s t e p = ap not (sym e ∙ p)
 
 pub not-said : (s t v : Bool) → s ≡ t → not s ≡ v → not t ≡ v
 not-said s t v e p = rw (← e) p
-
-pub ruleset ladder = (first-here, first-later, first-end, said, said-not-yes, said-not-no, lt-ltb, le-ltb, eq-eqb, ne-eqb)
 
 pub ruleset rungs = (row-yes, row-no, said, not-said, said-not-yes, said-not-no, lt-ltb, le-ltb, lt-leb, le-leb, eq-eqb, ne-eqb)

@@ -1,5 +1,4 @@
 -- The laws that every reader cites.
-pub mod Numbered
 pub mod Asked
 pub mod Rows
 pub mod Ladder

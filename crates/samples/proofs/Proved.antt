@@ -1,7 +1,7 @@
 -- The P table, one statement.
 use Rattle.control.proofs.Samples as control
-use Rattle.ledger.proofs.Steps as steps
-use Rattle.session.proofs.Samples as session
+use Rattle.session_rules.proofs.Steps as steps
+use Rattle.session_rules.proofs.Samples as session
 use Rattle.books.proofs.Samples as books
 use Rattle.samples.specs.Table.{Samples}
 

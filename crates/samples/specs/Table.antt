@@ -9,15 +9,15 @@ use Rattle.entities.specs.declared.Revision.the-variants.{R15}
 use Rattle.control.specs.Answer.{ControlIs, refusedBy}
 use Rattle.sizes.specs.declared.Opening.{Opening}
 use Rattle.sizes.specs.declared.HeaderKind.the-variants.{Old}
-use Rattle.frames.specs.declared.Fate.{Fate}
-use Rattle.ledger.specs.declared.Step.the-variants.{Forward, Backward}
-use Rattle.ledger.specs.Step.{stepOf}
-use Rattle.session.specs.declared.Outcome.{Outcome}
-use Rattle.session.specs.Refusals.{ledgerOf}
-use Rattle.session.specs.Session.{fresh, plainly, takeOf}
+use Rattle.session_rules.specs.declared.Fate.{Fate}
+use Rattle.session_rules.specs.declared.Step.the-variants.{Forward, Backward}
+use Rattle.session_rules.specs.Step.{stepOf}
+use Rattle.session_rules.specs.declared.Outcome.{Outcome}
+use Rattle.session_rules.specs.Refusals.{ledgerOf}
+use Rattle.session_rules.specs.Session.{fresh, plainly, takeOf}
 use Rattle.books.specs.Rule.{entries, numbersOf}
-use Rattle.session.specs.Call.{Call}
-use Rattle.session.specs.Calls.{Offer, after}
+use Rattle.session_rules.specs.Call.{Call}
+use Rattle.session_rules.specs.Calls.{Offer, after}
 
 -- a header of n bytes in all, and a selector with ID 5 and one source
 abbrev pub header : ℕ → List ℕ

@@ -6,9 +6,9 @@ use console::files;
 use console::status;
 use libc::STDERR_FILENO;
 use libc::STDOUT_FILENO;
-use payload::Stamp;
 use sender::Sender;
 use sender::Sending;
+use session_rules::Stamp;
 
 // What became of a frame.
 enum Went {

@@ -5,10 +5,10 @@ ghost use lib.ListN.{length, take};
 ghost use Rattle.long_records.specs.Long.{longSize, dataMost};
 ghost use Rattle.sender.specs.Send.{sendOf, transferAt};
 ghost use Rattle.send_records.specs.Records.{isWrote, sizeIn, recordIn, outIf, outBy, laterOf};
-use payload::Stamp;
 use sender::Sender;
 use sender::Sending;
 use sender::Sent;
+use session_rules::Stamp;
 
 // Inner: the frame's next transfer, as a record of kind 0 at the front of `out`; `room` is lent to the sender.
 pub fn next(

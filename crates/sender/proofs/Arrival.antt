@@ -12,23 +12,23 @@ use Rattle.sizes.specs.declared.HeaderKind.the-variants.{Old}
 use Rattle.sizes.specs.Framing.{byEof}
 use Rattle.sizes.specs.Sizes.{payloadMost, frameSizeBroken, payloadSizeBroken, sizesBroken}
 use Rattle.sizes.proofs.Limits.{payload-sound}
-use Rattle.payload.specs.declared.Header.{Header}
-use Rattle.payload.specs.declared.Stamp.{Stamp}
-use Rattle.payload.specs.declared.Layer.{Layer}
-use Rattle.payload.specs.declared.Reading.{Reading}
-use Rattle.payload.specs.declared.Reading.the-variants.{Idle, Unreadable, Readable}
-use Rattle.payload.specs.Transfer.{readingOf}
-use Rattle.frames.specs.declared.Fault.the-variants.{Sound}
-use Rattle.frames.specs.declared.Ended.the-variants.{Nothing}
-use Rattle.frames.specs.declared.Fate.{Fate}
-use Rattle.frames.specs.declared.Answer.{Answer}
-use Rattle.frames.specs.declared.Delivery.{Delivery}
-use Rattle.rule_50.specs.Rule50.{transferMost}
-use Rattle.refusals.specs.Refusals.{takenMost}
-use Rattle.session.specs.declared.Outcome.{Outcome}
-use Rattle.session.specs.Session.{fresh, takeOf, bufferOf}
-use Rattle.session.specs.Call.{Ask, Call}
-use Rattle.session.specs.Calls.{Offer, refusal, after, callBy, callOf, unless, taken, offers, offerWith, bufferAfter}
+use Rattle.session_rules.specs.declared.Header.{Header}
+use Rattle.session_rules.specs.declared.Stamp.{Stamp}
+use Rattle.session_rules.specs.declared.Layer.{Layer}
+use Rattle.session_rules.specs.declared.Reading.{Reading}
+use Rattle.session_rules.specs.declared.Reading.the-variants.{Idle, Unreadable, Readable}
+use Rattle.session_rules.specs.Transfer.{readingOf}
+use Rattle.session_rules.specs.declared.Fault.the-variants.{Sound}
+use Rattle.session_rules.specs.declared.Ended.the-variants.{Nothing}
+use Rattle.session_rules.specs.declared.Fate.{Fate}
+use Rattle.session_rules.specs.declared.Answer.{Answer}
+use Rattle.session_rules.specs.declared.Delivery.{Delivery}
+use Rattle.session_rules.specs.Rule50.{transferMost}
+use Rattle.session_rules.specs.Refusals.{takenMost}
+use Rattle.session_rules.specs.declared.Outcome.{Outcome}
+use Rattle.session_rules.specs.Session.{fresh, takeOf, bufferOf}
+use Rattle.session_rules.specs.Call.{Ask, Call}
+use Rattle.session_rules.specs.Calls.{Offer, refusal, after, callBy, callOf, unless, taken, offers, offerWith, bufferAfter}
 use Rattle.books.specs.Rule.{Event, eventBy, events, Seen, readables, same, ahead, runs, closes, frameOf, strayOf, closed, dataOf, firstStamp, lastLayer, stillOf, fault, faultFrom}
 use Rattle.books.specs.Answer.{lastOf, lastRun, turnedIn, goesOn, fateOn, with, answerFor, answerOf, handsFor, outOf, outcomeOf}
 use Rattle.books.specs.Offers.{takenIn, listOf, refusedOr}

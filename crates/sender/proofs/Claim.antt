@@ -12,11 +12,11 @@ use Rattle.rules.proofs.Rows.{or-first, or-second}
 use Rattle.sizes.specs.declared.Opening.{Opening}
 use Rattle.sizes.specs.Sizes.{frameMost, payloadMost, frameSizeBroken, sizesBroken}
 use Rattle.sizes.proofs.Limits.{frame-sound, payload-sound}
-use Rattle.frames.specs.declared.Delivery.{Delivery}
-use Rattle.ledger.specs.Entry.{Entry}
-use Rattle.ledger.specs.declared.Account.{Account}
-use Rattle.ledger.specs.Accounts.{placeOf}
-use Rattle.session.specs.Call.{Call}
+use Rattle.session_rules.specs.declared.Delivery.{Delivery}
+use Rattle.session_rules.specs.Entry.{Entry}
+use Rattle.session_rules.specs.declared.Account.{Account}
+use Rattle.session_rules.specs.Accounts.{placeOf}
+use Rattle.session_rules.specs.Call.{Call}
 use Rattle.books.specs.Rule.{Seen, framesBy, entryOf, loose, entries, lostLine, idleLine, oneIn, partIn, total, stamps, untimed, forward, back, between, noStamp, stampList}
 use Rattle.books.specs.Demands.{Right}
 use Rattle.books.specs.Offers.{listOf}

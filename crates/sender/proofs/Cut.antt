@@ -6,8 +6,8 @@ use mathlib.Core.List.{List, [], _∷_, _++_}
 use native.Mathlib.Omega.{arith}
 use lib.ListN.{length, take, drop, length-append, length-take, length-drop, take-append-drop}
 use lib.Seq.{length-take-le}
-use Rattle.payload.specs.declared.Stamp.{Stamp}
-use Rattle.payload.specs.declared.Stamp.the-variants.{Absent, At}
+use Rattle.session_rules.specs.declared.Stamp.{Stamp}
+use Rattle.session_rules.specs.declared.Stamp.the-variants.{Absent, At}
 use Rattle.sender.specs.Header.{sizeOf, written}
 use Rattle.sender.specs.Transfers.{isNil, cutBy, Full, dataIn}
 use Rattle.sender.proofs.Writing.{header-length}

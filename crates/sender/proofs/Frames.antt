@@ -9,13 +9,13 @@ use borrow.Author.Tests.{le-ltb, eq-eqb, ne-eqb}
 use Rattle.sizes.specs.declared.Opening.{Opening}
 use Rattle.sizes.specs.declared.HeaderKind.the-variants.{Old}
 use Rattle.sizes.specs.Framing.{byEof}
-use Rattle.payload.specs.declared.Stamp.{Stamp}
-use Rattle.payload.specs.declared.Stamp.the-variants.{Absent, At}
-use Rattle.payload.specs.declared.Layer.{Layer}
-use Rattle.payload.specs.declared.Reading.{Reading}
-use Rattle.payload.specs.Transfer.{readingOf}
-use Rattle.frames.specs.declared.Fault.the-variants.{Sound}
-use Rattle.session.specs.Call.{Call}
+use Rattle.session_rules.specs.declared.Stamp.{Stamp}
+use Rattle.session_rules.specs.declared.Stamp.the-variants.{Absent, At}
+use Rattle.session_rules.specs.declared.Layer.{Layer}
+use Rattle.session_rules.specs.declared.Reading.{Reading}
+use Rattle.session_rules.specs.Transfer.{readingOf}
+use Rattle.session_rules.specs.declared.Fault.the-variants.{Sound}
+use Rattle.session_rules.specs.Call.{Call}
 use Rattle.books.specs.Rule.{Event, readable, eventBy, events, isOpen, Seen, spoiled, marks, readables, ahead, runs, eofOf, closes, frameOf, strayOf, closed, dataOf, _orStamp_, firstStamp, _thenLayer_, lastLayer, stillOf, differs, faultFrom, fault, judge, judged, nothing, framesOf, framesBy}
 use Rattle.sender.specs.Header.{sizeOf, written, meant, Stamped}
 use Rattle.sender.specs.Transfers.{Frame, isNil, cutBy, cut, sentOf}

@@ -9,17 +9,18 @@ use lib.ListN.{length, drop}
 use lib.Dec.{ltb, eqb}
 use borrow.Author.Tests.{le-ltb, ne-eqb}
 use Rattle.rules.specs.IfElse.{ifElse}
-use Rattle.rules.specs.Numbered.{firstFrom}
 use Rattle.sizes.specs.declared.Opening.{Opening}
 use Rattle.sizes.specs.declared.HeaderKind.the-variants.{Old}
-use Rattle.payload.specs.declared.Stamp.{Stamp}
-use Rattle.payload.specs.declared.Stamp.the-variants.{Absent, At}
-use Rattle.payload.specs.declared.Layer.{Layer}
-use Rattle.payload.specs.declared.Header.{Header}
-use Rattle.payload.specs.declared.Reading.the-variants.{Readable}
-use Rattle.payload.specs.Transfer.{flagOf, sorted, readingOf}
-use Rattle.payload.specs.OldKind.{oldNeed, oldHeader, oldReading}
-use Rattle.payload.proofs.OldKind.{old-kind}
+use Rattle.rules.specs.Numbered.{Row, firstRow, NoneOf}
+use Rattle.rules.proofs.Rows.{none-row}
+use Rattle.session_rules.specs.declared.Stamp.{Stamp}
+use Rattle.session_rules.specs.declared.Stamp.the-variants.{Absent, At}
+use Rattle.session_rules.specs.declared.Layer.{Layer}
+use Rattle.session_rules.specs.declared.Header.{Header}
+use Rattle.session_rules.specs.declared.Reading.the-variants.{Readable}
+use Rattle.session_rules.specs.Transfer.{flagOf, sorted, readingOf}
+use Rattle.session_rules.specs.OldKind.{oldNeed, oldRules, oldHeader, oldReading}
+use Rattle.session_rules.proofs.OldKind.{old-kind}
 use Rattle.sender.specs.Header.{sizeOf, written, meant, Stamped}
 
 four-back : (x : ℕ) → x < 2 ^ 32 → x % 256 + x / 256 % 256 * 256 + (x / 65536 % 256 + x / 16777216 % 256 * 256) * 65536 ≡ x
@@ -30,17 +31,16 @@ four-back x h =
     let m : x / 16777216 % 256 ≡ x / 16777216 = mod-eq-of-lt w in
     omega (arith, div-add-mod' x 256, div-add-mod' (x / 256) 256, div-add-mod' (x / 256 / 256) 256)
 
--- no rule of six is broken
-six : (a b c d e f : Bool) (h : Header) → a ≡ false → b ≡ false → c ≡ false → d ≡ false → e ≡ false → f ≡ false → sorted (firstFrom 61 (a ∷ b ∷ c ∷ d ∷ e ∷ f ∷ [])) h ≡ Readable h
-unfolding firstFrom
-six a b c d e f h p q r s t u = rw (p, q, r, s, t, u)
+-- no rule is broken
+none-readable : (rows : List Row) (h : Header) → NoneOf rows → sorted (firstRow rows) h ≡ Readable h
+none-readable rows h n = rw (none-row rows n)
 
 -- a transfer of two bytes or more whose header is of n bytes, with these flags
 reads : (payload n x : ℕ) (d : List ℕ) → 2 ≤ n → n ≤ suc (suc (length d)) → suc (suc (length d)) ≤ payload → ltb n (oldNeed x) ≡ false → not (flagOf x 7) ≡ false
     → oldReading payload (n ∷ x ∷ d) ≡ Readable (oldHeader (n ∷ x ∷ d))
 reads payload n x d l m k e f =
-    six (eqb (suc (suc (length d))) 1) (ltb payload (suc (suc (length d)))) (ltb n 2) (ltb (suc (suc (length d))) n) (ltb n (oldNeed x)) (not (flagOf x 7)) (oldHeader (n ∷ x ∷ d))
-    (ne-eqb (suc (suc (length d))) 1 (λ z. omega arith)) (le-ltb payload (suc (suc (length d))) k) (le-ltb n 2 l) (le-ltb (suc (suc (length d))) n m) e f
+    none-readable (oldRules payload (n ∷ x ∷ d)) (oldHeader (n ∷ x ∷ d))
+    (ne-eqb (suc (suc (length d))) 1 (λ z. omega arith), (le-ltb payload (suc (suc (length d))) k, (le-ltb n 2 l, (le-ltb (suc (suc (length d))) n m, (e, (f, tt))))))
 
 bare : (payload : ℕ) (fid eof : Bool) (d : List ℕ) → suc (suc (length d)) ≤ payload → oldReading payload (written fid eof Absent ++ d) ≡ Readable (meant fid eof Absent)
 unfolding flagOf ifElse

@@ -10,7 +10,7 @@ use lib.Dec.{ltb}
 use borrow.Author.Tests.{lt-ltb, le-ltb, ltb-true, ltb-false}
 use Rattle.rules.specs.Numbered.{Row, firstRow, Given, here, later, NoneOf}
 use Rattle.rules.proofs.Rows.{Numbered, given-row, row-first, none-row, row-none}
-use Rattle.payload.specs.declared.Stamp.{Stamp}
+use Rattle.session_rules.specs.declared.Stamp.{Stamp}
 use Rattle.sender.specs.declared.Sender.{Sender}
 use Rattle.sender.specs.declared.Sending.the-variants.{Refused, Done, Wrote}
 use Rattle.sender.specs.declared.Sent.{Sent}

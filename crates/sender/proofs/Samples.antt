@@ -7,15 +7,14 @@ use mathlib.Core.List.{List, [], _∷_, _++_, map}
 use lib.ListN.{replicate}
 use Rattle.sizes.specs.Sizes.{frameSizeBroken, payloadSizeBroken, sizesBroken}
 use Rattle.rules.specs.IfElse.{ifElse}
-use Rattle.rules.specs.Numbered.{firstFrom}
 use Rattle.sizes.specs.declared.Opening.{Opening}
 use Rattle.sizes.specs.declared.HeaderKind.the-variants.{Old}
 use Rattle.sizes.specs.Framing.{byEof}
-use Rattle.payload.specs.declared.Stamp.{Stamp}
-use Rattle.payload.specs.Layouts.{headerLayout}
-use Rattle.payload.specs.Transfer.{flagOf, layerPlace, needOf, flagsBy, stampOf, layerOf, headerBy, readingOf}
-use Rattle.ledger.specs.Entry.{Entry}
-use Rattle.session.specs.Call.{Call}
+use Rattle.session_rules.specs.declared.Stamp.{Stamp}
+use Rattle.session_rules.specs.Layouts.{headerLayout}
+use Rattle.session_rules.specs.Transfer.{flagOf, layerPlace, needOf, rowsBy, stampOf, layerOf, headerBy, readingOf}
+use Rattle.session_rules.specs.Entry.{Entry}
+use Rattle.session_rules.specs.Call.{Call}
 use Rattle.books.specs.Rule.{framesBy}
 use Rattle.sender.specs.Transfers.{Frame, sentOf}
 use Rattle.sender.specs.Claim.{delivered, Receives}
@@ -42,7 +41,7 @@ sample-sent = refl
 
 -- the frames of that list, by the rule
 pub sample-frames : framesBy opening (map Call.transfer (sentOf 8 false film)) ≡ map delivered film
-unfolding ifElse firstFrom byEof headerLayout flagOf layerPlace needOf flagsBy stampOf layerOf headerBy readingOf
+unfolding ifElse byEof headerLayout flagOf layerPlace needOf rowsBy stampOf layerOf headerBy readingOf
 sample-frames = refl
 
 -- the premises of the claim hold of it
@@ -65,5 +64,5 @@ sample-receives = record {
 
 -- two fresh senders: the second frame has the FID of the first, and is stray
 pub two-senders : framesBy opening (map Call.transfer (sentOf 8 false (one 170) ++ sentOf 8 false (one 187))) ≡ delivered (frameOf 170) ∷ record { entry = Entry.Stray 1; load = 187 ∷ [] } ∷ []
-unfolding ifElse firstFrom byEof headerLayout flagOf layerPlace needOf flagsBy stampOf layerOf headerBy readingOf
+unfolding ifElse byEof headerLayout flagOf layerPlace needOf rowsBy stampOf layerOf headerBy readingOf
 two-senders = refl

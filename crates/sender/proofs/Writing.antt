@@ -12,8 +12,8 @@ use Rattle.rules.specs.Numbered.{firstRow}
 use Rattle.rules.proofs.Rows.{or-first, or-second, row-none}
 use Rattle.sizes.specs.Sizes.{payloadMost}
 use Rattle.sizes.proofs.Limits.{frame-sound}
-use Rattle.payload.specs.declared.Stamp.{Stamp}
-use Rattle.payload.specs.declared.Stamp.the-variants.{Absent, At}
+use Rattle.session_rules.specs.declared.Stamp.{Stamp}
+use Rattle.session_rules.specs.declared.Stamp.the-variants.{Absent, At}
 use Rattle.sender.specs.declared.Sender.{Sender}
 use Rattle.sender.specs.declared.Sending.the-variants.{Refused, Done, Wrote}
 use Rattle.sender.specs.declared.Sent.{Sent}

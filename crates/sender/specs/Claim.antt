@@ -8,20 +8,20 @@ use Rattle.sizes.specs.declared.Opening.{Opening}
 use Rattle.sizes.specs.declared.HeaderKind.the-variants.{Old}
 use Rattle.sizes.specs.Framing.{byEof}
 use Rattle.sizes.specs.Sizes.{sizesBroken}
-use Rattle.payload.specs.declared.Layer.{Layer}
-use Rattle.frames.specs.declared.Fate.{Fate}
-use Rattle.frames.specs.declared.Delivery.{Delivery}
-use Rattle.ledger.specs.Entry.{Entry}
-use Rattle.ledger.specs.declared.Account.{Account}
-use Rattle.ledger.specs.declared.Ledger.{Ledger}
-use Rattle.ledger.specs.Accounts.{placeOf, lostAt, idleAt, ticksAt, backwardAt, untimedAt}
-use Rattle.ledger.specs.Ledger.{countOf, bytesOf}
-use Rattle.refusals.specs.Refusals.{takenMost}
-use Rattle.session.specs.declared.Outcome.{Outcome}
-use Rattle.session.specs.Refusals.{ledgerOf}
-use Rattle.session.specs.Session.{fresh, plainly}
-use Rattle.session.specs.Call.{Ask}
-use Rattle.session.specs.Calls.{Offer, after, offers}
+use Rattle.session_rules.specs.declared.Layer.{Layer}
+use Rattle.session_rules.specs.declared.Fate.{Fate}
+use Rattle.session_rules.specs.declared.Delivery.{Delivery}
+use Rattle.session_rules.specs.Entry.{Entry}
+use Rattle.session_rules.specs.declared.Account.{Account}
+use Rattle.session_rules.specs.declared.Ledger.{Ledger}
+use Rattle.session_rules.specs.Accounts.{placeOf, lostAt, idleAt, ticksAt, backwardAt, untimedAt}
+use Rattle.session_rules.specs.Ledger.{countOf, bytesOf}
+use Rattle.session_rules.specs.Refusals.{takenMost}
+use Rattle.session_rules.specs.declared.Outcome.{Outcome}
+use Rattle.session_rules.specs.Refusals.{ledgerOf}
+use Rattle.session_rules.specs.Session.{fresh, plainly}
+use Rattle.session_rules.specs.Call.{Ask}
+use Rattle.session_rules.specs.Calls.{Offer, after, offers}
 use Rattle.books.specs.Rule.{Item, framesBy, stampList, noStamp, forward, back, between}
 use Rattle.books.specs.Offers.{listOf}
 use Rattle.books.specs.Alike.{At, NoneRefused, Said, Heard, heard}

@@ -1,7 +1,7 @@
 -- What the contracts of the helpers cite, and a reader need not believe.
 use Prim.Native.Nat.{ℕ, _≤_, _<_}
 use Rattle.sizes.specs.Sizes.{frameMost, payloadMost}
-use Rattle.payload.specs.declared.Stamp.{Stamp}
+use Rattle.session_rules.specs.declared.Stamp.{Stamp}
 use Rattle.sender.specs.declared.Sender.{Sender}
 use Rattle.sender.specs.Header.{sizeOf}
 use Rattle.sender.specs.Send.{transferSize}

@@ -7,7 +7,7 @@ use lib.ListN.{length, take, drop}
 use lib.Dec.{ltb, leb}
 use Rattle.rules.specs.Numbered.{Row, row, firstRow, NoneOf}
 use Rattle.sizes.specs.Sizes.{payloadMost, frameSizeBroken}
-use Rattle.payload.specs.declared.Stamp.{Stamp}
+use Rattle.session_rules.specs.declared.Stamp.{Stamp}
 use Rattle.sender.specs.declared.Sender.{Sender}
 use Rattle.sender.specs.declared.Sending.{Sending}
 use Rattle.sender.specs.declared.Sending.the-variants.{Refused, Done, Wrote}

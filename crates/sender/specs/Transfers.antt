@@ -4,7 +4,7 @@ use mathlib.Core.Path.{_≡_}
 use mathlib.Core.Bool.{Bool, true, false, not}
 use mathlib.Core.List.{List, [], _∷_, _++_}
 use lib.ListN.{length, take, drop}
-use Rattle.payload.specs.declared.Stamp.{Stamp}
+use Rattle.session_rules.specs.declared.Stamp.{Stamp}
 use Rattle.sender.specs.Header.{sizeOf, written}
 
 -- A FRAME that is sent: its bytes, and its stamp or none

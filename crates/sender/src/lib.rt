@@ -5,11 +5,11 @@ ghost use Prim.Native.Nat.{_%_, _<_, _≤_, min};
 ghost use lib.ListN.{length, drop};
 ghost use Rattle.rules.specs.Numbered.{firstRow};
 ghost use Rattle.sizes.specs.Sizes.{payloadMost};
-ghost use Rattle.payload.specs.declared.Stamp.{Stamp};
+ghost use Rattle.session_rules.specs.declared.Stamp.{Stamp};
 ghost use Rattle.sender.specs.Header.{bit, sizeOf, written};
 ghost use Rattle.sender.specs.Send.{newSender, nextOf, transferAt, transferSize, payloadBroken, roomShort, sendRows, wroteOf, sendOf, roomOf};
 ghost use Rattle.sender.specs.Inner.{Ready};
-use payload::Stamp;
+use session_rules::Stamp;
 
 // The bytes of a header, without a stamp and with one.
 const SHORT: usize = 2;

@@ -5,10 +5,10 @@ use call_cases::calls::Next;
 use call_cases::forged;
 use cases::input;
 use cases::print;
-use payload::Stamp;
 use sender::Sender;
 use sender::Sending;
-use session::Session;
+use session_rules::Session;
+use session_rules::Stamp;
 use sizes::Opening;
 
 // Both ends after some calls, and whether the input was read.

@@ -8,48 +8,48 @@ use native.Mathlib.Nat.{add-sub-cancel-left}
 use lib.ListN.{length, take, drop, length-drop}
 use lib.Seq.{paste, paste-zero, length-take-le, take-length}
 use borrow.Author.Tests.{ltb-false, eqb-false}
-use Rattle.rules.specs.Numbered.{firstFrom, firstRow, NoneOf}
+use Rattle.rules.specs.Numbered.{firstRow, NoneOf}
 use Rattle.rules.proofs.Rows.{row-none}
 use Rattle.sizes.specs.declared.Opening.{Opening}
-use Rattle.payload.specs.declared.Header.{Header}
-use Rattle.payload.specs.declared.Stamp.{Stamp}
-use Rattle.payload.specs.declared.Reading.{Reading}
-use Rattle.payload.specs.declared.Reading.the-variants.{Idle, Unreadable, Readable}
-use Rattle.payload.specs.Transfer.{readingOf}
-use Rattle.payload.proofs.Readings.{readable-fits}
-use Rattle.frames.specs.declared.Track.{Track}
-use Rattle.frames.specs.declared.Turn.{Turn}
-use Rattle.frames.specs.declared.Shut.{Shut}
-use Rattle.frames.specs.declared.Fate.{Fate}
-use Rattle.frames.specs.declared.Out.{Out}
-use Rattle.frames.specs.Track.{handing}
-use Rattle.frames.specs.Inner.{plainTurn, turnOf, handsOf, outOf, spoiltOf, closedOf}
+use Rattle.session_rules.specs.declared.Header.{Header}
+use Rattle.session_rules.specs.declared.Stamp.{Stamp}
+use Rattle.session_rules.specs.declared.Reading.{Reading}
+use Rattle.session_rules.specs.declared.Reading.the-variants.{Idle, Unreadable, Readable}
+use Rattle.session_rules.specs.Transfer.{readingOf}
+use Rattle.session_rules.proofs.Readings.{readable-fits}
+use Rattle.session_rules.specs.declared.Track.{Track}
+use Rattle.session_rules.specs.declared.Turn.{Turn}
+use Rattle.session_rules.specs.declared.Shut.{Shut}
+use Rattle.session_rules.specs.declared.Fate.{Fate}
+use Rattle.session_rules.specs.declared.Out.{Out}
+use Rattle.session_rules.specs.Track.{handing}
+use Rattle.session_rules.specs.Turns.{plainTurn, turnOf, handsOf, outOf, spoiltOf, closedOf}
 use Rattle.frames.proofs.Bounds.{Sits}
-use Rattle.ledger.specs.declared.Account.{Account}
-use Rattle.ledger.specs.declared.Ledger.{Ledger}
-use Rattle.ledger.specs.Accounts.{lostAt, numberCount}
-use Rattle.ledger.specs.Ledger.{fatedOf, answeredOf}
+use Rattle.session_rules.specs.declared.Account.{Account}
+use Rattle.session_rules.specs.declared.Ledger.{Ledger}
+use Rattle.session_rules.specs.Accounts.{lostAt, numberCount}
+use Rattle.session_rules.specs.Ledger.{fatedOf, answeredOf}
 use Rattle.ledger.specs.Inner.{plusAt, enteredIn, endedIn, ledgerWith}
 use Rattle.ledger.proofs.Lent.{with-headers, with-lost, with-ended}
-use Rattle.rule_50.specs.Rule50.{transferMost}
+use Rattle.session_rules.specs.Rule50.{transferMost}
 use Rattle.rule_50.specs.Inner.{restBroken, postedBroken}
 use Rattle.rule_50.proofs.Parts.{record-parts}
-use Rattle.session.specs.declared.Rest.{Rest}
-use Rattle.session.specs.declared.Session.{Session}
-use Rattle.session.specs.declared.Start.{Start}
-use Rattle.session.specs.declared.Outcome.{Outcome}
-use Rattle.session.specs.declared.Taken.{Taken}
+use Rattle.session_rules.specs.declared.Rest.{Rest}
+use Rattle.session_rules.specs.declared.Session.{Session}
+use Rattle.session_rules.specs.declared.Start.{Start}
+use Rattle.session_rules.specs.declared.Outcome.{Outcome}
+use Rattle.session_rules.specs.declared.Taken.{Taken}
 use Rattle.session.specs.declared.RestTaken.{RestTaken}
 use Rattle.session.specs.declared.Posted.{Posted}
-use Rattle.session.specs.declared.Report.{Report}
-use Rattle.session.specs.declared.Reported.{Reported}
+use Rattle.session_rules.specs.declared.Report.{Report}
+use Rattle.session_rules.specs.declared.Reported.{Reported}
 use Rattle.session.specs.declared.RestReported.{RestReported}
-use Rattle.session.specs.declared.Closing.{Closing}
-use Rattle.session.specs.declared.Closed.{Closed}
+use Rattle.session_rules.specs.declared.Closing.{Closing}
+use Rattle.session_rules.specs.declared.Closed.{Closed}
 use Rattle.session.specs.declared.RestClosed.{RestClosed}
-use Rattle.refusals.specs.Refusals.{takenMost, openingFlags, closeRowsBy, lostRowsBy, takeRowsBy}
-use Rattle.session.specs.Refusals.{recordBroken, closeRows, lostRows, takeRows}
-use Rattle.session.specs.Session.{fresh, noSession, openBy, openOf, countedOf, takenBy, readOf, readBuffer, plainly, tookOf, tookBuffer, handsOut, passedOf, handedOf, metOf, metBuffer, takeBy, takeOf, bufferBy, bufferOf, lostBy, lostOf, closeBy, closeOf}
+use Rattle.session_rules.specs.Refusals.{takenMost, openingRows, closeRowsBy, lostRowsBy, takeRowsBy}
+use Rattle.session_rules.specs.Refusals.{recordBroken, closeRows, lostRows, takeRows}
+use Rattle.session_rules.specs.Session.{fresh, noSession, openBy, openOf, countedOf, takenBy, readOf, readBuffer, plainly, tookOf, tookBuffer, handsOut, passedOf, handedOf, metOf, metBuffer, takeBy, takeOf, bufferBy, bufferOf, lostBy, lostOf, closeBy, closeOf}
 use Rattle.session.specs.Inner.{wholeOf, countedRest, takenWith, reportedWith, closedWith, Ready, bufferFor, unwrittenOf, Goes}
 
 -- ---- what the code finds of the record's parts, it finds of the record
@@ -100,7 +100,7 @@ module _ (s : Session) where
         }
 
 -- ---- open
-module _ (o : Opening) (room n : ℕ) (x : Session) (e : n ≡ firstFrom 45 (openingFlags o room)) where
+module _ (o : Opening) (room n : ℕ) (x : Session) (e : n ≡ firstRow (openingRows o room)) where
   pub open-refused : (n ≡ 0 → ⊥) → x ≡ noSession → record { session = x; start = Start.Refused n } ≡ openOf o room
   unfolding openOf
   open-refused h q = rw (← e, q) (go n h)
@@ -322,14 +322,3 @@ module _ (r : Rest) (l : List ℕ) (n : ℕ) (e : n ≡ firstRow (closeRows (who
       ) m ≡ closeOf (wholeOf r l)
   unfolding closeOf
   close-closed w m z p q = rw (← e, z, q, p, with-ended l (r .last) (closedOf (r .track) .ended) (closedOf (r .track) .gone))
-
--- ---- the record put together after a call
-module _ (w : Session) (m : List ℕ) where
-  pub whole-taken : (x : RestTaken) (y : Taken) → w ≡ wholeOf (x .rest) m → takenWith x m ≡ y → record { session = w; outcome = x .outcome } ≡ y
-  whole-taken x y e p = rw e p
-
-  pub whole-reported : (x : RestReported) (y : Reported) → w ≡ wholeOf (x .rest) m → reportedWith x m ≡ y → record { session = w; report = x .report } ≡ y
-  whole-reported x y e p = rw e p
-
-  pub whole-closed : (x : RestClosed) (y : Closed) → w ≡ wholeOf (x .rest) m → closedWith x m ≡ y → record { session = w; closing = x .closing } ≡ y
-  whole-closed x y e p = rw e p

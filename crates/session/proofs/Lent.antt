@@ -3,20 +3,20 @@ use Prim.Native.Nat.{ℕ}
 use mathlib.Core.Path.{_≡_, sym, ap, _∙_}
 use mathlib.Core.List.{List}
 use lib.ListN.{length}
-use Rattle.session.specs.declared.Session.{Session}
-use Rattle.session.specs.declared.Rest.{Rest}
+use Rattle.session_rules.specs.declared.Session.{Session}
+use Rattle.session_rules.specs.declared.Rest.{Rest}
 use Rattle.session.specs.declared.RestTaken.{RestTaken}
 use Rattle.session.specs.declared.RestReported.{RestReported}
 use Rattle.session.specs.declared.RestClosed.{RestClosed}
-use Rattle.session.specs.declared.Outcome.{Outcome}
-use Rattle.session.specs.declared.Taken.{Taken}
-use Rattle.session.specs.declared.Report.{Report}
-use Rattle.session.specs.declared.Reported.{Reported}
-use Rattle.session.specs.declared.Closing.{Closing}
-use Rattle.session.specs.declared.Closed.{Closed}
-use Rattle.session.specs.Session.{takeOf, lostOf, closeOf}
+use Rattle.session_rules.specs.declared.Outcome.{Outcome}
+use Rattle.session_rules.specs.declared.Taken.{Taken}
+use Rattle.session_rules.specs.declared.Report.{Report}
+use Rattle.session_rules.specs.declared.Reported.{Reported}
+use Rattle.session_rules.specs.declared.Closing.{Closing}
+use Rattle.session_rules.specs.declared.Closed.{Closed}
+use Rattle.session_rules.specs.Session.{takeOf, lostOf, closeOf}
 use Rattle.session.specs.Inner.{wholeOf, takenWith, reportedWith, closedWith}
-use Rattle.session.proofs.Refused.{count-as-it-was, lost-as-it-was, close-as-it-was}
+use Rattle.session_rules.proofs.Refused.{count-as-it-was, lost-as-it-was, close-as-it-was}
 
 -- r and m are the rest and the numbers before the call; n are the numbers after it
 module _ (r : Rest) (m n : List ℕ) (k : ℕ) where

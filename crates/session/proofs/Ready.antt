@@ -3,21 +3,21 @@ use Prim.Native.Nat.{ℕ, _≤_, _<_, _^_}
 use mathlib.Core.Path.{_≡_, refl, ap, _∙_}
 use mathlib.Core.Bool.{Bool, true, false}
 use native.Mathlib.Omega.{arith}
-use Rattle.payload.specs.declared.Header.{Header}
-use Rattle.frames.specs.declared.Phase.{Phase}
-use Rattle.frames.specs.declared.Phase.the-variants.{Fresh, Under, Past}
-use Rattle.frames.specs.declared.Fate.{Fate}
-use Rattle.frames.specs.declared.Turn.{Turn}
-use Rattle.frames.specs.declared.Delivery.{Delivery}
-use Rattle.frames.specs.declared.Out.{Out}
-use Rattle.frames.specs.Track.{underBytes, FilledBy, handing}
-use Rattle.frames.specs.Inner.{turnOf, outOf, Roomy}
+use Rattle.session_rules.specs.declared.Header.{Header}
+use Rattle.session_rules.specs.declared.Phase.{Phase}
+use Rattle.session_rules.specs.declared.Phase.the-variants.{Fresh, Under, Past}
+use Rattle.session_rules.specs.declared.Fate.{Fate}
+use Rattle.session_rules.specs.declared.Turn.{Turn}
+use Rattle.session_rules.specs.declared.Delivery.{Delivery}
+use Rattle.session_rules.specs.declared.Out.{Out}
+use Rattle.session_rules.specs.Track.{underBytes, FilledBy, handing}
+use Rattle.session_rules.specs.Turns.{turnOf, outOf, Roomy}
 use Rattle.frames.proofs.Bounds.{LengthOf, Sits, turn-sits, out-long}
 use Rattle.ledger.specs.Inner.{fateBytes}
-use Rattle.rule_50.specs.Rule50.{transferMost}
+use Rattle.session_rules.specs.Rule50.{transferMost}
 use Rattle.rule_50.proofs.Able.{Able, able}
-use Rattle.session.specs.declared.Session.{Session}
-use Rattle.session.specs.Refusals.{postedOf}
+use Rattle.session_rules.specs.declared.Session.{Session}
+use Rattle.session_rules.specs.Refusals.{postedOf}
 use Rattle.session.specs.Inner.{Ready}
 
 abbrev pub AbleOf : Session → Type 0

@@ -9,17 +9,17 @@ use lib.ListN.{length, drop, getD, length-drop}
 use lib.Seq.{paste, paste-zero}
 use Rattle.rules.specs.Numbered.{NoneOf}
 use Rattle.rules.proofs.Rows.{none-row}
-use Rattle.payload.specs.declared.Header.{Header}
-use Rattle.payload.specs.declared.Reading.the-variants.{Idle, Unreadable, Readable}
-use Rattle.payload.specs.Transfer.{readingOf}
-use Rattle.payload.proofs.Readings.{readable-fits}
-use Rattle.frames.specs.declared.Turn.{Turn}
-use Rattle.ledger.specs.Accounts.{numberCount}
+use Rattle.session_rules.specs.declared.Header.{Header}
+use Rattle.session_rules.specs.declared.Reading.the-variants.{Idle, Unreadable, Readable}
+use Rattle.session_rules.specs.Transfer.{readingOf}
+use Rattle.session_rules.proofs.Readings.{readable-fits}
+use Rattle.session_rules.specs.declared.Turn.{Turn}
+use Rattle.session_rules.specs.Accounts.{numberCount}
 use Rattle.copier.proofs.Written as copied
-use Rattle.session.specs.declared.Session.{Session}
-use Rattle.session.specs.Refusals.{takeRows}
-use Rattle.session.specs.Session.{turned, tookBuffer, handsOut, metBuffer, bufferOf}
-use Rattle.session.specs.Writes.{Wrote}
+use Rattle.session_rules.specs.declared.Session.{Session}
+use Rattle.session_rules.specs.Refusals.{takeRows}
+use Rattle.session_rules.specs.Session.{turned, tookBuffer, handsOut, metBuffer, bufferOf}
+use Rattle.session_rules.specs.Writes.{Wrote}
 use Rattle.session.proofs.Ready.{ready-able, sits}
 use Rattle.session.proofs.Calls.{not-handed, take-ready}
 

@@ -6,21 +6,21 @@ use mathlib.Core.List.{List}
 use lib.ListN.{length, drop}
 use lib.Seq.{paste}
 use Rattle.rules.specs.Numbered.{firstRow}
-use Rattle.payload.specs.declared.Stamp.{Stamp}
-use Rattle.frames.specs.declared.Track.{Track}
-use Rattle.ledger.specs.Accounts.{numberCount}
-use Rattle.session.specs.declared.Session.{Session}
-use Rattle.session.specs.declared.Rest.{Rest}
+use Rattle.session_rules.specs.declared.Stamp.{Stamp}
+use Rattle.session_rules.specs.declared.Track.{Track}
+use Rattle.session_rules.specs.Accounts.{numberCount}
+use Rattle.session_rules.specs.declared.Session.{Session}
+use Rattle.session_rules.specs.declared.Rest.{Rest}
 use Rattle.session.specs.declared.RestTaken.{RestTaken}
 use Rattle.session.specs.declared.Posted.{Posted}
 use Rattle.session.specs.declared.RestReported.{RestReported}
 use Rattle.session.specs.declared.RestClosed.{RestClosed}
-use Rattle.session.specs.declared.Taken.{Taken}
-use Rattle.session.specs.declared.Reported.{Reported}
-use Rattle.session.specs.declared.Closed.{Closed}
-use Rattle.refusals.specs.Refusals.{takenMost}
-use Rattle.session.specs.Refusals.{recordBroken, takeRows}
-use Rattle.session.specs.Session.{bufferBy}
+use Rattle.session_rules.specs.declared.Taken.{Taken}
+use Rattle.session_rules.specs.declared.Reported.{Reported}
+use Rattle.session_rules.specs.declared.Closed.{Closed}
+use Rattle.session_rules.specs.Refusals.{takenMost}
+use Rattle.session_rules.specs.Refusals.{recordBroken, takeRows}
+use Rattle.session_rules.specs.Session.{bufferBy}
 
 abbrev pub wholeOf : Rest → List ℕ → Session
 wholeOf r numbers = record { rest = r; numbers = numbers }

@@ -6,23 +6,23 @@ use mathlib.Core.List.{List, [], _∷_, map}
 use lib.ListN.{replicate}
 use lib.IntN.{pos, negℤ, _+ℤ_}
 use Rattle.rules.specs.IfElse.{ifElse}
-use Rattle.rules.specs.Numbered.{firstFrom, anyBelow}
+use Rattle.rules.specs.Numbered.{anyBelow}
 use Rattle.sizes.specs.Sizes.{frameSizeBroken, payloadSizeBroken, sizesBroken}
 use Rattle.sizes.specs.declared.Opening.{Opening}
 use Rattle.sizes.specs.declared.HeaderKind.the-variants.{Old}
 use Rattle.sizes.specs.Framing.{byEof}
-use Rattle.payload.specs.declared.Stamp.the-variants.{At}
-use Rattle.payload.specs.declared.Layer.{Layer}
-use Rattle.payload.specs.Layouts.{headerLayout}
-use Rattle.payload.specs.Transfer.{flagOf, layerPlace, needOf, flagsBy, stampOf, layerOf, headerBy, headerOf, readingOf}
-use Rattle.frames.specs.Inner.{turnOf, handsOf, outOf, spoiltOf, closedOf}
-use Rattle.ledger.specs.Entry.{Entry}
-use Rattle.ledger.specs.Ledger.{plusOf, timedOf, postOf, shownOf}
-use Rattle.ledger.specs.Accounts.{ticksAt, backwardAt, untimedAt}
-use Rattle.rule_50.specs.Rule50.{rule50, fillBroken, accountsBroken, countsBroken}
-use Rattle.session.specs.Session.{readOf, tookOf, handsOut, handedOf, takeOf}
-use Rattle.session.specs.Call.{Call}
-use Rattle.session.specs.Calls.{Offer}
+use Rattle.session_rules.specs.declared.Stamp.the-variants.{At}
+use Rattle.session_rules.specs.declared.Layer.{Layer}
+use Rattle.session_rules.specs.Layouts.{headerLayout}
+use Rattle.session_rules.specs.Transfer.{flagOf, layerPlace, needOf, rowsBy, stampOf, layerOf, headerBy, headerOf, readingOf}
+use Rattle.session_rules.specs.Turns.{turnOf, handsOf, outOf, spoiltOf, closedOf}
+use Rattle.session_rules.specs.Entry.{Entry}
+use Rattle.session_rules.specs.Ledger.{plusOf, timedOf, postOf, shownOf}
+use Rattle.session_rules.specs.Accounts.{ticksAt, backwardAt, untimedAt}
+use Rattle.session_rules.specs.Rule50.{rule50, fillBroken, accountsBroken, countsBroken}
+use Rattle.session_rules.specs.Session.{readOf, tookOf, handsOut, handedOf, takeOf}
+use Rattle.session_rules.specs.Call.{Call}
+use Rattle.session_rules.specs.Calls.{Offer}
 use Rattle.steps.specs.Signed.{signed, lowest}
 use Rattle.steps.specs.Cut.{Middle}
 use Rattle.steps.specs.Halves.{job, billed, BillAsWhole}
@@ -79,7 +79,7 @@ abbrev second-half : List Offer
 second-half = offered (middle ∷ others)
 
 at-middle : Middle opening (Call.transfer first ∷ []) middle []
-unfolding ifElse firstFrom anyBelow frameSizeBroken payloadSizeBroken byEof headerLayout flagOf layerPlace needOf flagsBy stampOf layerOf headerBy readingOf turnOf spoiltOf closedOf plusOf timedOf postOf shownOf sizesBroken fillBroken accountsBroken countsBroken rule50 readOf tookOf handsOut handsOf takeOf
+unfolding ifElse anyBelow frameSizeBroken payloadSizeBroken byEof headerLayout flagOf layerPlace needOf rowsBy stampOf layerOf headerBy readingOf turnOf spoiltOf closedOf plusOf timedOf postOf shownOf sizesBroken fillBroken accountsBroken countsBroken rule50 readOf tookOf handsOut handsOf takeOf
 at-middle =
     record {
       header = headerOf opening middle;
@@ -95,13 +95,13 @@ at-middle =
     }
 
 in-halves : BillAsWhole (job opening whole) (job opening first-half) (job opening second-half)
-unfolding ifElse firstFrom anyBelow frameSizeBroken payloadSizeBroken byEof headerLayout flagOf layerPlace needOf flagsBy stampOf layerOf headerBy readingOf turnOf spoiltOf closedOf plusOf timedOf postOf shownOf sizesBroken fillBroken accountsBroken countsBroken rule50 readOf tookOf handsOut handsOf takeOf
+unfolding ifElse anyBelow frameSizeBroken payloadSizeBroken byEof headerLayout flagOf layerPlace needOf rowsBy stampOf layerOf headerBy readingOf turnOf spoiltOf closedOf plusOf timedOf postOf shownOf sizesBroken fillBroken accountsBroken countsBroken rule50 readOf tookOf handsOut handsOf takeOf
 in-halves =
     halves .of-calls opening whole first-half second-half (Call.transfer first ∷ []) middle [] (map Call.transfer others) at-middle refl refl refl
 
 -- forward 32 in the first half and 20 in the second, once backward and once untimed
 numbers : (billed (job opening whole) ticksAt ≡ 52) × (billed (job opening whole) backwardAt ≡ 1) × (billed (job opening whole) untimedAt ≡ 1)
-unfolding ifElse firstFrom anyBelow frameSizeBroken payloadSizeBroken byEof headerLayout flagOf layerPlace needOf flagsBy stampOf layerOf headerBy readingOf turnOf spoiltOf closedOf plusOf timedOf postOf shownOf sizesBroken fillBroken accountsBroken countsBroken rule50 readOf tookOf handsOut handsOf takeOf
+unfolding ifElse anyBelow frameSizeBroken payloadSizeBroken byEof headerLayout flagOf layerPlace needOf rowsBy stampOf layerOf headerBy readingOf turnOf spoiltOf closedOf plusOf timedOf postOf shownOf sizesBroken fillBroken accountsBroken countsBroken rule50 readOf tookOf handsOut handsOf takeOf
 numbers = (refl, refl, refl)
 
 -- ---- the same of a camera that sends no EOF (D1 clear): frames with stamps FFFFFFF0, 10 and 20, split at the second. Each is handed out by the next one's first transfer, which is offered again.
@@ -121,7 +121,7 @@ abbrev d : List ℕ
 d = 0x02 ∷ 0x81 ∷ 0xDD ∷ []
 
 at-middle-by-fid : Middle by-fid (Call.transfer a ∷ Call.handed ∷ []) b (Call.handed ∷ [])
-unfolding ifElse firstFrom anyBelow frameSizeBroken payloadSizeBroken byEof headerLayout flagOf layerPlace needOf flagsBy stampOf layerOf headerBy readingOf turnOf spoiltOf closedOf plusOf timedOf postOf shownOf sizesBroken fillBroken accountsBroken countsBroken rule50 readOf tookOf handsOut handsOf outOf handedOf takeOf
+unfolding ifElse anyBelow frameSizeBroken payloadSizeBroken byEof headerLayout flagOf layerPlace needOf rowsBy stampOf layerOf headerBy readingOf turnOf spoiltOf closedOf plusOf timedOf postOf shownOf sizesBroken fillBroken accountsBroken countsBroken rule50 readOf tookOf handsOut handsOf outOf handedOf takeOf
 at-middle-by-fid =
     record {
       header = headerOf by-fid b;
@@ -137,12 +137,12 @@ at-middle-by-fid =
     }
 
 in-halves-by-fid : BillAsWhole (job by-fid (offered (a ∷ b ∷ b ∷ c ∷ c ∷ d ∷ []))) (job by-fid (offered (a ∷ b ∷ b ∷ c ∷ []))) (job by-fid (offered (b ∷ c ∷ c ∷ d ∷ [])))
-unfolding ifElse firstFrom anyBelow frameSizeBroken payloadSizeBroken byEof headerLayout flagOf layerPlace needOf flagsBy stampOf layerOf headerBy readingOf turnOf spoiltOf closedOf plusOf timedOf postOf shownOf sizesBroken fillBroken accountsBroken countsBroken rule50 readOf tookOf handsOut handsOf outOf handedOf takeOf
+unfolding ifElse anyBelow frameSizeBroken payloadSizeBroken byEof headerLayout flagOf layerPlace needOf rowsBy stampOf layerOf headerBy readingOf turnOf spoiltOf closedOf plusOf timedOf postOf shownOf sizesBroken fillBroken accountsBroken countsBroken rule50 readOf tookOf handsOut handsOf outOf handedOf takeOf
 in-halves-by-fid =
     halves .of-calls by-fid (offered (a ∷ b ∷ b ∷ c ∷ c ∷ d ∷ [])) (offered (a ∷ b ∷ b ∷ c ∷ [])) (offered (b ∷ c ∷ c ∷ d ∷ [])) (Call.transfer a ∷ Call.handed ∷ []) b (Call.handed ∷ [])
     (Call.transfer c ∷ Call.handed ∷ []) at-middle-by-fid refl refl refl
 
 numbers-by-fid : (billed (job by-fid (offered (a ∷ b ∷ b ∷ c ∷ []))) ticksAt ≡ 32) × (billed (job by-fid (offered (b ∷ c ∷ c ∷ d ∷ []))) ticksAt ≡ 16)
     × (billed (job by-fid (offered (a ∷ b ∷ b ∷ c ∷ c ∷ d ∷ []))) ticksAt ≡ 48)
-unfolding ifElse firstFrom anyBelow frameSizeBroken payloadSizeBroken byEof headerLayout flagOf layerPlace needOf flagsBy stampOf layerOf headerBy readingOf turnOf spoiltOf closedOf plusOf timedOf postOf shownOf sizesBroken fillBroken accountsBroken countsBroken rule50 readOf tookOf handsOut handsOf outOf handedOf takeOf
+unfolding ifElse anyBelow frameSizeBroken payloadSizeBroken byEof headerLayout flagOf layerPlace needOf rowsBy stampOf layerOf headerBy readingOf turnOf spoiltOf closedOf plusOf timedOf postOf shownOf sizesBroken fillBroken accountsBroken countsBroken rule50 readOf tookOf handsOut handsOf outOf handedOf takeOf
 numbers-by-fid = (refl, refl, refl)

@@ -6,14 +6,14 @@ use mathlib.Core.List.{List, [], _∷_, _++_, map, append-nil}
 use native.Mathlib.Omega.{arith}
 use native.Mathlib.Nat.{add-zero}
 use Rattle.sizes.specs.declared.Opening.{Opening}
-use Rattle.payload.specs.declared.Stamp.{Stamp}
-use Rattle.payload.specs.declared.Stamp.the-variants.{At}
-use Rattle.frames.specs.declared.Delivery.{Delivery}
-use Rattle.ledger.specs.Accounts.{ticksAt, backwardAt, untimedAt}
-use Rattle.ledger.specs.Entry.{Entry}
-use Rattle.session.specs.Session.{fresh}
-use Rattle.session.specs.Call.{Call}
-use Rattle.session.specs.Calls.{Offer}
+use Rattle.session_rules.specs.declared.Stamp.{Stamp}
+use Rattle.session_rules.specs.declared.Stamp.the-variants.{At}
+use Rattle.session_rules.specs.declared.Delivery.{Delivery}
+use Rattle.session_rules.specs.Accounts.{ticksAt, backwardAt, untimedAt}
+use Rattle.session_rules.specs.Entry.{Entry}
+use Rattle.session_rules.specs.Session.{fresh}
+use Rattle.session_rules.specs.Call.{Call}
+use Rattle.session_rules.specs.Calls.{Offer}
 use Rattle.books.specs.Offers.{listOf}
 use Rattle.books.specs.Rule.{Event, Item, events, isOpen, loose, entryOf, entries, framesBy, total, stamps, stampList, untimed, noStamp, forward, back, between}
 use Rattle.books.proofs.Taken.{Proper, taken-proper}

@@ -9,11 +9,11 @@ use lib.Dec.{ltb}
 use lib.IntN.{ℤ, pos, negℤ, subℕ, _-ℤ_}
 use lib.Signed.{_≤ℤ_, _<ℤ_}
 use Rattle.rules.specs.IfElse.{ifElse}
-use Rattle.ledger.specs.declared.Step.{Step}
-use Rattle.ledger.specs.declared.Step.the-variants.{Forward, Backward}
-use Rattle.ledger.specs.Step.{stepOf}
-use Rattle.ledger.proofs.Steps as ledger
-use Rattle.ledger.proofs.Steps.{step-reads}
+use Rattle.session_rules.specs.declared.Step.{Step}
+use Rattle.session_rules.specs.declared.Step.the-variants.{Forward, Backward}
+use Rattle.session_rules.specs.Step.{stepOf}
+use Rattle.session_rules.proofs.Steps as ledger
+use Rattle.session_rules.proofs.Steps.{step-reads}
 use Rattle.books.specs.Rule.{step}
 use Rattle.steps.specs.Signed.{numberOf, signed, Stamps, lastStamp, along, lowest, highest, InRange, Modulo}
 use Rattle.steps.specs.Six.{Reads, RuleTakes, AddsUp, AllAddUp, Returns, Six}

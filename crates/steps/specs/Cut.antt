@@ -5,13 +5,13 @@ use mathlib.Core.Bool.{false}
 use mathlib.Core.List.{List, [], _∷_}
 use Prim.Native.Nat.{ℕ}
 use Rattle.sizes.specs.declared.Opening.{Opening}
-use Rattle.payload.specs.declared.Header.{Header}
-use Rattle.payload.specs.declared.Reading.the-variants.{Readable}
-use Rattle.payload.specs.declared.Stamp.the-variants.{At}
-use Rattle.payload.specs.Transfer.{readingOf}
-use Rattle.frames.specs.declared.Delivery.{Delivery}
-use Rattle.ledger.specs.Entry.{Entry}
-use Rattle.session.specs.Call.{Call}
+use Rattle.session_rules.specs.declared.Header.{Header}
+use Rattle.session_rules.specs.declared.Reading.the-variants.{Readable}
+use Rattle.session_rules.specs.declared.Stamp.the-variants.{At}
+use Rattle.session_rules.specs.Transfer.{readingOf}
+use Rattle.session_rules.specs.declared.Delivery.{Delivery}
+use Rattle.session_rules.specs.Entry.{Entry}
+use Rattle.session_rules.specs.Call.{Call}
 use Rattle.books.specs.Rule.{events, Item, framesBy}
 use Rattle.books.specs.LastReadable.{none, lastFid, spoiltSince, Other}
 

@@ -5,15 +5,15 @@ use mathlib.Core.Path.{_≡_}
 use mathlib.Core.List.{List, [], _∷_, _++_}
 use lib.ListN.{getD}
 use Rattle.sizes.specs.declared.Opening.{Opening}
-use Rattle.payload.specs.declared.Stamp.the-variants.{At}
-use Rattle.frames.specs.declared.Delivery.{Delivery}
-use Rattle.ledger.specs.declared.Ledger.{Ledger}
-use Rattle.ledger.specs.Accounts.{ticksAt, backwardAt, untimedAt}
-use Rattle.ledger.specs.Entry.{Entry}
-use Rattle.session.specs.Refusals.{ledgerOf}
-use Rattle.session.specs.Session.{fresh}
-use Rattle.session.specs.Call.{Call}
-use Rattle.session.specs.Calls.{Offer, after}
+use Rattle.session_rules.specs.declared.Stamp.the-variants.{At}
+use Rattle.session_rules.specs.declared.Delivery.{Delivery}
+use Rattle.session_rules.specs.declared.Ledger.{Ledger}
+use Rattle.session_rules.specs.Accounts.{ticksAt, backwardAt, untimedAt}
+use Rattle.session_rules.specs.Entry.{Entry}
+use Rattle.session_rules.specs.Refusals.{ledgerOf}
+use Rattle.session_rules.specs.Session.{fresh}
+use Rattle.session_rules.specs.Call.{Call}
+use Rattle.session_rules.specs.Calls.{Offer, after}
 use Rattle.books.specs.Offers.{listOf}
 use Rattle.books.specs.Rule.{Item, framesBy, total, stamps, untimed, forward, back, between}
 use Rattle.steps.specs.Cut.{Middle}

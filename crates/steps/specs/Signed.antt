@@ -4,9 +4,9 @@ use mathlib.Core.Path.{_≡_}
 use mathlib.Core.List.{List, [], _∷_}
 use lib.IntN.{ℤ, pos, negℤ, _+ℤ_, _-ℤ_, _*ℤ_}
 use lib.Signed.{_≤ℤ_}
-use Rattle.ledger.specs.declared.Step.{Step}
-use Rattle.ledger.specs.declared.Step.the-variants.{Forward, Backward}
-use Rattle.ledger.specs.Step.{stepOf}
+use Rattle.session_rules.specs.declared.Step.{Step}
+use Rattle.session_rules.specs.declared.Step.the-variants.{Forward, Backward}
+use Rattle.session_rules.specs.Step.{stepOf}
 
 -- so many ticks forward, or so many backward
 abbrev pub numberOf : Step → ℤ

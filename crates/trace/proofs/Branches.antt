@@ -7,26 +7,27 @@ use native.Mathlib.Omega.{arith}
 use lib.ListN.{length, take, drop, length-replicate}
 use Rattle.rules.specs.Numbered.{firstRow}
 use Rattle.sizes.specs.declared.Opening.{Opening}
-use Rattle.ledger.specs.declared.Ledger.{Ledger}
-use Rattle.ledger.specs.Ledger.{noLedger}
-use Rattle.frames.specs.declared.Answer.{Answer}
-use Rattle.frames.specs.declared.Ended.{Ended}
-use Rattle.frames.specs.declared.HandOut.{HandOut}
-use Rattle.session.specs.declared.Session.{Session}
-use Rattle.session.specs.declared.Rest.{Rest}
+use Rattle.session_rules.specs.declared.Ledger.{Ledger}
+use Rattle.session_rules.specs.Ledger.{noLedger}
+use Rattle.session_rules.specs.declared.Answer.{Answer}
+use Rattle.session_rules.specs.declared.Ended.{Ended}
+use Rattle.session_rules.specs.declared.HandOut.{HandOut}
+use Rattle.session_rules.specs.declared.Session.{Session}
+use Rattle.session_rules.specs.declared.Rest.{Rest}
 use Rattle.session.specs.declared.RestTaken.{RestTaken}
 use Rattle.session.specs.declared.RestReported.{RestReported}
 use Rattle.session.specs.declared.RestClosed.{RestClosed}
-use Rattle.session.specs.declared.Taken.{Taken}
-use Rattle.session.specs.declared.Outcome.{Outcome}
-use Rattle.session.specs.declared.Reported.{Reported}
-use Rattle.session.specs.declared.Report.{Report}
-use Rattle.session.specs.declared.Closed.{Closed}
-use Rattle.session.specs.declared.Closing.{Closing}
-use Rattle.session.specs.declared.Opened.{Opened}
-use Rattle.session.specs.Refusals.{takeRows, lostRows, closeRows, ledgerOf}
-use Rattle.session.specs.Session.{openOf, takeBy, takeOf, lostBy, lostOf, closeBy, closeOf}
-use Rattle.session.proofs.Refused.{Met, met, not-both}
+use Rattle.session_rules.specs.declared.Taken.{Taken}
+use Rattle.session_rules.specs.declared.Outcome.{Outcome}
+use Rattle.session_rules.specs.declared.Reported.{Reported}
+use Rattle.session_rules.specs.declared.Report.{Report}
+use Rattle.session_rules.specs.declared.Closed.{Closed}
+use Rattle.session_rules.specs.declared.Closing.{Closing}
+use Rattle.session_rules.specs.declared.Opened.{Opened}
+use Rattle.session_rules.specs.Refusals.{takeRows, lostRows, closeRows, ledgerOf}
+use Rattle.session_rules.specs.Session.{openOf, takeBy, takeOf, lostBy, lostOf, closeBy, closeOf}
+use Rattle.session_rules.specs.WhenRefused.{Met}
+use Rattle.session_rules.proofs.Refused.{met, not-both}
 use Rattle.records.specs.declared.Form.{Form}
 use Rattle.records.specs.Form.{headOf}
 use Rattle.records.specs.Record.{kindAt, lengthAt, recordBad}
@@ -40,7 +41,7 @@ use Rattle.trace.specs.declared.Said.{Said}
 use Rattle.trace.specs.declared.Going.{Going}
 use Rattle.trace.specs.declared.Printed.{Printed}
 use Rattle.session.specs.Inner.{wholeOf, takenWith, reportedWith, closedWith}
-use Rattle.session.specs.Call.{Ask}
+use Rattle.session_rules.specs.Call.{Ask}
 use Rattle.trace.specs.Inner.{goingWith, numberRest, answeredBy}
 
 -- ---- the next record's number

@@ -11,10 +11,10 @@ use Rattle.rules.proofs.Rows.{or-first, or-second}
 use Rattle.sizes.specs.declared.Opening.{Opening}
 use Rattle.sizes.specs.Framing.{byEof}
 use Rattle.sizes.specs.Sizes.{sizesBroken}
-use Rattle.refusals.specs.Refusals.{takenMost}
-use Rattle.session.specs.declared.Session.{Session}
-use Rattle.session.specs.Refusals.{ledgerOf}
-use Rattle.session.specs.Call.{Call}
+use Rattle.session_rules.specs.Refusals.{takenMost}
+use Rattle.session_rules.specs.declared.Session.{Session}
+use Rattle.session_rules.specs.Refusals.{ledgerOf}
+use Rattle.session_rules.specs.Call.{Call}
 use Rattle.books.specs.Rule.{entries, numbersOf}
 use Rattle.books.proofs.Histories.{numbers-taken}
 use Rattle.records.specs.declared.Form.{Form}

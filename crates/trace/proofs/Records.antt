@@ -3,14 +3,14 @@ use Prim.Native.Nat.{ℕ, suc}
 use mathlib.Core.Path.{_≡_, refl, _∙_, ap}
 use mathlib.Core.Bool.{Bool, true, false, _||_}
 use mathlib.Core.List.{List, [], _∷_}
-use Rattle.session.specs.declared.Session.{Session}
+use Rattle.session_rules.specs.declared.Session.{Session}
 use Rattle.records.specs.declared.Form.{Form}
 use Rattle.records.specs.Record.{recordBad}
 use Rattle.trace.specs.Record.{recordAsk}
 use Rattle.trace.specs.Trace.{numberOf, offerOf, offered, readBy, stepOf, traced, goodOf}
 use Rattle.trace.specs.declared.State.the-variants.{Bad, Refused}
 use Rattle.trace.specs.declared.Trace.{Trace}
-use Rattle.session.specs.Calls.{refusal, next}
+use Rattle.session_rules.specs.Calls.{refusal, next}
 
 -- ---- a trace that went wrong stays as it is
 stays-bad : (f : Form) (rs : List (List ℕ)) (s : Session) (n : ℕ) → traced f (record { session = s; state = Bad n }) rs ≡ record { session = s; state = Bad n }

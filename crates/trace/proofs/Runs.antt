@@ -10,9 +10,9 @@ use lib.Seq.{drop-drop, take-all}
 use lib.Dec.{ltb}
 use borrow.Author.Tests.{lt-ltb, le-ltb, ltb-true, ltb-false}
 use Rattle.rules.specs.IfElse.{ifElse}
-use Rattle.session.specs.declared.Session.{Session}
-use Rattle.session.specs.Refusals.{postedOf}
-use Rattle.session.specs.declared.Rest.{Rest}
+use Rattle.session_rules.specs.declared.Session.{Session}
+use Rattle.session_rules.specs.Refusals.{postedOf}
+use Rattle.session_rules.specs.declared.Rest.{Rest}
 use Rattle.books.proofs.Sized.{next-sized}
 use Rattle.records.specs.declared.Form.{Form}
 use Rattle.records.specs.Form.{sizeOf}
@@ -24,10 +24,10 @@ use Rattle.trace.specs.declared.State.{State}
 use Rattle.trace.specs.declared.State.the-variants.{Good, Bad, Refused}
 use Rattle.trace.specs.declared.Trace.{Trace}
 use Rattle.trace.specs.declared.Going.{Going}
-use Rattle.ledger.specs.Accounts.{numberCount}
-use Rattle.ledger.proofs.Places.{Sized}
+use Rattle.session_rules.specs.Accounts.{numberCount}
+use Rattle.session_rules.proofs.Places.{Sized}
 use Rattle.session.specs.Inner.{wholeOf}
-use Rattle.session.specs.Calls.{refusal, next}
+use Rattle.session_rules.specs.Calls.{refusal, next}
 use Rattle.trace.specs.Inner.{endOf, goingWith, goodWith, isDecided}
 
 -- ---- from a record's first byte to its last, or to the last there is

@@ -9,20 +9,20 @@ use lib.Dec.{ltb, eqb}
 use borrow.Author.Tests.{le-ltb, lt-ltb, ltb-false, eq-eqb, eqb-true, eqb-false}
 use Rattle.rules.specs.Numbered.{orElse}
 use Rattle.rules.proofs.Rows.{or-first, or-second}
-use Rattle.payload.specs.declared.Reading.{Reading}
-use Rattle.payload.specs.declared.Reading.the-variants.{Idle, Unreadable, Readable}
-use Rattle.payload.specs.Transfer.{readingOf}
+use Rattle.session_rules.specs.declared.Reading.{Reading}
+use Rattle.session_rules.specs.declared.Reading.the-variants.{Idle, Unreadable, Readable}
+use Rattle.session_rules.specs.Transfer.{readingOf}
 use Rattle.sizes.specs.declared.Opening.{Opening}
 use Rattle.sizes.specs.Framing.{byEof}
 use Rattle.sizes.specs.Sizes.{sizesBroken}
-use Rattle.session.specs.declared.Session.{Session}
-use Rattle.refusals.specs.Refusals.{takenMost}
-use Rattle.session.specs.Refusals.{recordBroken}
-use Rattle.session.specs.declared.Outcome.{Outcome}
-use Rattle.session.specs.declared.Closing.{Closing}
-use Rattle.session.specs.Session.{fresh, readOf, tookBy, tookOf, takeOf, closeOf}
-use Rattle.session.specs.Call.{Ask, Call, heardOf}
-use Rattle.session.specs.Calls.{Offer, refusal, next, nextCall, after, taken, callOf, unless, offerWith}
+use Rattle.session_rules.specs.declared.Session.{Session}
+use Rattle.session_rules.specs.Refusals.{takenMost}
+use Rattle.session_rules.specs.Refusals.{recordBroken}
+use Rattle.session_rules.specs.declared.Outcome.{Outcome}
+use Rattle.session_rules.specs.declared.Closing.{Closing}
+use Rattle.session_rules.specs.Session.{fresh, readOf, tookBy, tookOf, takeOf, closeOf}
+use Rattle.session_rules.specs.Call.{Ask, Call, heardOf}
+use Rattle.session_rules.specs.Calls.{Offer, refusal, next, nextCall, after, taken, callOf, unless, offerWith}
 use Rattle.books.proofs.Answers.{taken-more}
 use Rattle.books.proofs.HandedOut.{asked-listed, asked-next}
 use Rattle.books.proofs.Sound.{took-taken, after-opening}

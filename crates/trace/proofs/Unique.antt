@@ -4,7 +4,7 @@ use mathlib.Core.List.{List}
 use Prim.Native.Nat.{ℕ}
 use Rattle.sizes.specs.declared.Opening.{Opening}
 use Rattle.session.specs.Inner.{wholeOf}
-use Rattle.session.specs.declared.Rest.{Rest}
+use Rattle.session_rules.specs.declared.Rest.{Rest}
 use Rattle.records.specs.declared.Form.{Form}
 use Rattle.records.specs.Record.{recordsOf}
 use Rattle.trace.specs.Trace.{beginOf, stepOf, saidOf, traced, reportOf}

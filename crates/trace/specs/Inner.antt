@@ -4,7 +4,7 @@ use mathlib.Core.List.{List}
 use mathlib.Core.Bool.{Bool, true, false}
 use lib.Dec.{ltb}
 use Rattle.rules.specs.IfElse.{ifElse}
-use Rattle.session.specs.declared.Rest.{Rest}
+use Rattle.session_rules.specs.declared.Rest.{Rest}
 use Rattle.session.specs.Inner.{wholeOf}
 use Rattle.records.specs.declared.Form.{Form}
 use Rattle.records.specs.Form.{sizeOf}

@@ -1,7 +1,7 @@
 -- Document 01, "The ledger program", and document 02, Thirteen: the call of one record of a trace. `r` is the record's bytes.
 use Prim.Native.Nat.{ℕ, zero, suc}
 use mathlib.Core.List.{List}
-use Rattle.session.specs.Call.{Ask, Call, heardOf}
+use Rattle.session_rules.specs.Call.{Ask, Call, heardOf}
 use Rattle.records.specs.declared.Form.{Form}
 use Rattle.records.specs.Record.{kindAt, bytesAt}
 

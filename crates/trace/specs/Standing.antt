@@ -6,14 +6,14 @@ use mathlib.Core.List.{List, [], _∷_, _++_, map}
 use lib.ListN.{length}
 use lib.Dec.{ltb, eqb}
 use Rattle.sizes.specs.declared.Opening.{Opening}
-use Rattle.ledger.specs.Ledger.{noLedger}
-use Rattle.refusals.specs.Refusals.{takenMost}
-use Rattle.session.specs.declared.Session.{Session}
-use Rattle.session.specs.declared.Outcome.{Outcome}
-use Rattle.session.specs.declared.Closing.{Closing}
-use Rattle.session.specs.Session.{fresh}
-use Rattle.session.specs.Call.{Ask, Call}
-use Rattle.session.specs.Calls.{Offer, after, taken, offerWith}
+use Rattle.session_rules.specs.Ledger.{noLedger}
+use Rattle.session_rules.specs.Refusals.{takenMost}
+use Rattle.session_rules.specs.declared.Session.{Session}
+use Rattle.session_rules.specs.declared.Outcome.{Outcome}
+use Rattle.session_rules.specs.declared.Closing.{Closing}
+use Rattle.session_rules.specs.Session.{fresh}
+use Rattle.session_rules.specs.Call.{Ask, Call}
+use Rattle.session_rules.specs.Calls.{Offer, after, taken, offerWith}
 use Rattle.books.specs.Rule.{entries, numbersOf}
 use Rattle.books.specs.Answer.{answerOf, endingOf}
 use Rattle.records.specs.declared.Form.{Form}

@@ -5,12 +5,12 @@ use mathlib.Core.Bool.{Bool, true, false, _||_}
 use lib.ListN.{length, replicate}
 use Rattle.sizes.specs.declared.Opening.{Opening}
 use Rattle.sizes.specs.declared.HeaderKind.the-variants.{Old}
-use Rattle.ledger.specs.Ledger.{noLedger}
-use Rattle.session.specs.declared.Session.{Session}
-use Rattle.session.specs.declared.Opened.{Opened}
-use Rattle.session.specs.declared.Start.{Start}
-use Rattle.session.specs.Refusals.{ledgerOf}
-use Rattle.session.specs.Session.{fresh, openOf, takeOf, closeOf}
+use Rattle.session_rules.specs.Ledger.{noLedger}
+use Rattle.session_rules.specs.declared.Session.{Session}
+use Rattle.session_rules.specs.declared.Opened.{Opened}
+use Rattle.session_rules.specs.declared.Start.{Start}
+use Rattle.session_rules.specs.Refusals.{ledgerOf}
+use Rattle.session_rules.specs.Session.{fresh, openOf, takeOf, closeOf}
 use Rattle.records.specs.declared.Form.{Form}
 use Rattle.records.specs.Record.{recordBad}
 use Rattle.trace.specs.Record.{recordAsk}
@@ -20,8 +20,8 @@ use Rattle.trace.specs.declared.Trace.{Trace}
 use Rattle.trace.specs.declared.Begun.{Begun}
 use Rattle.trace.specs.declared.Said.{Said}
 use Rattle.trace.specs.declared.Printed.{Printed}
-use Rattle.session.specs.Call.{Ask}
-use Rattle.session.specs.Calls.{Offer, refusal, next, offerWith}
+use Rattle.session_rules.specs.Call.{Ask}
+use Rattle.session_rules.specs.Calls.{Offer, refusal, next, offerWith}
 
 -- WHAT A TRACE IS READ WITH. Framing 3, so that frames end by EOF, and the old kind of header; the ledger program: frame size 256, payload size 62
 abbrev pub ledgerSizes : Opening

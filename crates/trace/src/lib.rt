@@ -2,23 +2,23 @@
 ghost use mathlib.Core.Path.{_≡_};
 ghost use Prim.Native.Nat.{_≤_};
 ghost use lib.ListN.{length};
-ghost use Rattle.ledger.specs.Accounts.{numberCount};
+ghost use Rattle.session_rules.specs.Accounts.{numberCount};
 ghost use Rattle.records.specs.Form.{sizeOf, mostOf};
 ghost use Rattle.records.specs.Record.{lengthAt, recordsOf};
 ghost use Rattle.trace.specs.Record.{recordAsk};
 ghost use Rattle.trace.specs.Trace.{ledgerSizes, replaySizes, beginOf, readCall, saidCall, stepOf, saidOf, traced, goodOf, reportOf};
 ghost use Rattle.session.specs.Inner.{wholeOf};
-ghost use Rattle.session.specs.Call.{Ask};
+ghost use Rattle.session_rules.specs.Call.{Ask};
 ghost use Rattle.trace.specs.Inner.{endOf, goingWith, goodWith, numberRest, answeredBy, isDecided};
-use ledger::Ledger;
-use ledger::Numbers;
 use records::Form;
-use session::Closing;
-use session::Outcome;
-use session::Report;
-use session::Rest;
-use session::Session;
-use session::Start;
+use session_rules::Closing;
+use session_rules::Ledger;
+use session_rules::Numbers;
+use session_rules::Outcome;
+use session_rules::Report;
+use session_rules::Rest;
+use session_rules::Session;
+use session_rules::Start;
 use sizes::HeaderKind;
 use sizes::Opening;
 
@@ -114,7 +114,7 @@ fn transfer(s: Rest, m: &mut Numbers, t: &[u8]) -> Going
     ensures { λ r. ⌜ r .said ≡ saidCall (wholeOf s (now (m .entry))) (Ask.transfer (now (t .entry))) ⌝ }
 {
     let o = s.opening;
-    let taken = s.count(m, o.frame, t);
+    let taken = session::count(s, m, o.frame, t);
     let outcome = taken.outcome;
     let next = taken.rest;
     match outcome {
@@ -130,7 +130,7 @@ fn lost(s: Rest, m: &mut Numbers) -> Going
     ensures { λ r. ⌜ goingWith r (now (m .exit)) ≡ readCall (wholeOf s (now (m .entry))) Ask.lost ⌝ }
     ensures { λ r. ⌜ r .said ≡ saidCall (wholeOf s (now (m .entry))) Ask.lost ⌝ }
 {
-    let reported = s.lost(m);
+    let reported = session::lost(s, m);
     let report = reported.report;
     let next = reported.rest;
     match report {
@@ -144,7 +144,7 @@ fn close(s: Rest, m: &mut Numbers) -> Going
     ensures { λ r. ⌜ goingWith r (now (m .exit)) ≡ readCall (wholeOf s (now (m .entry))) Ask.close ⌝ }
     ensures { λ r. ⌜ r .said ≡ saidCall (wholeOf s (now (m .entry))) Ask.close ⌝ }
 {
-    let closed = s.close(m);
+    let closed = session::close(s, m);
     let closing = closed.closing;
     let next = closed.rest;
     match closing {
@@ -248,7 +248,7 @@ impl Trace {
     pub fn new(o: Opening) -> Begun
         ensures { λ r. ⌜ r ≡ beginOf o ⌝ }
     {
-        let opened = Session::open_for(o, o.frame);
+        let opened = session::open_for(o, o.frame);
         let session = opened.session;
         let start = opened.start;
         Begun {
@@ -295,7 +295,7 @@ impl Trace {
         match state {
             State::Good => Printed {
                 state,
-                ledger: s.ledger(),
+                ledger: session::ledger(s),
             },
             State::Bad(_) => Printed {
                 state,

@@ -10,7 +10,7 @@ use records::Form;
 use replay::Progress;
 use replay::Reader;
 use replay::Replay;
-use session::Start;
+use session_rules::Start;
 use sizes::Opening;
 use trace::Trace;
 

@@ -11,7 +11,7 @@ use libc::STDOUT_FILENO;
 use records::Form;
 use replay::Reader;
 use replay::Replay;
-use session::Start;
+use session_rules::Start;
 use sizes::Opening;
 
 // Enough for the lines of 65,536 bytes of records and of one that waits.

@@ -45,13 +45,13 @@ use denote.Signature.{plain}
 use Rattle.ledger_record.specs.Recorded.{takeBuffer}
 use Rattle.ledger_lent.specs.Lent.{takenOf, takenWith}
 use Rattle.ledger_lent.specs.declared.Record.{Record}
-use Rattle.session.specs.declared.Rest.{Rest}
+use Rattle.session_rules.specs.declared.Rest.{Rest}
 use Rattle.session.specs.declared.RestTaken.{RestTaken}
 use Rattle.ledger_lent.specs.declared.RecordTaken.{RecordTaken}
 use Rattle.ledger_lent.proofs.Record as T
 use Rattle.ledger_lent.proofs.Record.Laws as T′
-use Rattle.session.proofs.Rest as S
-use Rattle.session.proofs.Rest.Laws as S′
+use Rattle.session_rules.proofs.Rest as S
+use Rattle.session_rules.proofs.Rest.Laws as S′
 use Rattle.session.proofs.RestTaken as A₁
 use Rattle.session.proofs.RestTaken.Laws as A′
 use Rattle.ledger_lent.proofs.RecordTaken as X

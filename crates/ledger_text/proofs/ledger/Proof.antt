@@ -4,7 +4,7 @@ use Prim.Native.Nat.{_+_, _*_, _-_, _≤_, _<_}
 use native.Mathlib.Omega.{arith}
 use lib.ListN.{take}
 use Rattle.text.specs.Put.{Put}
-use Rattle.ledger.specs.Accounts.{numberCount, lineCount}
+use Rattle.session_rules.specs.Accounts.{numberCount, lineCount}
 use Rattle.text.specs.Text.{lines, total}
 use Rattle.ledger_text.specs.Report.{rows, rowAt}
 use Rattle.ledger_text.proofs.Rows.{total-most}

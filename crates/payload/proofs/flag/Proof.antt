@@ -3,7 +3,7 @@ use Prim.Native.Nat.{ℕ, _/_, _^_}
 use lib.Dec.{eqb}
 use borrow.Author.Needs.{needs}
 use lib.Bits.{and-mask}
-use Rattle.payload.specs.Transfer.{flagOf}
+use Rattle.session_rules.specs.Transfer.{flagOf}
 use Rattle.payload.proofs.flag.Statement.{statement}
 use Rattle.payload.proofs.flag.Tie as tie
 

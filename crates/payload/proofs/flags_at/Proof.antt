@@ -1,5 +1,5 @@
 use native.Mathlib.Omega.{arith}
-use Rattle.payload.proofs.Laid.{least-four, flags-one, flags-three}
+use Rattle.session_rules.proofs.Laid.{least-four, flags-one, flags-three}
 use borrow.Author.Needs.{needs}
 use Rattle.payload.proofs.flags_at.Statement.{statement}
 use Rattle.payload.proofs.flags_at.Tie as tie

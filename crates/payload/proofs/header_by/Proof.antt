@@ -1,4 +1,4 @@
-use Rattle.payload.specs.Transfer.{headerBy}
+use Rattle.session_rules.specs.Transfer.{headerBy}
 use borrow.Author.Needs.{needs}
 use Rattle.payload.proofs.header_by.Statement.{statement}
 use Rattle.payload.proofs.header_by.Tie as tie

@@ -1,8 +1,8 @@
 use mathlib.Core.Path.{sym, _∙_}
 use native.Mathlib.Omega.{arith}
-use Rattle.payload.proofs.Readings.{layer-room}
+use Rattle.session_rules.proofs.Readings.{layer-room}
 use Rattle.rules.specs.IfElse.{ifElses}
-use Rattle.payload.specs.Transfer.{layerOf}
+use Rattle.session_rules.specs.Transfer.{layerOf}
 use borrow.Author.Needs.{needs}
 use Rattle.payload.proofs.layer_of.Statement.{statement}
 use Rattle.payload.proofs.layer_of.Tie as tie

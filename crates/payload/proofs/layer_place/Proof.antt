@@ -1,4 +1,4 @@
-use Rattle.payload.specs.Transfer.{layerPlace}
+use Rattle.session_rules.specs.Transfer.{layerPlace}
 use borrow.Author.Needs.{needs}
 use Rattle.payload.proofs.layer_place.Statement.{statement}
 use Rattle.payload.proofs.layer_place.Tie as tie

@@ -1,8 +1,8 @@
 use native.Mathlib.Omega.{arith}
 use Rattle.sizes.specs.declared.HeaderKind.the-variants.{Old, Vp8}
-use Rattle.payload.specs.Layouts.{headerLayout}
-use Rattle.payload.proofs.Laid.{laid}
-use Rattle.payload.proofs.Readings.{idle-here, read-kind}
+use Rattle.session_rules.specs.Layouts.{headerLayout}
+use Rattle.session_rules.proofs.Laid.{laid}
+use Rattle.session_rules.proofs.Readings.{idle-here, read-kind}
 use borrow.Author.Needs.{needs}
 use Rattle.payload.proofs.read.Statement.{statement}
 use Rattle.payload.proofs.read.Tie as tie

@@ -1,5 +1,5 @@
 use native.Mathlib.Omega.{arith}
-use Rattle.payload.proofs.Readings.{unreadable-here, readable-here, header-room}
+use Rattle.session_rules.proofs.Readings.{unreadable-here, readable-here, header-room}
 use borrow.Author.Needs.{needs}
 use Rattle.payload.proofs.read_by.Statement.{statement}
 use Rattle.payload.proofs.read_by.Tie as tie

@@ -1,8 +1,8 @@
 use mathlib.Core.Path.{sym, _∙_}
 use native.Mathlib.Omega.{arith}
-use Rattle.payload.proofs.Readings.{stamp-room}
+use Rattle.session_rules.proofs.Readings.{stamp-room}
 use Rattle.rules.specs.IfElse.{ifElses}
-use Rattle.payload.specs.Transfer.{stampOf}
+use Rattle.session_rules.specs.Transfer.{stampOf}
 use borrow.Author.Needs.{needs}
 use Rattle.payload.proofs.stamp_of.Statement.{statement}
 use Rattle.payload.proofs.stamp_of.Tie as tie

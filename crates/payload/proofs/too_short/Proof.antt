@@ -1,4 +1,4 @@
-use Rattle.payload.specs.Transfer.{needOf}
+use Rattle.session_rules.specs.Transfer.{needOf}
 use borrow.Author.Needs.{needs}
 use Rattle.payload.proofs.too_short.Statement.{statement}
 use Rattle.payload.proofs.too_short.Tie as tie

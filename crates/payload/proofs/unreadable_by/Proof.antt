@@ -1,17 +1,17 @@
 use native.Mathlib.Omega.{arith}
-use Rattle.rules.proofs.Ladder.{ladder}
-use Rattle.payload.specs.Transfer.{flagsBy}
+use Rattle.rules.proofs.Ladder.{rungs}
+use Rattle.session_rules.specs.Transfer.{rowsBy}
 use borrow.Author.Needs.{needs}
 use Rattle.payload.proofs.unreadable_by.Statement.{statement}
 use Rattle.payload.proofs.unreadable_by.Tie as tie
 
 returns : tie.Need-returns
-unfolding flagsBy
-returns c = search ladder depth 24
+unfolding rowsBy
+returns c = search rungs depth 24
 
 returns-2 : tie.Need-returns-2
-unfolding flagsBy
-returns-2 c = search ladder depth 24
+unfolding rowsBy
+returns-2 c = search rungs depth 24
 
 shared-slice-read-len : tie.Need-shared-slice-read-len
 shared-slice-read-len c = search needs
@@ -20,12 +20,12 @@ cast-len : tie.Need-cast-len
 cast-len c = omega (arith, c .shared-slice-known2 .given 0)
 
 returns-3 : tie.Need-returns-3
-unfolding flagsBy
-returns-3 c = search ladder depth 24
+unfolding rowsBy
+returns-3 c = search rungs depth 24
 
 returns-4 : tie.Need-returns-4
-unfolding flagsBy
-returns-4 c = search ladder depth 24
+unfolding rowsBy
+returns-4 c = search rungs depth 24
 
 flags-at-requires : tie.Need-flags-at-requires
 flags-at-requires c κs = search needs
@@ -34,26 +34,26 @@ too-short-requires : tie.Need-too-short-requires
 too-short-requires c κs = search needs
 
 returns-5 : tie.Need-returns-5
-unfolding flagsBy
-returns-5 c = rw (← c .before .before .flags-at .ensures) (search ladder depth 24)
+unfolding rowsBy
+returns-5 c = rw (← c .before .before .flags-at .ensures) (search rungs depth 24)
 
 unended-requires : tie.Need-unended-requires
 unended-requires c κs = search needs
 
 returns-6 : tie.Need-returns-6
-unfolding flagsBy
-returns-6 c = rw (← c .before .before .before .before .flags-at .ensures) (search ladder depth 24)
+unfolding rowsBy
+returns-6 c = rw (← c .before .before .before .before .flags-at .ensures) (search rungs depth 24)
 
 stamp-missing-requires : tie.Need-stamp-missing-requires
 stamp-missing-requires c κs = search needs
 
 returns-7 : tie.Need-returns-7
-unfolding flagsBy
-returns-7 c = rw (← c .before .before .before .before .before .before .flags-at .ensures) (search ladder depth 24)
+unfolding rowsBy
+returns-7 c = rw (← c .before .before .before .before .before .before .flags-at .ensures) (search rungs depth 24)
 
 returns-8 : tie.Need-returns-8
-unfolding flagsBy
-returns-8 c = rw (← c .before .before .before .before .before .before .flags-at .ensures) (search ladder depth 24)
+unfolding rowsBy
+returns-8 c = rw (← c .before .before .before .before .before .before .flags-at .ensures) (search rungs depth 24)
 
 pub unreadable-by-spec : {M : Type 1} → statement M
 unreadable-by-spec =

@@ -1,4 +1,4 @@
-use Rattle.ledger.specs.Accounts.{accountCount}
+use Rattle.session_rules.specs.Accounts.{accountCount}
 use denote.Ref.{now}
 use Prim.Native.Nat.{ℕ, _-_, _≤_, _<_}
 use mathlib.Core.Path.{_≡_, sym, _∙_}

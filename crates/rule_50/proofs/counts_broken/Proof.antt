@@ -1,5 +1,5 @@
 use Rattle.rule_50.proofs.Checks.{tests}
-use Rattle.rule_50.specs.Rule50.{countsBroken}
+use Rattle.session_rules.specs.Rule50.{countsBroken}
 use borrow.Author.Needs.{needs}
 use Rattle.rule_50.proofs.counts_broken.Statement.{statement}
 use Rattle.rule_50.proofs.counts_broken.Tie as tie

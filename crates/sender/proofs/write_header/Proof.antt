@@ -1,6 +1,6 @@
 use denote.Ref.{now}
 use Rattle.sender.proofs.Writing.{header-room, header-written}
-use Rattle.payload.specs.declared.Stamp.the-variants.{Absent}
+use Rattle.session_rules.specs.declared.Stamp.the-variants.{Absent}
 use borrow.Author.Needs.{needs}
 use Rattle.sender.proofs.write_header.Statement.{statement}
 use Rattle.sender.proofs.write_header.Tie as tie

@@ -1,4 +1,4 @@
-use Rattle.ledger.specs.Accounts.{numberCount}
+use Rattle.session_rules.specs.Accounts.{numberCount}
 use Prim.Native.Nat.{_≤_, _-_}
 use borrow.Author.Needs.{needs}
 use Rattle.call_cases.proofs.forged.numbers.Statement.{statement}

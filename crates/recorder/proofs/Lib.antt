@@ -1,0 +1,3 @@
+-- Laws of a session by value.
+pub mod Together
+pub mod Unique

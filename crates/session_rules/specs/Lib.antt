@@ -1,0 +1,17 @@
+pub mod Layouts
+pub mod Transfer
+pub mod OldKind
+pub mod Vp8Kind
+pub mod Track
+pub mod Turns
+pub mod Accounts
+pub mod Entry
+pub mod Step
+pub mod Ledger
+pub mod Rule50
+pub mod Refusals
+pub mod Session
+pub mod WhenRefused
+pub mod Writes
+pub mod Call
+pub mod Calls
