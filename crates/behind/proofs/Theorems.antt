@@ -28,7 +28,7 @@ use Rattle.books.proofs.Sound.{after-opening}
 use Rattle.books.proofs.ByList.{still-open}
 use Rattle.books.proofs.Openings.{alike-itself, alike-moved, reads-alike}
 use Rattle.books.proofs.Begins.{phaseFid, run-fid, run-gap, fresh-hands}
-use Rattle.books.proofs.Theorems.{list-right, accounts-right}
+use Rattle.books.proofs.Proved.{nothing-missing}
 use Rattle.behind.specs.Behind.{In, Stands, LastIs, reached, begun, calls, offered, Behind}
 use Rattle.behind.specs.Added.{Adds, Grows, AddsAlike, Bills, NeverCosts}
 use Rattle.behind.proofs.First.{Unlike, first, same, behind, none-begun}
@@ -108,8 +108,8 @@ module _ (o : Opening) (xs : List Offer) (b t : List ℕ) (h : Header) (reads : 
 
     adds-here : Adds o (listOf o xs) (listOf o (xs ++ offered x t ks)) (framesBy o later) (loose (events o later))
     adds-here =
-        subst (λ (l : List Call). Adds o l (listOf o (xs ++ offered x t ks)) (framesBy o later) (loose (events o later))) (list-right o xs)
-        (subst (λ (l : List Call). Adds o cs l (framesBy o later) (loose (events o later))) (sym taken-all ∙ list-right o (xs ++ offered x t ks))
+        subst (λ (l : List Call). Adds o l (listOf o (xs ++ offered x t ks)) (framesBy o later) (loose (events o later))) (nothing-missing .list o xs)
+        (subst (λ (l : List Call). Adds o cs l (framesBy o later) (loose (events o later))) (sym taken-all ∙ nothing-missing .list o (xs ++ offered x t ks))
         (adds o cs t h reads (fits .other) (fits .clear) open₀ (taken-proper (fresh o) xs) rest (markBy (saidOf x (Ask.transfer t))) (marks-by (saidOf x (Ask.transfer t))) proper-all))
 
 -- ---- two histories
@@ -161,8 +161,8 @@ module _ (o p : Opening) (alike : OpenedAlike o p) (xs ys : List Offer) (b c t :
   bills =
       record {
         alike = adds-alike;
-        mine = grown o (listOf o xs) (listOf o (xs ++ offered x₀ t ks)) (adds-alike .begun) (adds-alike .single) (adds-alike .mine) _ _ (accounts-right o xs) (accounts-right o (xs ++ offered x₀ t ks));
-        yours = grown p (listOf p ys) (listOf p (ys ++ offered y₀ t ks)) (adds-alike .begun) (adds-alike .single) (adds-alike .yours) _ _ (accounts-right p ys) (accounts-right p (ys ++ offered y₀ t ks));
+        mine = grown o (listOf o xs) (listOf o (xs ++ offered x₀ t ks)) (adds-alike .begun) (adds-alike .single) (adds-alike .mine) _ _ (nothing-missing .accounts o xs) (nothing-missing .accounts o (xs ++ offered x₀ t ks));
+        yours = grown p (listOf p ys) (listOf p (ys ++ offered y₀ t ks)) (adds-alike .begun) (adds-alike .single) (adds-alike .yours) _ _ (nothing-missing .accounts p ys) (nothing-missing .accounts p (ys ++ offered y₀ t ks));
       }
 
 -- OF ANY TWO HISTORIES from fresh sessions that are opened alike, with the premise from the list alone: "whose last readable transfers taken have the same FID with nothing unreadable or lost
@@ -172,8 +172,8 @@ pub damage-behind : (o p : Opening) → OpenedAlike o p → (f : Bool) (xs ys : 
     → NoneRefused (reached o xs b) (calls (reached o xs b) t ks) → NoneRefused (reached p ys c) (calls (reached p ys c) t ks)
     → Behind (reached o xs b) (reached p ys c) t ks
 damage-behind o p a f xs ys b c t h ks l m reads e q r =
-    heard-behind o p a xs ys b c t h reads (sym (reads-alike o p a t) ∙ reads) (last-fits f (h .fid) o (taken (fresh o) xs) (listOf o xs) (list-right o xs) l e)
-    (last-fits f (h .fid) p (taken (fresh p) ys) (listOf p ys) (list-right p ys) m e) ks q r
+    heard-behind o p a xs ys b c t h reads (sym (reads-alike o p a t) ∙ reads) (last-fits f (h .fid) o (taken (fresh o) xs) (listOf o xs) (nothing-missing .list o xs) l e)
+    (last-fits f (h .fid) p (taken (fresh p) ys) (listOf p ys) (nothing-missing .list p ys) m e) ks q r
 
 -- "Ledgers and steps to earlier frames may differ": what those calls add to each account is the same but for the earlier frame, and of the steps only the first may differ.
 pub bills-behind : (o p : Opening) → OpenedAlike o p → (f : Bool) (xs ys : List Offer) (b c t : List ℕ) (h : Header) (ks : List Ask)
@@ -181,8 +181,8 @@ pub bills-behind : (o p : Opening) → OpenedAlike o p → (f : Bool) (xs ys : L
     → NoneRefused (reached o xs b) (calls (reached o xs b) t ks) → NoneRefused (reached p ys c) (calls (reached p ys c) t ks)
     → Bills o p xs ys (reached o xs b) (reached p ys c) t ks
 bills-behind o p a f xs ys b c t h ks l m reads e q r =
-    bills o p a xs ys b c t h reads (sym (reads-alike o p a t) ∙ reads) (last-fits f (h .fid) o (taken (fresh o) xs) (listOf o xs) (list-right o xs) l e)
-    (last-fits f (h .fid) p (taken (fresh p) ys) (listOf p ys) (list-right p ys) m e) ks q r
+    bills o p a xs ys b c t h reads (sym (reads-alike o p a t) ∙ reads) (last-fits f (h .fid) o (taken (fresh o) xs) (listOf o xs) (nothing-missing .list o xs) l e)
+    (last-fits f (h .fid) p (taken (fresh p) ys) (listOf p ys) (nothing-missing .list p ys) m e) ks q r
 
 -- ---- against a fresh session: it hands nothing out, so its list is those calls and nothing else
 none-marked : (v : Said) (t : List ℕ) → callBy (outcomeIn v) t ≡ Call.transfer t → markBy v ≡ []
@@ -205,7 +205,7 @@ module _ (o : Opening) (f : Bool) (xs : List Offer) (b c t : List ℕ) (h : Head
   y₁ = reached o [] c
 
   fits-x : Fits (h .fid) o (taken (fresh o) xs)
-  fits-x = last-fits f (h .fid) o (taken (fresh o) xs) (listOf o xs) (list-right o xs) l e
+  fits-x = last-fits f (h .fid) o (taken (fresh o) xs) (listOf o xs) (nothing-missing .list o xs) l e
 
   fits-y : Fits (h .fid) o []
   fits-y = record { other = tt; clear = refl }
@@ -218,7 +218,7 @@ module _ (o : Opening) (f : Bool) (xs : List Offer) (b c t : List ℕ) (h : Head
 
   fresh-list : listOf o (offered y₁ t ks) ≡ later o xs b t h reads fits-x ks p
   fresh-list =
-      sym (list-right o (offered y₁ t ks))
+      sym (nothing-missing .list o (offered y₁ t ks))
       ∙ taken-all o [] c t h reads fits-y ks q
       ∙ ap (_++ later o [] c t h reads fits-y ks q) unmarked
       ∙ same-later o o (alike-itself o) xs [] b c t h reads reads fits-x fits-y ks p q
@@ -234,7 +234,7 @@ module _ (o : Opening) (f : Bool) (xs : List Offer) (b c t : List ℕ) (h : Head
   -- "A BAD FRAME MUST NEVER COST THE CUSTOMER A LATER ONE": against a session that has met no damage
   pub never-costs : NeverCosts o xs (reached o xs b) y₁ t ks
   never-costs =
-      let r = accounts-right o (offered y₁ t ks) in
+      let r = nothing-missing .accounts o (offered y₁ t ks) in
       record {
         behind = heard-behind o o (alike-itself o) xs [] b c t h reads reads fits-x fits-y ks p q;
         frames = no-cost (oneIn (placeOf Account.Delivered)) (λ n. refl) _ _ _ (both .mine .counts Account.Delivered) (r .counts Account.Delivered);

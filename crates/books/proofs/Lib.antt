@@ -1,4 +1,4 @@
--- The theorems are in Theorems; the other files lead to them.
+-- Proved has the statement; the other files lead to it.
 pub mod Runs
 pub mod Made
 pub mod Cut
@@ -33,5 +33,5 @@ pub mod Every
 pub mod Each
 pub mod Stills
 pub mod HeaderKinds
-pub mod Theorems
+pub mod Proved
 pub mod Samples

@@ -7,3 +7,4 @@ pub mod HeaderKinds
 pub mod Offers
 pub mod LastReadable
 pub mod Alike
+pub mod Statement

@@ -8,7 +8,7 @@ use Rattle.session_rules.specs.Call.{Call}
 use Rattle.session_rules.specs.Calls.{Offer, next, after}
 use Rattle.books.specs.Rule.{entryOf, framesBy}
 use Rattle.books.specs.Offers.{listOf}
-use Rattle.books.proofs.Theorems.{list-right}
+use Rattle.books.proofs.Proved.{nothing-missing}
 use Rattle.endings.specs.declared.Ending.{Ending}
 use Rattle.endings.specs.Endings.{endingsOf, entriesSay, said}
 use Rattle.endings.specs.Inner.{listIn, toldBy, allTold}
@@ -23,9 +23,9 @@ no-endings o = refl
 -- and nothing is told of it.
 pub ends-right : (o : Opening) (xs : List Offer) (x : Offer) → endingsOf o (listOf o (xs ++ (x ∷ []))) ≡ endingsOf o (listOf o xs) ++ listIn (toldBy (after (fresh o) xs) x)
 ends-right o xs x =
-    ap (endingsOf o) (sym (list-right o (xs ++ (x ∷ []))))
+    ap (endingsOf o) (sym (nothing-missing .list o (xs ++ (x ∷ []))))
     ∙ one-more o xs x
-    ∙ ap (λ (cs : List Call). endingsOf o cs ++ listIn (toldBy (after (fresh o) xs) x)) (list-right o xs)
+    ∙ ap (λ (cs : List Call). endingsOf o cs ++ listIn (toldBy (after (fresh o) xs) x)) (nothing-missing .list o xs)
 
 -- 3. So what is told of all offers, one after the other, is THE FRAMES THAT ENDED: each of them once, in order, and no other.
 after-more : (s : Session) (xs : List Offer) (x : Offer) → after s (xs ++ (x ∷ [])) ≡ next (after s xs) x

@@ -1,2 +1,3 @@
 -- Laws of one transfer.
+pub mod Rungs
 pub mod Unique

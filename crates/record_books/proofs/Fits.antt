@@ -25,7 +25,7 @@ use Rattle.session_rules.specs.Session.{fresh, tookOf, handedOf, handsOut, metB
 use Rattle.session_rules.specs.Calls.{Offer, refusal, next, after}
 use Rattle.books.proofs.Sound.{took-taken}
 use Rattle.books.proofs.Taken.{next-refused}
-use Rattle.books.proofs.Theorems.{numbers-right, broken-right}
+use Rattle.books.proofs.Proved.{no-input-stops, nothing-missing}
 use Rattle.places.specs.Places.{Below, Numbers}
 
 -- ---- at most 4,294,967,295 transfers are taken
@@ -105,9 +105,9 @@ module _ (o : Opening) (p : Phase) (l : Ledger) (n : ℕ) (few : n ≤ takenMost
 -- ---- a session whose sizes are refused stays as it is
 module _ (o : Opening) (e : sizesBroken o ≡ true) where
   refused : (x : Offer) → refusal (fresh o) x ≡ 50
-  refused (Offer.take b t) = rw (broken-right o [], e)
-  refused Offer.lost = rw (broken-right o [], e)
-  refused Offer.close = rw (broken-right o [], e)
+  refused (Offer.take b t) = rw (no-input-stops .broken o [], e)
+  refused Offer.lost = rw (no-input-stops .broken o [], e)
+  refused Offer.close = rw (no-input-stops .broken o [], e)
 
   stays : (xs : List Offer) → after (fresh o) xs ≡ fresh o
   stays [] = refl
@@ -127,13 +127,13 @@ pub fits : (o : Opening) (xs : List Offer) → Numbers (ledgerOf (after (fresh o
 fits o xs = go (sizesBroken o) refl
   where
     many : length (ledgerOf (after (fresh o) xs) .numbers) ≡ numberCount
-    many = ap length (numbers-right o xs)
+    many = ap length (nothing-missing .numbers o xs)
 
     go : (c : Bool) → sizesBroken o ≡ c → Numbers (ledgerOf (after (fresh o) xs) .numbers)
     go true e = rw (stays o e xs) (fresh-fits o)
     go false e =
         let s : Session = after (fresh o) xs in
-        let k : Keeps (s .rest .opening) (s .rest .track .phase) (ledgerOf s) (s .rest .taken) = row-50 (s .rest .opening) (s .rest .track .phase) (ledgerOf s) (s .rest .taken) .0 (broken-right o xs ∙ e) in
+        let k : Keeps (s .rest .opening) (s .rest .track .phase) (ledgerOf s) (s .rest .taken) = row-50 (s .rest .opening) (s .rest .track .phase) (ledgerOf s) (s .rest .taken) .0 (no-input-stops .broken o xs ∙ e) in
         record {
           many = many;
           fit = below-all (2 ^ 64) (ledgerOf s .numbers) (λ i h. within (s .rest .opening) (s .rest .track .phase) (ledgerOf s) (s .rest .taken) (after-few xs (fresh o) (omega arith)) k i (omega (arith, many)));

@@ -12,7 +12,7 @@ use Rattle.session_rules.specs.Session.{fresh}
 use Rattle.session_rules.specs.Calls.{Offer, next, after}
 use Rattle.books.specs.Rule.{entries, numbersOf}
 use Rattle.books.specs.Offers.{listOf, takeSays, lostSays, closeSays, takeLeaves}
-use Rattle.books.proofs.Theorems.{numbers-right, every-answer, every-report, every-close, every-buffer}
+use Rattle.books.proofs.Proved.{frames-whole, nothing-missing}
 use Rattle.places.specs.Places.{recordOf, numbersIn, broken54, Numbers}
 use Rattle.places.proofs.Trips.{read-back, laid-fine}
 use Rattle.ledger_record.specs.Recorded.{recordIn, restTaken, restReported, restClosed, takeIn, takeBuffer, lostIn, closeIn}
@@ -51,7 +51,7 @@ module _ (o : Opening) (xs : List Offer) where
 
   -- so the numbers in its places are what the rule gives from the opening and the list of calls alone, and it is never refused by 54
   pub record-numbers : numbersIn (now₀ .bytes) ≡ numbersOf (entries o (listOf o xs))
-  record-numbers = ap (λ (k : Kept). numbersIn (k .bytes)) record-right ∙ read-back (ledgerOf (after (fresh o) xs) .numbers) (fits o xs) ∙ numbers-right o xs
+  record-numbers = ap (λ (k : Kept). numbersIn (k .bytes)) record-right ∙ read-back (ledgerOf (after (fresh o) xs) .numbers) (fits o xs) ∙ nothing-missing .numbers o xs
 
   pub record-fine : broken54 (now₀ .bytes) ≡ false
   record-fine = ap (λ (k : Kept). broken54 (k .bytes)) record-right ∙ laid-fine (ledgerOf (after (fresh o) xs) .numbers) (fits o xs)
@@ -61,16 +61,16 @@ module _ (o : Opening) (xs : List Offer) where
   record-answer buffer t =
       ap (λ (k : Kept). takeIn (k .bytes) (k .rest) (length buffer) t .outcome) record-right
       ∙ ap (λ x. x .outcome) (square-take (after (fresh o) xs) (fits o xs) (length buffer) t .0)
-      ∙ every-answer o xs buffer t
+      ∙ nothing-missing .answers o xs buffer t
 
   pub record-buffer : (buffer t : List ℕ) → takeBuffer (now₀ .bytes) (now₀ .rest) buffer t ≡ takeLeaves o (listOf o xs) buffer t
   record-buffer buffer t =
-      ap (λ (k : Kept). takeBuffer (k .bytes) (k .rest) buffer t) record-right ∙ square-buffer (after (fresh o) xs) (fits o xs) buffer t ∙ every-buffer o xs buffer t
+      ap (λ (k : Kept). takeBuffer (k .bytes) (k .rest) buffer t) record-right ∙ square-buffer (after (fresh o) xs) (fits o xs) buffer t ∙ frames-whole .buffers o xs buffer t
 
   pub record-report : lostIn (now₀ .bytes) (now₀ .rest) .report ≡ lostSays o (listOf o xs)
   record-report =
-      ap (λ (k : Kept). lostIn (k .bytes) (k .rest) .report) record-right ∙ ap (λ x. x .report) (square-lost (after (fresh o) xs) (fits o xs) .0) ∙ every-report o xs
+      ap (λ (k : Kept). lostIn (k .bytes) (k .rest) .report) record-right ∙ ap (λ x. x .report) (square-lost (after (fresh o) xs) (fits o xs) .0) ∙ nothing-missing .reports o xs
 
   pub record-close : closeIn (now₀ .bytes) (now₀ .rest) .closing ≡ closeSays o (listOf o xs)
   record-close =
-      ap (λ (k : Kept). closeIn (k .bytes) (k .rest) .closing) record-right ∙ ap (λ x. x .closing) (square-close (after (fresh o) xs) (fits o xs) .0) ∙ every-close o xs
+      ap (λ (k : Kept). closeIn (k .bytes) (k .rest) .closing) record-right ∙ ap (λ x. x .closing) (square-close (after (fresh o) xs) (fits o xs) .0) ∙ nothing-missing .closings o xs

@@ -20,7 +20,7 @@ use Rattle.books.specs.Rule.{Event, idle, unreadable, missing, readable, mark, 
 use Rattle.books.specs.Answer.{frameEntry}
 use Rattle.books.specs.Offers.{listOf}
 use Rattle.books.proofs.Answers.{taken-more}
-use Rattle.books.proofs.Theorems.{list-right}
+use Rattle.books.proofs.Proved.{nothing-missing}
 use Rattle.records.specs.declared.Form.{Form}
 use Rattle.records.specs.Record.{kindAt, recordBad}
 use Rattle.trace.specs.declared.State.{State}
@@ -139,7 +139,7 @@ module _ (f : Form) (w : Show) (o : Opening) (sizes : sizesBroken o ≡ false) (
     xs = offersOf f o rs
 
     listed : map (recordCall f) rs ≡ listOf o xs
-    listed = sym (h .read .calls) ∙ list-right o xs
+    listed = sym (h .read .calls) ∙ nothing-missing .list o xs
 
     -- what the list has more of with the offer
     grows : endingsOf o (listOf o (xs ++ (x ∷ []))) ≡ ended rs ++ listIn (toldBy s x)
@@ -157,15 +157,15 @@ module _ (f : Form) (w : Show) (o : Opening) (sizes : sizesBroken o ≡ false) (
 
         unlisted : listOf o (xs ++ (x ∷ [])) ≡ listOf o xs
         unlisted =
-            sym (list-right o (xs ++ (x ∷ []))) ∙ taken-more xs x (fresh o)
+            sym (nothing-missing .list o (xs ++ (x ∷ []))) ∙ taken-more xs x (fresh o)
             ∙ ap (taken (fresh o) xs ++_) (none (refusal (after (fresh o) xs) x) (callOf (after (fresh o) xs) x) (ap (λ (z : Session). refusal z x) (sym (h .read .session)) ∙ q))
-            ∙ append-nil (taken (fresh o) xs) ∙ list-right o xs
+            ∙ append-nil (taken (fresh o) xs) ∙ nothing-missing .list o xs
 
     -- a taken one is its last
     ended-more : (h' : Holds f o sizes eof (rs ++ (r ∷ [])) (next s (offerOf s (recordAsk f r)))) → badAfter f rs r ≡ false → ended rs ++ endedOf f (goodOf s) r ≡ ended (rs ++ (r ∷ []))
     ended-more h' e =
         ap (ended rs ++_) (ended-good e) ∙ sym grows
-        ∙ ap (λ (ys : List Offer). endingsOf o (listOf o ys)) (sym (offers-more f o rs r)) ∙ ap (endingsOf o) (sym (list-right o (offersOf f o (rs ++ (r ∷ [])))) ∙ h' .read .calls)
+        ∙ ap (λ (ys : List Offer). endingsOf o (listOf o ys)) (sym (offers-more f o rs r)) ∙ ap (endingsOf o) (sym (nothing-missing .list o (offersOf f o (rs ++ (r ∷ [])))) ∙ h' .read .calls)
 
   -- the step of the trace
   step-bad : (s : Session) (r : List ℕ) → (s .rest .closed || recordBad f r) ≡ true → trace.stepOf f (goodOf s) r .state ≡ State.Bad (trace.numberOf s)

@@ -33,7 +33,7 @@ use Rattle.books.specs.Rule.{Event, eventBy, events, Seen, readables, same, ahe
 use Rattle.books.specs.Answer.{lastOf, lastRun, turnedIn, goesOn, fateOn, with, answerFor, answerOf, handsFor, outOf, outcomeOf}
 use Rattle.books.specs.Offers.{takenIn, listOf, refusedOr}
 use Rattle.books.specs.Alike.{At, onward, NoneRefused, Said, outLength, Heard, hears, heard}
-use Rattle.books.proofs.Theorems.{list-right, refusals-right, every-answer, whole}
+use Rattle.books.proofs.Proved.{frames-whole, no-input-stops, nothing-missing}
 use Rattle.books.proofs.Answers.{taken-more}
 use Rattle.books.proofs.Whole.{kept-all}
 use Rattle.sender.specs.Header.{sizeOf, written}
@@ -161,7 +161,7 @@ module _ (o : Opening) (old : o .kind ≡ Old) (eof : byEof o ≡ true) (sizes :
 
     ok : refusal (at .session) (Offer.take (at .buffer) t) ≡ 0
     ok =
-        refusals-right o (xs ks) (Offer.take (at .buffer) t)
+        no-input-stops .refusals o (xs ks) (Offer.take (at .buffer) t)
         ∙ (let l : length t ≤ transferMost = omega (arith, payload-most) in
         rw (sizes, z .list, open-all o old eof ts, takenIn-all ts, ne-eqb (length ts) takenMost (λ (q : length ts ≡ takenMost). omega arith), le-ltb (length (at .buffer)) (o .frame) room-kept, le-ltb transferMost (length t) l) refl)
 
@@ -181,8 +181,8 @@ module _ (o : Opening) (old : o .kind ≡ Old) (eof : byEof o ≡ true) (sizes :
     outcome : takeOf (at .session) (length (at .buffer)) t .outcome ≡ Outcome.Taken answer
     outcome =
         let p : lastRun o cs ≡ lastOf (runs vs) = last-is ts vs (z .seen) (z .plain) in
-        every-answer o (xs ks) (at .buffer) t
-        ∙ ap (λ (n : ℕ). refusedOr n Outcome.Refused (outcomeOf o (listOf o (xs ks)) t)) (sym (refusals-right o (xs ks) (Offer.take (at .buffer) t)) ∙ ok)
+        nothing-missing .answers o (xs ks) (at .buffer) t
+        ∙ ap (λ (n : ℕ). refusedOr n Outcome.Refused (outcomeOf o (listOf o (xs ks)) t)) (sym (no-input-stops .refusals o (xs ks) (Offer.take (at .buffer) t)) ∙ ok)
         ∙ ap (λ (ds : List Call). outcomeOf o ds t) (z .list)
         ∙ ap (λ (b : Bool). cond b (Outcome.Handed (outOf o (lastRun o cs))) (Outcome.Taken (answerOf o cs t))) (no-hands (readingOf o t) cs)
         ∙ ap (λ (r : Reading). Outcome.Taken (answerFor r o cs t)) reads
@@ -193,11 +193,11 @@ module _ (o : Opening) (old : o .kind ≡ Old) (eof : byEof o ≡ true) (sizes :
     stands = record {
       list =
           ap (listOf o) (offers-more start ks (Ask.transfer t))
-          ∙ sym (list-right o (xs ks ++ (Offer.take (at .buffer) t ∷ [])))
+          ∙ sym (nothing-missing .list o (xs ks ++ (Offer.take (at .buffer) t ∷ [])))
           ∙ taken-more (xs ks) (Offer.take (at .buffer) t) (fresh o)
           ∙ ap (λ (n : ℕ). taken (fresh o) (xs ks) ++ unless n (callBy (takeOf (at .session) (length (at .buffer)) t .outcome) t) []) ok
           ∙ ap (λ (y : Outcome). taken (fresh o) (xs ks) ++ (callBy y t ∷ [])) outcome
-          ∙ ap (λ (ds : List Call). ds ++ (Call.transfer t ∷ [])) (list-right o (xs ks) ∙ z .list)
+          ∙ ap (λ (ds : List Call). ds ++ (Call.transfer t ∷ [])) (nothing-missing .list o (xs ks) ∙ z .list)
           ∙ sym (map-more ts t);
       seen = seen₁;
       plain = plain-append vs (v ∷ []) (z .plain) plain₁;
@@ -206,8 +206,8 @@ module _ (o : Opening) (old : o .kind ≡ Old) (eof : byEof o ≡ true) (sizes :
     -- where it delivers, the buffer's first bytes are the frame's data
     handed-whole : (d : Delivery) → answer .fate ≡ Fate.Delivered d → take (d .len) (bufferOf (at .session) (at .buffer) t) ≡ dataOf (frameOf o (lastOf (runs (vs ++ (v ∷ [])))))
     handed-whole d e =
-        whole o B ks room t answer false d outcome e .payload
-        ∙ ap (λ (r : List Seen). dataOf (frameOf o r)) (ap (λ (ds : List Call). lastRun o (with ds t)) (list-right o (xs ks) ∙ z .list) ∙ last₁)
+        frames-whole .delivered o B ks room t answer false d outcome e .payload
+        ∙ ap (λ (r : List Seen). dataOf (frameOf o r)) (ap (λ (ds : List Call). lastRun o (with ds t)) (z .list) ∙ last₁)
 
   -- ---- the fate of a transfer, by the run that it is the last of
   abbrev Opens : List Seen → Type 0

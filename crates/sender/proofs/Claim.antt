@@ -21,7 +21,7 @@ use Rattle.books.specs.Rule.{Seen, framesBy, entryOf, loose, entries, lostLine,
 use Rattle.books.specs.Demands.{Right}
 use Rattle.books.specs.Offers.{listOf}
 use Rattle.books.specs.Alike.{Said}
-use Rattle.books.proofs.Theorems.{list-right, accounts-right}
+use Rattle.books.proofs.Proved.{nothing-missing}
 use Rattle.books.proofs.Posts.{total-append}
 use Rattle.books.proofs.History.{stamps-append}
 use Rattle.books.proofs.Accounts.{loose-stamped}
@@ -116,13 +116,13 @@ arrives o buffer fs r = record {
     cs = map Call.transfer (sentOf (o .payload) false fs)
 
     list : listOf o (offered o buffer fs) ≡ cs
-    list = sym (list-right o (offered o buffer fs)) ∙ arrive o (r .kind) (r .eof) (r .sizes) buffer (r .room) (λ (a : Said) (b : List ℕ). a) fs (r .each) (r .limit) .2
+    list = sym (nothing-missing .list o (offered o buffer fs)) ∙ arrive o (r .kind) (r .eof) (r .sizes) buffer (r .room) (λ (a : Said) (b : List ℕ). a) fs (r .each) (r .limit) .2
 
     framed : framesBy o cs ≡ map delivered fs
     framed = frames-arrive o (r .kind) (r .eof) false fs (r .each)
 
     books : Right o (listOf o (offered o buffer fs)) (ledgerIn o buffer fs)
-    books = accounts-right o (offered o buffer fs)
+    books = nothing-missing .accounts o (offered o buffer fs)
 
     entered : entries o (listOf o (offered o buffer fs)) ≡ map entryOf (map delivered fs) ++ loose (map eventIn vs)
     entered = ap (entries o) list ∙ (λ i. map entryOf (framed i) ++ loose (all-events o (r .kind) (r .eof) false fs (r .each) i))

@@ -81,7 +81,7 @@ Fits o t len = FitsBy (headerLayout (o .kind)) (o .payload) t len
 pub header-room : (l : Layout) (payload : ℕ) (t : List ℕ) (n : ℕ) → n ≡ firstRow (rowsBy l payload t) → n ≡ 0 →
     (l .least ≤ length t) × (needOf l (flagsAt l t) ≤ length t)
 header-room l payload t n e z =
-    let f = fits-by l payload t (row-none _ (rows-numbered l payload t) (sym e ∙ z)) in
+    let f = fits-by l payload t (row-none (rowsBy l payload t) (rows-numbered l payload t) (sym e ∙ z)) in
     (omega arith, omega arith)
 
 -- a header that has a stamp has four bytes for it after its flags, and one that has a layer two at its place

@@ -20,7 +20,7 @@ use Rattle.books.proofs.Taken.{Proper, taken-proper}
 use Rattle.books.proofs.Posts.{total-append}
 use Rattle.books.proofs.History.{map-append, stamps-append}
 use Rattle.books.proofs.Accounts.{loose-stamped, loose-timed}
-use Rattle.books.proofs.Theorems.{list-right, accounts-right}
+use Rattle.books.proofs.Proved.{nothing-missing}
 use Rattle.steps.specs.Cut.{Middle}
 use Rattle.steps.specs.Halves.{StampHalves, EntryHalves, Job, job, framesIn, Split, billed, BillAsWhole, Halves}
 use Rattle.books.proofs.Begins.{proper-open, proper-later, earlier, frames-from, frames-after}
@@ -68,7 +68,7 @@ record Timed (j : Job) (es : List Entry) : Type 0 where
 
 timed : (j : Job) → Timed j (map entryOf (framesIn j))
 timed j =
-    let right = accounts-right (j .opening) (j .offered) in
+    let right = nothing-missing .accounts (j .opening) (j .offered) in
     record {
       ticks = right .ticks ∙ ap (between forward) stamped;
       backward = right .backward ∙ ap (between back) stamped;
@@ -110,7 +110,7 @@ module _ (o : Opening) (whole first second : List Offer) (before : List Call) (t
     (s : listOf o second ≡ Call.transfer t ∷ (own ++ after)) where
   -- what the list of a job's offers is, a session has taken
   proper-as : (xs : List Offer) (cs : List Call) → listOf o xs ≡ cs → Proper (fresh o) cs
-  proper-as xs cs e = subst (Proper (fresh o)) (list-right o xs ∙ e) (taken-proper (fresh o) xs)
+  proper-as xs cs e = subst (Proper (fresh o)) (nothing-missing .list o xs ∙ e) (taken-proper (fresh o) xs)
 
   proper-first : Proper (fresh o) (before ++ (Call.transfer t ∷ own))
   proper-first = proper-as first _ f

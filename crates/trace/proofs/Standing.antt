@@ -27,7 +27,8 @@ use Rattle.books.proofs.Answers.{taken-more}
 use Rattle.books.proofs.HandedOut.{asked-listed, asked-next}
 use Rattle.books.proofs.Sound.{took-taken, after-opening}
 use Rattle.books.specs.Answer.{lastRun, endingOf, answerOf, handsFor, outOf, outcomeOf}
-use Rattle.books.proofs.Theorems.{never-stuck, answer-right, close-right}
+use Rattle.books.proofs.Histories.{sound-taken}
+use Rattle.books.proofs.ByList.{transfer-answers, close-answers}
 use Rattle.records.specs.declared.Form.{Form}
 use Rattle.records.specs.Record.{kindAt, bytesAt, recordBad}
 use Rattle.records.proofs.Fine.{fine}
@@ -150,7 +151,7 @@ module _ (f : Form) (o : Opening) where
       framed = ap byEof opened ∙ eof
 
       sound : recordBroken s ≡ false
-      sound = ap recordBroken (w .read .session) ∙ never-stuck o sizes (offersOf f o rs)
+      sound = ap recordBroken (w .read .session) ∙ sound-taken o (offersOf f o rs) sizes
 
       wide : s .rest .opening .frame ≤ length (roomFor o)
       wide = omega (arith, length-replicate {0} {A = ℕ} (o .frame) 0, ap (λ (x : Opening). x .frame) opened)
@@ -256,13 +257,13 @@ module _ (f : Form) (o : Opening) where
       answers : (c : Ask) → refusal s (offerWith (roomFor o) c) ≡ 0 → saidFor s (offerWith (roomFor o) c) ≡ saysTo o cs c
       answers (Ask.transfer t) ok =
           ap (λ (z : Session). Said.Transfer (takeOf z (length (roomFor o)) t .outcome)) (w .read .session)
-          ∙ ap Said.Transfer (answer-right o (offersOf f o rs) (roomFor o) t (sym (ap (λ (z : Session). refusal z (Offer.take (roomFor o) t)) (w .read .session)) ∙ ok))
+          ∙ ap Said.Transfer (transfer-answers o (offersOf f o rs) (roomFor o) t (sym (ap (λ (z : Session). refusal z (Offer.take (roomFor o) t)) (w .read .session)) ∙ ok))
           ∙ ap (λ (ds : List Call). Said.Transfer (outcomeOf o ds t)) (w .read .calls)
           ∙ ap (λ (b : Bool). Said.Transfer (cond b (Outcome.Handed (outOf o (lastRun o cs))) (Outcome.Taken (answerOf o cs t)))) (hands-none cs (readingOf o t))
       answers Ask.lost ok = refl
       answers Ask.close ok =
           ap (λ (z : Session). Said.Close (closeOf z .closing)) (w .read .session)
-          ∙ ap Said.Close (close-right o (offersOf f o rs) (sym (ap (λ (z : Session). refusal z Offer.close) (w .read .session)) ∙ ok))
+          ∙ ap Said.Close (close-answers o (offersOf f o rs) (sym (ap (λ (z : Session). refusal z Offer.close) (w .read .session)) ∙ ok))
           ∙ ap (λ (ds : List Call). Said.Close (Closing.Closed (endingOf o ds))) (w .read .calls)
 
       says-by : (r : List ℕ) (x : Bool) → badAfter f rs r ≡ x → saidOf f s r ≡ saidBy x s (recordAsk f r)

@@ -1,3 +1,4 @@
+use Rattle.payload.proofs.Rungs.{unended-here, unstamped-here, none-here}
 use native.Mathlib.Omega.{arith}
 use Rattle.rules.proofs.Ladder.{rungs}
 use Rattle.session_rules.specs.Transfer.{rowsBy}
@@ -41,19 +42,16 @@ unended-requires : tie.Need-unended-requires
 unended-requires c κs = search needs
 
 returns-6 : tie.Need-returns-6
-unfolding rowsBy
-returns-6 c = rw (← c .before .before .before .before .flags-at .ensures) (search rungs depth 24)
+returns-6 c = search unended-here
 
 stamp-missing-requires : tie.Need-stamp-missing-requires
 stamp-missing-requires c κs = search needs
 
 returns-7 : tie.Need-returns-7
-unfolding rowsBy
-returns-7 c = rw (← c .before .before .before .before .before .before .flags-at .ensures) (search rungs depth 24)
+returns-7 c = search unstamped-here
 
 returns-8 : tie.Need-returns-8
-unfolding rowsBy
-returns-8 c = rw (← c .before .before .before .before .before .before .flags-at .ensures) (search rungs depth 24)
+returns-8 c = search none-here
 
 pub unreadable-by-spec : {M : Type 1} → statement M
 unreadable-by-spec =
