@@ -1,9 +1,8 @@
 //! Control blocks: 1 to 16.
 
-use super::{filler, with, CLOCK};
-use crate::blocks::*;
-use crate::cases::Case;
-use crate::control::Revision;
+use crate::making::blocks::*;
+use crate::making::cases::Case;
+use crate::reading::control::Revision;
 
 pub fn all() -> Vec<Case> {
     let mut blocks = control_heads();

@@ -1,8 +1,9 @@
 //! Sessions of cameras with the old header: 45 to 47, 53, 55, 61 to 66, every fate and every fault.
 
-use crate::blocks::*;
-use crate::cases::Case;
-use crate::frames::{Call, HeaderKind, Opening};
+use crate::making::cases::Case;
+use crate::making::transfers::*;
+use crate::reading::flags::*;
+use crate::reading::frames::{Call, HeaderKind, Opening};
 
 /// The calls of document 01's ledger sample.
 pub fn ledger_sample() -> Vec<Call> {

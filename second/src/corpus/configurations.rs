@@ -1,9 +1,8 @@
 //! Whole configurations: 70 to 75.
 
-use super::CLOCK;
-use crate::blocks::*;
-use crate::cases::Case;
-use crate::configurations::{endpoint, interface, total, whole};
+use crate::making::blocks::*;
+use crate::making::cases::Case;
+use crate::making::configurations::{endpoint, interface, total, whole};
 
 fn control_block(entries: &[u8]) -> Vec<u8> {
     control(CLOCK, entries, &[camera(1, [1, 2, 3]), processing(2, 1, [4, 5, 6]), output(9, 0x0101, 2)])

@@ -1,8 +1,7 @@
 //! The examples of the source documents.
 
-use super::{with, CLOCK};
-use crate::blocks::*;
-use crate::cases::Case;
+use crate::making::blocks::*;
+use crate::making::cases::Case;
 
 /// The examples of source documents 002 and 003: as they are printed, and brought to revision 1.5.
 pub fn all() -> Vec<Case> {

@@ -1,9 +1,10 @@
 //! Session records as they stand: 50 to 53 and 55.
 
-use crate::blocks::*;
-use crate::cases::Case;
-use crate::frames::{Call, HeaderKind};
-use crate::records::{laid, Phase, Record, FAULTS};
+use crate::making::cases::Case;
+use crate::making::transfers::*;
+use crate::reading::flags::*;
+use crate::reading::frames::{Call, HeaderKind};
+use crate::reading::records::{laid, Phase, Record, FAULTS};
 
 pub fn plain_record() -> Record {
     Record {
@@ -199,7 +200,9 @@ fn lent(held: &Record) -> Vec<Case> {
     let mut all = Vec::new();
     let good = Call::Transfer(transfer(END | FID | PTS | EOF, 5, 0, &[1, 2, 3]));
     let other = Call::Transfer(transfer(END, 0, 0, &[4]));
-    let mut add = |bytes: &[u8], r: &Record, room: usize, call: &Call| all.push(Case::Lent(bytes.to_vec(), r.clone(), vec![0xAA; room], call.clone()));
+    let mut add = |bytes: &[u8], r: &Record, room: usize, call: &Call| {
+        all.push(Case::Lent(bytes.to_vec(), r.clone(), vec![0xAA; room], call.clone()))
+    };
     let bytes = laid(&held.numbers);
     for call in [&good, &other, &Call::Lost, &Call::Close] {
         for framing in [1, 3] {

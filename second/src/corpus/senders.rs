@@ -1,8 +1,8 @@
 //! Senders with their receivers: 80 to 82, frames around multiples of what a transfer holds, and receivers that are opened otherwise.
 
-use crate::cases::Case;
-use crate::frames::{HeaderKind, Opening};
-use crate::sender::{Frame, Pair};
+use crate::making::cases::Case;
+use crate::reading::frames::{HeaderKind, Opening};
+use crate::reading::sender::{Frame, Pair};
 
 pub fn all() -> Vec<Case> {
     let mut all = lengths();

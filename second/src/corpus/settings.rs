@@ -1,10 +1,9 @@
 //! Camera settings: 90 to 95, every setting and request, and the ends of both number ranges.
 
-use super::{with, CLOCK};
-use crate::blocks::*;
-use crate::cases::Case;
-use crate::control::Revision;
-use crate::setup::{self, REQUESTS, SETTINGS};
+use crate::making::blocks::*;
+use crate::making::cases::Case;
+use crate::reading::control::Revision;
+use crate::reading::setup::{self, REQUESTS, SETTINGS};
 
 pub fn all() -> Vec<Case> {
     let mut all = building();

@@ -1,10 +1,9 @@
 //! Streaming and probe blocks: 20 to 46.
 
-use super::{filler, with, CLOCK};
-use crate::blocks::*;
-use crate::cases::Case;
-use crate::control::Revision;
-use crate::streaming::Place;
+use crate::making::blocks::*;
+use crate::making::cases::Case;
+use crate::reading::control::Revision;
+use crate::reading::streaming::Place;
 
 pub fn all() -> Vec<Case> {
     let mut all = streaming_cases();

@@ -1,10 +1,11 @@
 //! Traces of both forms: every kind of bad record, every fate, steps, sizes, and reads that split a record.
 
-use crate::blocks::*;
-use crate::cases::{Case, Traced, SHOWS};
 use crate::corpus::calls::ledger_sample;
-use crate::frames::{Call, Opening};
-use crate::traces::{Form, Show, LEDGER, LONG, REPLAY, SHORT};
+use crate::making::cases::{Case, Traced, SHOWS};
+use crate::making::transfers::*;
+use crate::reading::flags::*;
+use crate::reading::frames::{Call, Opening};
+use crate::reading::traces::{Form, Show, LEDGER, LONG, REPLAY, SHORT};
 
 pub fn all() -> Vec<Case> {
     let mut all = samples();

@@ -1,11 +1,12 @@
 //! Sessions of VP8 cameras: 61 to 67, the flags that are ignored, and the layer that is reported.
 
-use super::calls::of_kind;
-use super::records::plain_record;
-use crate::blocks::*;
-use crate::cases::Case;
-use crate::frames::{Call, HeaderKind};
-use crate::records::{Phase, Record};
+use crate::corpus::calls::of_kind;
+use crate::corpus::records::plain_record;
+use crate::making::cases::Case;
+use crate::making::transfers::*;
+use crate::reading::flags::*;
+use crate::reading::frames::{Call, HeaderKind};
+use crate::reading::records::{Phase, Record};
 
 pub fn all() -> Vec<Case> {
     let mut all = transfers();

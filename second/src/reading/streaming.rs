@@ -1,7 +1,7 @@
 //! The VideoStreaming block and the probe block, from document 01's text.
 
-use crate::control::Revision;
-use crate::Refusal;
+use crate::reading::control::{self, Revision};
+use crate::reading::refusal::Refusal;
 
 /// A place of an entity table. A table is input too: it may hold anything, and say any count.
 #[derive(Clone, Debug, PartialEq)]
@@ -16,6 +16,16 @@ pub struct Table {
     pub revision: Revision,
     pub count: usize,
     pub places: Vec<Place>,
+}
+
+/// The entity table of a control block; none, and 1.5, where it is refused.
+pub fn table(block: &[u8]) -> Table {
+    let (revision, entities) = control::read(block).map_or((Revision::New15, vec![]), |c| (c.revision, c.entities));
+    Table {
+        revision,
+        count: entities.len(),
+        places: entities.iter().map(|e| Place { id: e.id, kind: e.kind, terminal: e.terminal, offset: e.offset as u16 }).collect(),
+    }
 }
 
 #[derive(Clone, Debug, PartialEq)]
@@ -78,7 +88,7 @@ pub struct Streaming {
 const YUY2: [u8; 16] = [0x59, 0x55, 0x59, 0x32, 0, 0, 0x10, 0, 0x80, 0, 0, 0xAA, 0, 0x38, 0x9B, 0x71];
 const NV12: [u8; 16] = [0x4E, 0x56, 0x31, 0x32, 0, 0, 0x10, 0, 0x80, 0, 0, 0xAA, 0, 0x38, 0x9B, 0x71];
 
-fn u32_at(d: &[u8], at: usize) -> u32 {
+pub fn u32_at(d: &[u8], at: usize) -> u32 {
     u32::from_le_bytes(d[at..at + 4].try_into().unwrap())
 }
 
@@ -245,67 +255,4 @@ pub fn read(table: &Table, block: &[u8]) -> Result<Streaming, Refusal> {
         return whole(38);
     }
     Ok(s)
-}
-
-/// The widths of the 21 fields before the layout, in the order of the 48 bytes.
-const WIDTHS: [usize; 21] = [2, 1, 1, 4, 2, 2, 2, 2, 2, 4, 4, 4, 1, 1, 1, 1, 1, 1, 1, 1, 2];
-
-/// All fields of a probe block, and the eight bytes of its layout. What an older block lacks is 0.
-pub fn fields(revision: Revision, probe: &[u8]) -> Result<Vec<u32>, Refusal> {
-    if probe.len() != revision.probe() {
-        return Err(Refusal { number: 41, offset: 0 });
-    }
-    let mut probe = probe.to_vec();
-    probe.resize(48, 0);
-    let mut at = 0;
-    let mut all = Vec::new();
-    for width in WIDTHS.into_iter().chain([1; 8]) {
-        all.push(probe[at..at + width].iter().rev().fold(0, |n, &b| n << 8 | u32::from(b)));
-        at += width;
-    }
-    Ok(all)
-}
-
-/// Writes fields into a room: its first bytes, as many as the revision says, or nothing.
-pub fn write(revision: Revision, fields: &[u32], room: &mut [u8]) -> Result<(), Refusal> {
-    if room.len() < revision.probe() {
-        return Err(Refusal { number: 41, offset: 0 });
-    }
-    let mut at = 0;
-    for (&n, width) in fields.iter().zip(WIDTHS.into_iter().chain([1; 8])) {
-        if at == revision.probe() {
-            break;
-        }
-        room[at..at + width].copy_from_slice(&n.to_le_bytes()[..width]);
-        at += width;
-    }
-    Ok(())
-}
-
-/// 45 and 46.
-pub fn sizes(frame: u64, payload: u64) -> Result<(), Refusal> {
-    if frame == 0 || frame > 16_777_216 {
-        return Err(Refusal { number: 45, offset: 0 });
-    }
-    if payload < 2 || payload > 65_536 {
-        return Err(Refusal { number: 46, offset: 0 });
-    }
-    Ok(())
-}
-
-pub fn check(table: &Table, block: &[u8], probe: &[u8]) -> Result<(), Refusal> {
-    let no = |number| Err(Refusal { number, offset: 0 });
-    if probe.len() != table.revision.probe() {
-        return no(41);
-    }
-    let s = read(table, block)?;
-    let (format, frame) = (probe[2] as usize, probe[3]);
-    if format < 1 || format > s.formats.len() {
-        return no(42);
-    }
-    match s.frames.iter().find(|f| f.format == format && f.index == frame) {
-        None => no(43),
-        Some(f) if !f.offers.has(u32_at(probe, 4)) => no(44),
-        Some(_) => sizes(u64::from(u32_at(probe, 18)), u64::from(u32_at(probe, 22))),
-    }
 }

@@ -1,6 +1,6 @@
 //! Builds blocks, descriptor by descriptor.
 
-use crate::control::Revision;
+use crate::reading::control::Revision;
 
 /// A descriptor: its length byte is set from what it holds.
 pub fn descriptor(subtype: u8, rest: &[u8]) -> Vec<u8> {
@@ -19,6 +19,9 @@ pub fn total(block: &mut [u8], at: usize) {
 
 pub const CONTROL_TOTAL: usize = 5;
 pub const STREAMING_TOTAL: usize = 4;
+
+/// The clock of the chosen cases.
+pub const CLOCK: u32 = 48_000_000;
 
 /// A control block of these descriptors after a header, of revision 1.5.
 pub fn control(clock: u32, interfaces: &[u8], descriptors: &[Vec<u8>]) -> Vec<u8> {
@@ -163,42 +166,27 @@ pub fn probe(format: u8, frame: u8, interval: u32, frame_size: u32, payload_size
     p
 }
 
-pub const FID: u8 = 1;
-pub const EOF: u8 = 2;
-pub const PTS: u8 = 4;
-pub const SCR: u8 = 8;
-pub const STILL: u8 = 0x20;
-pub const ERROR: u8 = 0x40;
-pub const END: u8 = 0x80;
-
-/// D7 of a VP8 header: the first byte of its flags has it where an old header has END, which is D23 there and stands in the third.
-pub const LAYER: u8 = 0x80;
-
-/// A transfer with these flags, this stamp if PTS is among them, so many further header bytes, and data.
-pub fn transfer(flags: u8, stamp: u32, more: usize, data: &[u8]) -> Vec<u8> {
-    with_fields(&[flags], stamp, &vec![0xEE; more], data)
+/// Unknown descriptors of so many bytes in all.
+pub fn filler(bytes: usize) -> Vec<Vec<u8>> {
+    let mut all = Vec::new();
+    let mut left = bytes;
+    while left > 0 {
+        let n = if left > 258 {
+            255
+        } else if left > 255 {
+            left - 3
+        } else {
+            left
+        };
+        all.push(descriptor(0x30, &vec![0x11; n - 3]));
+        left -= n;
+    }
+    all
 }
 
-/// The same with a VP8 header: this layer if LAYER is among the flags.
-pub fn vp8(flags: [u8; 3], stamp: u32, layer: u16, more: usize, data: &[u8]) -> Vec<u8> {
-    let mut rest = Vec::new();
-    if flags[0] & LAYER != 0 {
-        rest.extend(layer.to_le_bytes());
-    }
-    rest.extend(vec![0xEE; more]);
-    with_fields(&flags, stamp, &rest, data)
-}
-
-fn with_fields(flags: &[u8], stamp: u32, rest: &[u8], data: &[u8]) -> Vec<u8> {
-    let mut t = [&[0], flags].concat();
-    if flags[0] & PTS != 0 {
-        t.extend(stamp.to_le_bytes());
-    }
-    if flags[0] & SCR != 0 {
-        t.extend([0x5C; 6]);
-    }
-    t.extend(rest);
-    t[0] = t.len() as u8;
-    t.extend(data);
-    t
+/// The block with one byte changed.
+pub fn with(block: &[u8], at: usize, value: u8) -> Vec<u8> {
+    let mut b = block.to_vec();
+    b[at] = value;
+    b
 }

@@ -1,19 +1,18 @@
-//! Runs the launcher on fresh files, and compares what each program prints, and its status, with what the second reader says.
+//! Random runs of the launcher, each with what is to be printed of it.
 
-use crate::blocks::{CONTROL_TOTAL, STREAMING_TOTAL};
-use crate::cases::table;
-use crate::configurations;
-use crate::corpus::filler;
-use crate::frames::Opening;
-use crate::printed::{self, Printed, Words};
-use crate::random::{self, Random};
-use crate::random_traces;
-use crate::setup::{self, REQUESTS, SETTINGS};
-use crate::traces::{Form, Show, LEDGER, LONG, REPLAY, SHORT};
-use std::collections::BTreeMap;
-use std::io::Write;
-use std::path::Path;
-use std::process::{Command, Stdio};
+use crate::making::blocks::{filler, total, CONTROL_TOTAL, STREAMING_TOTAL};
+use crate::making::chance::Random;
+use crate::making::random::configurations;
+use crate::making::random::control::{control, linked_control, maybe_damaged_control};
+use crate::making::random::probe::probe;
+use crate::making::random::settings::{asked, packet, range};
+use crate::making::random::streaming::{maybe_damaged_streaming, streaming};
+use crate::making::random::traces;
+use crate::reading::frames::Opening;
+use crate::reading::printed::{self, Printed, Words};
+use crate::reading::setup::{self, REQUESTS, SETTINGS};
+use crate::reading::streaming::table;
+use crate::reading::traces::{Form, Show, LEDGER, LONG, REPLAY, SHORT};
 
 /// The most bytes of a control block, of a streaming block and of a configuration; and where a configuration has its total length.
 const CONTROL_MOST: usize = 4096;
@@ -22,16 +21,12 @@ const CONFIGURATION_MOST: usize = 32_768;
 const CONFIGURATION_TOTAL: usize = 2;
 
 /// A run of the launcher: its words, the files that they name, and what comes by standard input, in pieces.
-struct Run {
-    words: Vec<String>,
-    files: Vec<(&'static str, Vec<u8>)>,
-    pieces: Vec<Vec<u8>>,
-    wanted: Printed,
+pub struct Run {
+    pub words: Vec<String>,
+    pub files: Vec<(&'static str, Vec<u8>)>,
+    pub pieces: Vec<Vec<u8>>,
+    pub wanted: Printed,
 }
-
-/// Whether the launcher has `replay`, `frames` and `convert`; and whether it has `send`.
-const TRACES: bool = true;
-const SENDER: bool = true;
 
 /// A short trace, mostly of some records.
 fn trace(r: &mut Random, form: &Form, opening: &Opening) -> Vec<u8> {
@@ -40,14 +35,14 @@ fn trace(r: &mut Random, form: &Form, opening: &Opening) -> Vec<u8> {
         1 => 3000,
         _ => 60,
     };
-    random_traces::trace(r, form, opening, most)
+    traces::trace(r, form, opening, most)
 }
 
 /// Now and then a block as long as it may be, by descriptors that are stepped over, and mostly a byte longer.
 fn long(r: &mut Random, mut block: Vec<u8>, most: usize, total_at: usize) -> Vec<u8> {
     if block.len() + 3 <= most && r.once_in(10) {
         block.extend(filler(most - block.len()).concat());
-        crate::blocks::total(&mut block, total_at);
+        total(&mut block, total_at);
         if !r.once_in(3) {
             block.push(r.byte());
         }
@@ -84,7 +79,7 @@ fn setting(r: &mut Random, said: &Words) -> Run {
     let run = |words: &[&str], files, wanted| Run { words: named(&[&["setup"], words].concat()), files, pieces: vec![], wanted };
     match r.below(3) {
         0 => {
-            let (block, interface, unit, setting, request) = random::asked(r);
+            let (block, interface, unit, setting, request) = asked(r);
             let block = long(r, block, CONTROL_MOST, CONTROL_TOTAL);
             let interface = or(r, interface.to_string(), &["", "256", "-1", "0x1"]);
             let unit = or(r, unit.to_string(), &["", "256", "999", "1a"]);
@@ -94,8 +89,8 @@ fn setting(r: &mut Random, said: &Words) -> Run {
             run(&["build", "control", &interface, &unit, &setting, &request], vec![("control", block)], wanted)
         }
         1 => {
-            let mut it = random::asked(r);
-            let bytes = random::packet(r, &it);
+            let mut it = asked(r);
+            let bytes = packet(r, &it);
             it.0 = long(r, it.0, CONTROL_MOST, CONTROL_TOTAL);
             let interface = or(r, it.1.to_string(), &["", "256", "9", "+0"]);
             let wanted = said.read_back(&it.0, &interface, &bytes);
@@ -103,7 +98,7 @@ fn setting(r: &mut Random, said: &Words) -> Run {
         }
         _ => {
             let setting = SETTINGS[r.below(4)];
-            let words = random::range(r).map(|w| setup::number(setting, w).to_string());
+            let words = range(r).map(|w| setup::number(setting, w).to_string());
             let edges = ["70000", "-32769", "32768", "65536", "-1", "", "-", "1-", "007", "--1", "-0", "+5"];
             let words = words.map(|w| or(r, w, &edges));
             let setting = or(r, setting.to_string(), &names);
@@ -195,7 +190,7 @@ fn sent(r: &mut Random, said: &Words) -> Run {
 
 /// What may be run of what a run wrote: a replay of a trace that was sent, and one at the ledger program's sizes of a trace that was converted, which ends
 /// with what the ledger program prints of the short one.
-fn after(it: &Run, said: &Words) -> Option<Run> {
+pub fn after(it: &Run, said: &Words) -> Option<Run> {
     let trace = it.wanted.text.clone();
     let sizes = match it.words[0].as_str() {
         "send" => None,
@@ -218,16 +213,9 @@ fn after(it: &Run, said: &Words) -> Option<Run> {
     Some(Run { words, files: vec![("written", trace)], pieces: vec![], wanted })
 }
 
-fn run(r: &mut Random, said: &Words) -> Run {
+pub fn run(r: &mut Random, said: &Words) -> Run {
     let describe = |words: &[&str], files, wanted| Run { words: named(&[&["describe"], words].concat()), files, pieces: vec![], wanted };
-    let sorts = if SENDER {
-        26
-    } else if TRACES {
-        24
-    } else {
-        17
-    };
-    match r.below(sorts) {
+    match r.below(26) {
         10 | 11 => {
             let s = configurations::maybe_damaged(r);
             let s = long(r, s, CONFIGURATION_MOST, CONFIGURATION_TOTAL);
@@ -251,32 +239,32 @@ fn run(r: &mut Random, said: &Words) -> Run {
         17..=23 => traced(r, said),
         24 | 25 => sent(r, said),
         4 | 5 => {
-            let block = random::maybe_damaged_control(r);
+            let block = maybe_damaged_control(r);
             let block = long(r, block, CONTROL_MOST, CONTROL_TOTAL);
             let wanted = said.control(&block);
             describe(&["control", "control"], vec![("control", block)], wanted)
         }
         6 => {
-            let block = if r.once_in(2) { random::linked_control(r) } else { random::control(r) };
+            let block = if r.once_in(2) { linked_control(r) } else { control(r) };
             let block = long(r, block, CONTROL_MOST, CONTROL_TOTAL);
             let id = word(r);
             let wanted = said.map(&block, &id);
             describe(&["map", "control", &id], vec![("control", block)], wanted)
         }
         7 | 8 => {
-            let control = random::linked_control(r);
+            let control = linked_control(r);
             let control = long(r, control, CONTROL_MOST, CONTROL_TOTAL);
-            let (block, _) = random::maybe_damaged_streaming(r);
+            let (block, _) = maybe_damaged_streaming(r);
             let block = long(r, block, STREAMING_MOST, STREAMING_TOTAL);
             let wanted = said.streaming(&control, &block);
             describe(&["streaming", "control", "streaming"], vec![("control", control), ("streaming", block)], wanted)
         }
         _ => {
-            let control = random::linked_control(r);
+            let control = linked_control(r);
             let control = long(r, control, CONTROL_MOST, CONTROL_TOTAL);
-            let (block, offered) = if r.once_in(6) { random::maybe_damaged_streaming(r) } else { random::streaming(r) };
+            let (block, offered) = if r.once_in(6) { maybe_damaged_streaming(r) } else { streaming(r) };
             let block = long(r, block, STREAMING_MOST, STREAMING_TOTAL);
-            let mut probe = random::probe(r, table(&control).revision, &offered);
+            let mut probe = probe(r, table(&control).revision, &offered);
             if r.once_in(10) {
                 probe.push(r.byte());
             }
@@ -288,81 +276,4 @@ fn run(r: &mut Random, said: &Words) -> Run {
             )
         }
     }
-}
-
-/// Runs the launcher in the folder, and tells what it printed.
-fn launch(launcher: &str, folder: &Path, it: &Run) -> Result<Printed, String> {
-    let problem = |e: std::io::Error| format!("{launcher}: {e}");
-    for (name, bytes) in &it.files {
-        std::fs::write(folder.join(name), bytes).map_err(problem)?;
-    }
-    let mut child = Command::new(launcher)
-        .args(&it.words)
-        .current_dir(folder)
-        .stdin(Stdio::piped())
-        .stdout(Stdio::piped())
-        .stderr(Stdio::piped())
-        .spawn()
-        .map_err(problem)?;
-    let mut stdin = child.stdin.take().unwrap();
-    let pieces = it.pieces.clone();
-    // A program that stops at a bad record leaves the rest unread.
-    let feeder = std::thread::spawn(move || pieces.iter().all(|p| stdin.write_all(p).is_ok()));
-    let out = child.wait_with_output().map_err(problem)?;
-    feeder.join().unwrap();
-    let status = out.status.code().unwrap_or(-1);
-    let aside = String::from_utf8_lossy(&out.stderr).into_owned();
-    match status {
-        2 if aside.is_empty() => Err("status 2, and nothing on standard error".to_string()),
-        2 => Ok(Printed { text: out.stdout, aside: String::new(), status }),
-        _ => Ok(Printed { text: out.stdout, aside, status }),
-    }
-}
-
-/// The first words of what is printed: the sort of answer, for the count at the end.
-fn sort(it: &Run) -> String {
-    if ["send", "convert", "replay", "frames"].contains(&it.words[0].as_str()) {
-        return format!("{} {}", it.words[0], it.wanted.status);
-    }
-    let text = String::from_utf8_lossy(&it.wanted.text);
-    let words: Vec<&str> = text.split_whitespace().collect();
-    match words[..] {
-        [] => "wrong call".to_string(),
-        ["refused", number, ..] => format!("{number:0>2}"),
-        ["delivered", ..] => "ledger".to_string(),
-        ["bad", ..] => "bad record".to_string(),
-        [word, ..] => word.to_string(),
-    }
-}
-
-fn told(it: &Run, got: &Result<Printed, String>) -> String {
-    let hex = |bytes: &[u8]| crate::session::hex(&bytes[..bytes.len().min(20_000)]);
-    let files: Vec<String> = it.files.iter().map(|(n, b)| format!("{n}: {}\n", hex(b))).collect();
-    format!(
-        "palkodhen {}\n{}by standard input: {}\nthe second reader: {:?}\nthe program: {got:?}",
-        it.words.join(" "),
-        files.concat(),
-        hex(&it.pieces.concat()),
-        it.wanted
-    )
-}
-
-pub fn compare(count: usize, seed: u64, page: &str, folder: &str, launcher: &str) -> Result<(), String> {
-    let said = Words::load(page)?;
-    let mut r = Random(seed);
-    let mut sorts: BTreeMap<String, usize> = BTreeMap::new();
-    for i in 1..=count {
-        let mut next = Some(run(&mut r, &said));
-        while let Some(it) = next {
-            let got = launch(launcher, Path::new(folder), &it);
-            if got.as_ref() != Ok(&it.wanted) {
-                return Err(format!("seed {seed}: run {i} differs: {}", told(&it, &got)));
-            }
-            *sorts.entry(sort(&it)).or_default() += 1;
-            next = after(&it, &said);
-        }
-    }
-    let sorts: Vec<String> = sorts.iter().map(|(k, n)| format!("{k} {n}")).collect();
-    println!("second: {count} runs of the programs, seed {seed}: no difference ({})", sorts.join(", "));
-    Ok(())
 }

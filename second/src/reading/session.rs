@@ -1,36 +1,11 @@
 //! Opening, and a list of calls on a session: what each answers, from the list alone, and what the session's record is after it.
 
-use crate::frames::{answer, hand_out, judge, ledger, reason_name, written};
-use crate::frames::{Becomes, Call, Opening, Reason, Verdict};
-use crate::records::{self, Phase, Record, FAULTS};
-use crate::streaming::sizes;
+use crate::reading::frames::{answer, hand_out, judge, ledger, reason_name, written};
+use crate::reading::frames::{Becomes, Call, Opening, Reason, Verdict};
+use crate::reading::records::{self, Phase, Record, FAULTS};
+use crate::reading::sizes::sizes;
+use crate::reading::told::{hex, Told};
 use std::fmt::Write;
-
-/// How much is told of a list of calls: the buffer's hash after every call or after the last four, and the record after all or not.
-#[derive(Clone, Copy, Debug, PartialEq)]
-pub enum Told {
-    Plain,
-    Whole,
-    Room,
-}
-
-impl Told {
-    /// The end of a call's line, with so many calls left, this one included.
-    pub fn after(self, left: usize, buffer: &[u8]) -> String {
-        if self == Told::Room && left > 4 {
-            return "\n".to_string();
-        }
-        format!(" hash {}\n", hash(buffer))
-    }
-}
-
-pub fn hash(bytes: &[u8]) -> u32 {
-    bytes.iter().fold(2_166_136_261u32, |h, &b| h.wrapping_mul(16_777_619).wrapping_add(u32::from(b)))
-}
-
-pub fn hex(bytes: &[u8]) -> String {
-    bytes.iter().map(|b| format!("{b:02x}")).collect()
-}
 
 fn why(reason: Option<Reason>) -> &'static str {
     reason.map_or("none", reason_name)

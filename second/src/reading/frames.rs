@@ -1,6 +1,6 @@
 //! The frame rule from the whole list: at every call the list of calls taken is judged anew from its beginning.
 
-use crate::records::or_dash;
+use crate::reading::told::or_dash;
 
 #[derive(Clone, Debug, PartialEq)]
 pub enum Call {

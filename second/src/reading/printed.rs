@@ -1,14 +1,15 @@
 //! What the programs print, and their status: from documents 01 and 02, and the words from docs/NUMBERS.md.
 
-use crate::cases::{asked, controls, table};
-use crate::configuration;
-use crate::control;
-use crate::frames::Opening;
-use crate::sender::{self, Frame};
-use crate::setup::{self, REQUESTS, SETTINGS};
-use crate::streaming::{self, sizes};
-use crate::traces::{self, Form, Show, LEDGER, LONG, REPLAY, SHORT, STOP};
-use crate::Refusal;
+use crate::reading::configuration;
+use crate::reading::control::{self, controls};
+use crate::reading::frames::Opening;
+use crate::reading::probe::{check, fields};
+use crate::reading::refusal::Refusal;
+use crate::reading::sender::{self, Frame};
+use crate::reading::setup::{self, asked, REQUESTS, SETTINGS};
+use crate::reading::sizes::sizes;
+use crate::reading::streaming::{self, table};
+use crate::reading::traces::{self, Form, Show, LEDGER, LONG, REPLAY, SHORT, STOP};
 use std::fmt::{self, Debug, Formatter, Write};
 
 /// What is written to standard output and to standard error, and the status: 0 answered, 1 refused or a bad record, 2 a wrong call. What a wrong call
@@ -215,8 +216,8 @@ impl Words {
     }
 
     pub fn probe(&self, control: &[u8], block: &[u8], probe: &[u8]) -> Printed {
-        let checked = control::read(control).and_then(|_| streaming::check(&table(control), block, probe));
-        self.told(checked.and_then(|()| streaming::fields(table(control).revision, probe)).map(|all| {
+        let checked = control::read(control).and_then(|_| check(&table(control), block, probe));
+        self.told(checked.and_then(|()| fields(table(control).revision, probe)).map(|all| {
             let (fields, layout) = all.split_at(FIELDS.len());
             let mut out = String::from("accepted\n");
             for (name, n) in FIELDS.iter().zip(fields) {

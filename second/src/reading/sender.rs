@@ -1,9 +1,10 @@
 //! A sender of frames, from document 02 (Nine): what each call of it answers, and a case of a sender with its receiver.
 
-use crate::blocks::{END, EOF, FID, PTS};
-use crate::frames::{Call, Opening};
-use crate::session::{self, hash, Told};
-use crate::traces::LONG;
+use crate::reading::flags::{END, EOF, FID, PTS};
+use crate::reading::frames::{Call, Opening};
+use crate::reading::session;
+use crate::reading::told::{hash, Told};
+use crate::reading::traces::LONG;
 use std::fmt::Write;
 
 #[derive(Clone, Debug)]

@@ -1,7 +1,7 @@
 //! Camera settings, document 02's request Eleven: packets are searched for among all that can be built, and the nearest number among all that are allowed.
 
-use crate::control;
-use crate::Refusal;
+use crate::reading::control;
+use crate::reading::refusal::Refusal;
 
 pub const SETTINGS: [&str; 4] = ["brightness", "contrast", "hue", "saturation"];
 pub const REQUESTS: [&str; 6] = ["get_cur", "get_min", "get_max", "get_res", "get_def", "set_cur"];
@@ -115,4 +115,9 @@ pub fn nearest(minimum: i64, maximum: i64, step: i64, wanted: i64) -> Result<i64
         n += step;
     }
     Ok(best)
+}
+
+/// The line of what a packet asks for.
+pub fn asked(unit: u8, setting: &str, request: &str) -> String {
+    format!("unit {unit} control {setting} request {request}\n")
 }

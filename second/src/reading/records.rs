@@ -1,8 +1,8 @@
 //! A session's record, call by call: any record, which may hold anything. Documents 01 and 02 say what each call changes.
 
-use crate::frames::{handed_out, sort, step, Becomes, Call, Delivery, HeaderKind, Opening, Sort};
-use crate::session::{hash, hex, Told};
-use crate::streaming::sizes;
+use crate::reading::frames::{handed_out, sort, step, Becomes, Call, Delivery, HeaderKind, Opening, Sort};
+use crate::reading::sizes::sizes;
+use crate::reading::told::{hash, hex, or_dash, Told};
 use std::fmt::Write;
 
 /// A fault is its number in the input of the answers program, 0 for none.
@@ -60,10 +60,6 @@ fn account(fault: u8) -> usize {
     } else {
         fault as usize
     }
-}
-
-pub fn or_dash<T: ToString>(number: Option<T>) -> String {
-    number.map_or("-".into(), |n| n.to_string())
 }
 
 impl Record {

@@ -1,9 +1,8 @@
 //! The whole configuration, from document 02's request One: it is split into its descriptors first, then asked number by number.
 
-use crate::cases::table;
-use crate::control;
-use crate::streaming::{self, Table};
-use crate::Refusal;
+use crate::reading::control;
+use crate::reading::refusal::Refusal;
+use crate::reading::streaming::{self, table, Table};
 use std::collections::HashMap;
 
 /// A descriptor, and where it stands.

@@ -1,4 +1,4 @@
-//! Cases: how they stand in the input of the answers program, and what is to be printed of each.
+//! Cases: how they stand in the input of the answers program.
 //!
 //! A case is a byte that names its kind, and what follows. Numbers are little-endian; a part is a length of four bytes and that many bytes.
 //!   C control    part block
@@ -32,17 +32,12 @@
 //! 1 under way and byte FID, byte fault (0 none, 1 gap to 6 empty, 9 mixed), eight bytes data so far, eight bytes fill, the stamp, byte still, the layer;
 //! 2 past a frame and byte FID.
 
-use crate::configuration;
-use crate::control::{self, Revision};
-use crate::frames::{Call, Opening};
-use crate::records::{self, Phase, Record};
-use crate::sender::Pair;
-use crate::session::{self, Told};
-use crate::setup::{self, REQUESTS, SETTINGS};
-use crate::streaming::{self, sizes, Place, Table};
-use crate::traces::{self, Show, LONG, REPLAY, SHORT};
-use crate::Refusal;
-use std::fmt::Write;
+use crate::reading::control::Revision;
+use crate::reading::frames::{Call, Opening};
+use crate::reading::records::{Phase, Record};
+use crate::reading::sender::Pair;
+use crate::reading::streaming::Place;
+use crate::reading::traces::Show;
 
 #[derive(Clone, Debug)]
 pub enum Case {
@@ -299,162 +294,7 @@ impl Case {
         }
         out
     }
-
-    /// What is to be printed, without the line that numbers the case.
-    pub fn answer(&self) -> String {
-        match self {
-            Case::Control(block) => control_answer(block),
-            Case::Map(block, id) => map_answer(block, *id),
-            Case::WholeMap(block, id) => {
-                let bytes = control::map(block, *id).unwrap_or_default();
-                let revision = table(block).revision.name();
-                format!("{}length {}\nrest zero\nrevision {revision}\n", map_answer(block, *id), bytes.len())
-            }
-            Case::Streaming(control, block) => streaming_answer(&table(control), block),
-            Case::Hostile(count, revision, places, block) => {
-                streaming_answer(&Table { revision: *revision, count: *count as usize, places: places.clone() }, block)
-            }
-            Case::Check(control, block, probe) => verdict("check", &streaming::check(&table(control), block, probe)),
-            Case::Write(revision, probe, room) => write_answer(*revision, probe, room),
-            Case::Configuration(s) => configuration_answer(s),
-            Case::Pick(s, interface, payload) => match configuration::pick(s, *interface, *payload) {
-                Ok(x) => format!("pick {} {}\n", x.number, x.bytes),
-                Err(r) => format!("pick refused {} at {}\n", r.number, r.offset),
-            },
-            Case::Calls { opening, buffer, calls } => session::calls(opening, buffer, calls, Told::Plain),
-            Case::Whole { opening, buffer, calls } => session::calls(opening, buffer, calls, Told::Whole),
-            Case::Room { opening, room, calls } => session::calls(opening, &vec![0; *room], calls, Told::Room),
-            Case::Forged(r, buffer, transfer) => records::forged(r, buffer, transfer),
-            Case::From(r, buffer, calls) => records::follow(r, buffer, calls, Told::Whole),
-            Case::Lent(bytes, r, buffer, call) => records::lent(bytes, r, buffer, call),
-            Case::Sent(pair) => pair.answer(),
-            Case::Trace(t) => trace_answer(t),
-            Case::Build { control, interface, unit, setting, request, room } => {
-                let mut room = room.clone();
-                let built = setup::build(control, *interface, *unit, SETTINGS[*setting], REQUESTS[*request], &mut room);
-                format!("{}room {}\n", verdict("build", &built), session::hex(&room))
-            }
-            Case::ReadBack(control, interface, bytes) => match setup::read(control, *interface, bytes) {
-                Ok((unit, setting, request)) => format!("read {}", asked(unit, setting, request)),
-                Err(r) => format!("read refused {} at {}\n", r.number, r.offset),
-            },
-            Case::Nearest(setting, words) => nearest_answer(SETTINGS[*setting], words),
-        }
-    }
 }
 
 /// What is shown of a trace, in the order of their bytes.
 pub const SHOWS: [Option<Show>; 4] = [Some(Show::Ledger), Some(Show::Replay), Some(Show::Frames), None];
-
-fn trace_answer(t: &Traced) -> String {
-    let Some(show) = t.show else {
-        let (bytes, bad) = traces::converted(&t.trace);
-        let stop = bad.map_or(String::new(), |n| format!("bad record {n}\n"));
-        return format!("converted {} hash {}\n{stop}", bytes.len(), session::hash(&bytes));
-    };
-    if let Err(r) = sizes(u64::from(t.frame), u64::from(t.payload)) {
-        return format!("open refused {}\n", r.number);
-    }
-    let opening = Opening { frame: t.frame as usize, payload: t.payload as usize, ..REPLAY };
-    traces::text(if t.long { &LONG } else { &SHORT }, show, &opening, &t.trace).0
-}
-
-fn map_answer(block: &[u8], id: u8) -> String {
-    match control::map(block, id) {
-        Ok(bytes) => controls(&bytes),
-        Err(r) => format!("map refused {} at {}\n", r.number, r.offset),
-    }
-}
-
-fn verdict<T>(name: &str, v: &Result<T, Refusal>) -> String {
-    match v {
-        Ok(_) => format!("{name} accepted\n"),
-        Err(r) => format!("{name} refused {} at {}\n", r.number, r.offset),
-    }
-}
-
-/// The line of what a packet asks for.
-pub fn asked(unit: u8, setting: &str, request: &str) -> String {
-    format!("unit {unit} control {setting} request {request}\n")
-}
-
-fn nearest_answer(setting: &str, words: &[u16; 4]) -> String {
-    let [minimum, maximum, step, wanted] = words.map(|w| setup::number(setting, w));
-    let read = setup::nearest(minimum, maximum, step, wanted);
-    let n = *read.as_ref().unwrap_or(&0);
-    format!("{}word {}\nnumber {n}\n", verdict("nearest", &read), n.rem_euclid(65_536))
-}
-
-/// The line of a unit's controls.
-pub fn controls(bytes: &[u8]) -> String {
-    let numbers: String = bytes.iter().map(|b| format!(" {b}")).collect();
-    format!("controls{numbers}\n")
-}
-
-/// The entity table of a control block; none, and 1.5, where it is refused.
-pub fn table(block: &[u8]) -> Table {
-    let (revision, entities) = control::read(block).map_or((Revision::New15, vec![]), |c| (c.revision, c.entities));
-    Table {
-        revision,
-        count: entities.len(),
-        places: entities.iter().map(|e| Place { id: e.id, kind: e.kind, terminal: e.terminal, offset: e.offset as u16 }).collect(),
-    }
-}
-
-fn control_answer(block: &[u8]) -> String {
-    let read = control::read(block);
-    let mut out = verdict("control", &read);
-    let (clock, entities) = read.map_or((0, vec![]), |c| (c.clock, c.entities));
-    write!(out, "count {}\nclock {clock}\n", entities.len()).unwrap();
-    for e in &entities {
-        writeln!(out, "entity {} {} {} {}", e.id, e.kind, e.terminal, e.offset).unwrap();
-    }
-    out + "rest zero\n"
-}
-
-fn streaming_answer(table: &Table, block: &[u8]) -> String {
-    let read = streaming::read(table, block);
-    let mut out = verdict("streaming", &read);
-    let s = read.unwrap_or(streaming::Streaming { endpoint: 0, link: 0, formats: vec![], frames: vec![] });
-    write!(out, "endpoint {}\nlink {}\nformats {}\n", s.endpoint, s.link, s.formats.len()).unwrap();
-    for f in &s.formats {
-        writeln!(out, "format {} {} {} {} {} {}", f.kind, f.guid, f.bits, f.frames, f.default, f.offset).unwrap();
-    }
-    writeln!(out, "frames {}", s.frames.len()).unwrap();
-    for f in &s.frames {
-        writeln!(out, "frame {} {} {} {} {} {} {}", f.format, f.width, f.height, f.size, f.interval, f.k, f.offset).unwrap();
-    }
-    out + "rest zero\n"
-}
-
-fn configuration_answer(s: &[u8]) -> String {
-    let read = configuration::read(s);
-    let mut out = verdict("configuration", &read);
-    if let Ok(c) = read {
-        writeln!(out, "interface {} {} {}\nstreams {}", c.interface, c.offset, c.length, c.streams.len()).unwrap();
-        for x in &c.streams {
-            writeln!(out, "stream {} {} {} {}", x.interface, x.offset, x.length, x.endpoint).unwrap();
-            for y in &x.settings {
-                writeln!(out, "setting {} {}", y.number, y.bytes).unwrap();
-            }
-        }
-    } else {
-        out += "interface 0 0 0\nstreams 0\n";
-    }
-    out + "rest zero\n"
-}
-
-fn write_answer(revision: Revision, probe: &[u8], room: &[u8]) -> String {
-    let read = streaming::fields(revision, probe);
-    let mut out = verdict("probe", &read);
-    let fields = read.unwrap_or(vec![0; 29]);
-    out += "fields";
-    for n in &fields {
-        write!(out, " {n}").unwrap();
-    }
-    out += "\n";
-    let mut room = room.to_vec();
-    out += &verdict("write", &streaming::write(revision, &fields, &mut room));
-    writeln!(out, "room {}", session::hex(&room)).unwrap();
-    out
-}

@@ -1,7 +1,7 @@
 //! Traces: records of either size, the calls that they stand for, and what the trace programs print of them. From documents 01 and 02 (Thirteen).
 
-use crate::frames::{judge, ledger, reason_name, step, Becomes, Call, HeaderKind, Judged, Opening, Verdict};
-use crate::records::or_dash;
+use crate::reading::frames::{judge, ledger, reason_name, step, Becomes, Call, HeaderKind, Judged, Opening, Verdict};
+use crate::reading::told::or_dash;
 use std::fmt::Write;
 use std::ops::Range;
 

@@ -1,8 +1,11 @@
 //! Runs a program on fresh cases, and compares what it prints with the second reader's answers.
 
-use crate::cases::Case;
-use crate::corpus;
-use crate::random::{self, Random};
+use crate::corpus::calls::rooms;
+use crate::making::answers::expected;
+use crate::making::cases::Case;
+use crate::making::chance::Random;
+use crate::making::random::any;
+use crate::reading::told::hex;
 use std::io::{Read, Write};
 use std::process::{Command, Stdio};
 
@@ -26,11 +29,6 @@ fn output(command: &[&str], input: Vec<u8>) -> Result<Vec<u8>, String> {
     Ok(printed)
 }
 
-/// What the second reader prints of a list of cases.
-pub fn expected(cases: &[Case]) -> Vec<String> {
-    cases.iter().enumerate().map(|(i, c)| format!("case {}\n{}", i + 1, c.answer())).collect()
-}
-
 /// The part of what was printed that belongs to case n, counted from 1.
 fn of_case(printed: &[u8], n: usize) -> String {
     let text = String::from_utf8_lossy(printed);
@@ -44,7 +42,7 @@ fn difference(first: usize, cases: &[Case], wanted: &[String], printed: &[u8]) -
         let got = of_case(printed, i + 1);
         if got != *want {
             let bytes = case.bytes();
-            let hex = crate::session::hex(&bytes[..bytes.len().min(20_000)]);
+            let hex = hex(&bytes[..bytes.len().min(20_000)]);
             let place = want.lines().zip(got.lines()).position(|(a, b)| a != b).unwrap_or(0);
             return format!(
                 "case {} (kind {}) differs, first in line {}\nthe case: {hex}\nthe second reader:\n{want}the program:\n{got}",
@@ -61,11 +59,11 @@ pub fn run(count: usize, seed: u64, command: &[&str]) -> Result<(), String> {
     let mut r = Random(seed);
     let mut calls = 0;
     // First those that are too large to be stored.
-    let mut next = corpus::calls::rooms();
+    let mut next = rooms();
     let count = count + next.len();
     let mut done = 0;
     while done < count {
-        let fresh = |r: &mut Random| (0..BATCH.min(count - done)).map(|_| random::case(r, CALLS)).collect();
+        let fresh = |r: &mut Random| (0..BATCH.min(count - done)).map(|_| any::case(r, CALLS)).collect();
         let cases: Vec<Case> = if next.is_empty() { fresh(&mut r) } else { std::mem::take(&mut next) };
         let wanted = expected(&cases);
         let printed = output(command, cases.iter().flat_map(Case::bytes).collect())?;

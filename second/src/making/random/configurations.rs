@@ -1,34 +1,12 @@
 //! Random configurations: a camera's whole descriptors, with what may stand between them, and the same with damage.
 
-use crate::blocks;
-use crate::cases::Case;
-use crate::random::{self, Random};
-
-/// An interface descriptor.
-pub fn interface(number: u8, setting: u8, class: u8, subclass: u8) -> Vec<u8> {
-    vec![9, 4, number, setting, 1, class, subclass, 0, 0]
-}
-
-/// An endpoint descriptor.
-pub fn endpoint(address: u8, packet: u16) -> Vec<u8> {
-    let [low, high] = packet.to_le_bytes();
-    vec![7, 5, address, 5, low, high, 1]
-}
-
-/// The configuration of these descriptors.
-pub fn whole(descriptors: &[Vec<u8>]) -> Vec<u8> {
-    let mut s = vec![9, 2, 0, 0, 2, 1, 0, 0x80, 250];
-    s.extend(descriptors.concat());
-    total(&mut s);
-    s
-}
-
-pub fn total(s: &mut [u8]) {
-    let n = (s.len() as u16).to_le_bytes();
-    if s.len() > 3 {
-        s[2..4].copy_from_slice(&n);
-    }
-}
+use crate::making::blocks;
+use crate::making::cases::Case;
+use crate::making::chance::Random;
+use crate::making::configurations::{endpoint, interface, total, whole};
+use crate::making::random::control::linked_control;
+use crate::making::random::streaming::{maybe_damaged_streaming, streaming};
+use crate::reading::configuration::read;
 
 /// A wMaxPacketSize.
 fn packet(r: &mut Random) -> u16 {
@@ -74,7 +52,7 @@ pub fn configuration(r: &mut Random) -> Vec<u8> {
     if r.once_in(6) {
         entries.truncate(r.below(entries.len() + 1));
     }
-    let mut control = random::linked_control(r);
+    let mut control = linked_control(r);
     if !r.once_in(10) {
         control = blocks::control(
             48_000_000,
@@ -97,8 +75,8 @@ pub fn configuration(r: &mut Random) -> Vec<u8> {
     }
     for &number in &numbers {
         let block = match r.below(12) {
-            0 => random::maybe_damaged_streaming(r).0,
-            1 => random::streaming(r).0,
+            0 => maybe_damaged_streaming(r).0,
+            1 => streaming(r).0,
             _ => plain(0x80 | r.below(16) as u8),
         };
         let address = if r.once_in(10) { 0x82 } else { *block.get(6).unwrap_or(&0x81) };
@@ -197,8 +175,7 @@ pub fn maybe_damaged(r: &mut Random) -> Vec<u8> {
 
 /// A payload size near what the settings have.
 pub fn payload(r: &mut Random, s: &[u8]) -> u32 {
-    let sizes: Vec<u32> =
-        crate::configuration::read(s).map_or(vec![], |c| c.streams.iter().flat_map(|x| x.settings.iter().map(|y| y.bytes)).collect());
+    let sizes: Vec<u32> = read(s).map_or(vec![], |c| c.streams.iter().flat_map(|x| x.settings.iter().map(|y| y.bytes)).collect());
     if sizes.is_empty() || r.once_in(5) {
         return r.pick(&[0, 1, 3_072, 8_188, 8_189, 65_536, u32::MAX]);
     }
@@ -207,7 +184,7 @@ pub fn payload(r: &mut Random, s: &[u8]) -> u32 {
 
 /// A number of an interface, mostly one that is listed.
 pub fn number(r: &mut Random, s: &[u8]) -> u8 {
-    match crate::configuration::read(s) {
+    match read(s) {
         Ok(c) if !c.streams.is_empty() && !r.once_in(8) => r.pick(&c.streams).interface,
         _ => r.below(4) as u8,
     }

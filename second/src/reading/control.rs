@@ -1,7 +1,7 @@
 //! The VideoControl block, read from document 01's table and, for older cameras, document 02's request Four: each descriptor is split off first, then held to
 //! its rules.
 
-use crate::Refusal;
+use crate::reading::refusal::Refusal;
 
 #[derive(Clone, Debug, PartialEq)]
 pub struct Entity {
@@ -254,4 +254,10 @@ fn sources(entities: &[Entity]) -> Result<(), Refusal> {
 pub fn map(block: &[u8], id: u8) -> Result<Vec<u8>, Refusal> {
     let control = read(block)?;
     control.entities.into_iter().find(|e| e.id == id).and_then(|e| e.map).ok_or(Refusal { number: 16, offset: 0 })
+}
+
+/// The line of a unit's controls.
+pub fn controls(bytes: &[u8]) -> String {
+    let numbers: String = bytes.iter().map(|b| format!(" {b}")).collect();
+    format!("controls{numbers}\n")
 }

@@ -1,0 +1,5 @@
+//! The commands: it stands on all the others.
+
+pub mod commands;
+mod compare;
+mod programs;
