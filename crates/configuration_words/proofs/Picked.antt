@@ -33,7 +33,7 @@ use Rattle.alternate_settings.proofs.Picking.{nothing-exactly, fewest-exactly}
 use Rattle.configuration_layout.specs.Broken as layout-broken
 use Rattle.configuration.specs.Inner.{ConfigurationIs}
 use Rattle.configuration.specs.declared.Configuration.{Configuration}
-use Rattle.picking.specs.Inner.{settingsIn, settingsFor, refusedBy, answerOf, PickIs, own, ifElses}
+use Rattle.picking.specs.Inner.{settingsIn, settingsFor, refusedBy, answerOf, PickIs, own, picks}
 use Rattle.picking.specs.declared.Picked.{Picked}
 use Rattle.configuration_words.specs.Broken.{Sound, FirstBroken, by-layout, by-control, by-73, by-streaming}
 use Rattle.configuration_words.specs.Picked.{FirstOf, SettingsAre, HoldsIn, PickedIn, Picks}
@@ -190,7 +190,7 @@ module _ (s : List ℕ) where
 
     pub picked : {x : Picked} → PickIs s i p x → Picks s i p x
     unfolding refusedBy
-    picked (ifElses c a e) = chosen c a e (fewestOf p (settingsFor s i)) refl
+    picked (picks c a e) = chosen c a e (fewestOf p (settingsFor s i)) refl
     picked (own c j q a e) = record {
       own-refusal = λ k o n. (λ v. refused s c a k o .0 (e ∙ v), λ f. sym e ∙ refused s c a k o .1 f);
       no-setting = (λ v. absurd (not-74 (refused s c a j q .0 e) (same-refusal j q 74 0 v .0)), λ d. absurd (clash (c .verdict) j q e (accepted s c a .1 (d .0))));
@@ -201,7 +201,7 @@ module _ (s : List ℕ) where
     pub zero-pick : {x : Picked} → PickIs s i p x → (k o : ℕ) → x .verdict ≡ Refused k o → x .setting ≡ noSetting
     unfolding answerOf refusedBy
     zero-pick (own c j q a e) k o v = refl
-    zero-pick (ifElses c a e) k o v = go (fewestOf p (settingsFor s i)) v
+    zero-pick (picks c a e) k o v = go (fewestOf p (settingsFor s i)) v
       where
         go : (h : Choice) → answerOf h .verdict ≡ Refused k o → answerOf h .setting ≡ noSetting
         go Nothing v = refl
