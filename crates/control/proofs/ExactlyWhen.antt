@@ -20,7 +20,7 @@ use Rattle.entities.specs.declared.Entity.{Entity}
 use Rattle.control_rules.specs.Rules.{headRows, rowsIn, kindRows, entityRows}
 use Rattle.sources.specs.Sources.{Breaks13, Breaks14, Breaks15, None, Judged, Judged.thirteen, Judged.fourteen, Judged.fifteen, Judged.fine}
 use Rattle.control.specs.Answer.{course, refusedBy, tableOf, ControlIs, ControlIs.block, ControlIs.descriptor, ControlIs.source, ControlIs.sound}
-use Rattle.control.specs.Broken.{BlockRight, Entities, Sound, FirstEntity, FirstBroken, FirstBroken.by-block, FirstBroken.by-descriptor, FirstBroken.by-13, FirstBroken.by-14, FirstBroken.by-15}
+use Rattle.control.specs.Broken.{BlockRight, Entities, Sound, FirstEntity, Looped, FirstBroken, FirstBroken.by-block, FirstBroken.by-descriptor, FirstBroken.by-13, FirstBroken.by-14, FirstBroken.by-15}
 use Rattle.control.specs.declared.Control.{Control}
 use Rattle.control.proofs.Walking.{steady}
 use Rattle.control.proofs.Unique.{same-seen, read-unique}
@@ -112,16 +112,6 @@ module _ (s : List ℕ) where
   refused c r k o = (to-first r k o, λ f. ap (λ (x : Control). x .verdict) (read-unique s r (from-first f)))
 
   -- ---- 15
-  -- nothing earlier is broken, and the first entity that is on a loop stands at o
-  pub record Looped (o : ℕ) : Type 0 where
-    pub block : BlockRight s
-    pub descriptors : Clean (course s)
-    pub seen : List Entity
-    pub entities : Entities s seen
-    pub found : None seen (Breaks13 s seen)
-    pub plain : None seen (Breaks14 s seen)
-    pub loop : FirstEntity seen (Breaks15 s seen) o
-
   pub head-few : {k : ℕ} → Given (headRows s) k → k < 5
   unfolding wholeRows
   head-few g = given-each (λ k. k < 5) g (omega arith)
@@ -130,7 +120,7 @@ module _ (s : List ℕ) where
   unfolding rowsIn kindRows entityRows
   rows-few f = given-each (λ k. k < 13) (f .given) (omega arith)
 
-  to-loop : {k o : ℕ} → FirstBroken s k o → k ≡ 15 → Looped o
+  to-loop : {k o : ℕ} → FirstBroken s k o → k ≡ 15 → Looped s o
   to-loop (by-block k g) e = absurd (omega (arith, head-few g))
   to-loop (by-descriptor k o z f) e = absurd (omega (arith, rows-few f))
   to-loop (by-13 l o z h r f) e = absurd (omega arith)
@@ -138,7 +128,7 @@ module _ (s : List ℕ) where
   to-loop (by-15 l o z h r a b f) e = record { block = z; descriptors = h; seen = l; entities = r; found = a; plain = b; loop = f }
 
   -- 15 is given exactly when nothing earlier is broken and some chain of sources returns to its start; at the first entity on such a chain
-  pub fifteen-given : (c : Control) → ControlIs s c → (o : ℕ) → (c .verdict ≡ Refused 15 o) ↔ Looped o
+  pub fifteen-given : (c : Control) → ControlIs s c → (o : ℕ) → (c .verdict ≡ Refused 15 o) ↔ Looped s o
   fifteen-given c r o = (
     λ e. to-loop (to-first r 15 o e) refl,
     λ p. refused c r 15 o .1 (by-15 (p .seen) o (p .block) (p .descriptors) (p .entities) (p .found) (p .plain) (p .loop)),

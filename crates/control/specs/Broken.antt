@@ -40,3 +40,13 @@ pub data FirstBroken (s : List ℕ) : ℕ → ℕ → Type 0 where
   by-13 : (seen : List Entity) (o : ℕ) → BlockRight s → Clean (course s) → Entities s seen → FirstEntity seen (Breaks13 s seen) o → FirstBroken s 13 o
   by-14 : (seen : List Entity) (o : ℕ) → BlockRight s → Clean (course s) → Entities s seen → None seen (Breaks13 s seen) → FirstEntity seen (Breaks14 s seen) o → FirstBroken s 14 o
   by-15 : (seen : List Entity) (o : ℕ) → BlockRight s → Clean (course s) → Entities s seen → None seen (Breaks13 s seen) → None seen (Breaks14 s seen) → FirstEntity seen (Breaks15 s seen) o → FirstBroken s 15 o
+
+-- A LOOP: nothing earlier is broken, and the first entity that is on a chain of sources that returns to its start stands at o
+pub record Looped (s : List ℕ) (o : ℕ) : Type 0 where
+  pub block : BlockRight s
+  pub descriptors : Clean (course s)
+  pub seen : List Entity
+  pub entities : Entities s seen
+  pub found : None seen (Breaks13 s seen)
+  pub plain : None seen (Breaks14 s seen)
+  pub loop : FirstEntity seen (Breaks15 s seen) o

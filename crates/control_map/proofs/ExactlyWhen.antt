@@ -17,7 +17,7 @@ use Rattle.control.specs.Answer.{refusedBy, ControlIs}
 use Rattle.control.specs.Broken.{FirstBroken, FirstBroken.by-block, FirstBroken.by-descriptor, FirstBroken.by-13, FirstBroken.by-14, FirstBroken.by-15}
 use Rattle.rules.proofs.Verdicts as verdicts
 use Rattle.control.proofs.ExactlyWhen.{refused, from-first, head-few, rows-few}
-use Rattle.control_map.specs.Answer.{HasControls, AcceptedWith, Mapped, controlsAt, refusedMap, MapIs, MapIs.own, MapIs.given, MapIs.sixteen}
+use Rattle.control_map.specs.Answer.{HasControls, AcceptedWith, Mapped, controlsAt, refusedMap, MapIs, MapIs.own, MapIs.given, MapIs.sixteen, Unmapped, MappedAt}
 use Rattle.control_map.specs.declared.Map.{Map}
 use Rattle.control_map.proofs.Mapping.{entities-listed, mapped-once, place-else, place-is, apart}
 use Rattle.control_map.proofs.Unique.{controls-unique}
@@ -60,35 +60,20 @@ module _ (s : List ℕ) (id : ℕ) where
   pub own-given : (r : Map) → MapIs s id r → (k o : ℕ) → k < 16 → (r ≡ refusedMap k o) ↔ FirstBroken s k o
   own-given r m k o h = (to-own m k o h, λ f. controls-unique s id m (own k o (from-first s f)))
 
-  -- 16: the block is accepted, and no camera terminal or processing unit has the ID
-  pub record Unmapped : Type 0 where
-    pub seen : List Entity
-    pub with : AcceptedWith s seen
-    pub none : (i place : ℕ) → Mapped seen id i place → ⊥
-
-  to-sixteen : {r : Map} → MapIs s id r → r ≡ refusedMap 16 0 → Unmapped
+  to-sixteen : {r : Map} → MapIs s id r → r ≡ refusedMap 16 0 → Unmapped s id
   to-sixteen (own j p c) e = absurd (let x = same-number j p 16 0 e .0 in omega (arith, own-number (own-first j p c)))
   to-sixteen (given l a i n m) e = absurd (given-apart s _ n 16 0 e)
   to-sixteen (sixteen l a n) e = record { seen = l; with = a; none = n }
 
-  pub sixteen-given : (r : Map) → MapIs s id r → (r ≡ refusedMap 16 0) ↔ Unmapped
+  pub sixteen-given : (r : Map) → MapIs s id r → (r ≡ refusedMap 16 0) ↔ Unmapped s id
   sixteen-given r m = (to-sixteen m, λ u. controls-unique s id m (sixteen (u .seen) (u .with) (u .none)))
 
-  -- THE CONTROLS, of the entity that is mapped
-  pub record MappedAt (r : Map) : Type 0 where
-    pub seen : List Entity
-    pub with : AcceptedWith s seen
-    pub entity : ℕ
-    pub place : ℕ
-    pub mapped : Mapped seen id entity place
-    pub bytes : r ≡ controlsAt s (entityAt seen entity .offset) place
-
-  to-bytes : {r : Map} → MapIs s id r → r .verdict ≡ Accepted → MappedAt r
+  to-bytes : {r : Map} → MapIs s id r → r .verdict ≡ Accepted → MappedAt s id r
   to-bytes (own j p q) e = absurd (verdicts.apart j p e)
   to-bytes (given l w i n m) e = record { seen = l; with = w; entity = i; place = n; mapped = m; bytes = refl }
   to-bytes (sixteen l w n) e = absurd (verdicts.apart 16 0 e)
 
-  pub bytes-given : (r : Map) → MapIs s id r → (r .verdict ≡ Accepted) ↔ MappedAt r
+  pub bytes-given : (r : Map) → MapIs s id r → (r .verdict ≡ Accepted) ↔ MappedAt s id r
   bytes-given r m = (to-bytes m, λ u. verdict-of _ _ (u .bytes))
 
   -- ---- an entity of the ID, in an accepted block

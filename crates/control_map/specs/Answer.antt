@@ -60,3 +60,18 @@ pub data MapIs (s : List ℕ) (id : ℕ) : Map → Type 0 where
   given : (seen : List Entity) → AcceptedWith s seen → (i place : ℕ) → Mapped seen id i place → MapIs s id (controlsAt s (entityAt seen i .offset) place)
   -- 16: no camera terminal or processing unit has the ID
   sixteen : (seen : List Entity) → AcceptedWith s seen → ((i place : ℕ) → Mapped seen id i place → ⊥) → MapIs s id (refusedMap 16 0)
+
+-- WHEN: 16, the block is accepted and no camera terminal or processing unit has the ID;
+pub record Unmapped (s : List ℕ) (id : ℕ) : Type 0 where
+  pub seen : List Entity
+  pub with : AcceptedWith s seen
+  pub none : (i place : ℕ) → Mapped seen id i place → ⊥
+
+-- the control bytes, it is accepted and one has it: they are those of its descriptor
+pub record MappedAt (s : List ℕ) (id : ℕ) (r : Map) : Type 0 where
+  pub seen : List Entity
+  pub with : AcceptedWith s seen
+  pub entity : ℕ
+  pub place : ℕ
+  pub mapped : Mapped seen id entity place
+  pub bytes : r ≡ controlsAt s (entityAt seen entity .offset) place

@@ -18,28 +18,9 @@ use Rattle.rules.proofs.Verdicts.{apart}
 use Rattle.entities.specs.Revisions.{saysOf}
 use Rattle.entities.specs.declared.Revision.{Revision}
 use Rattle.entities.specs.declared.Revision.the-variants.{R10, R11, R15}
-use Rattle.probe.specs.Fields.{probeSize, bytesAt, fieldsOf, bytesOf, keptIn, probeOf, roomVerdict, written, WritesBack, ReadsBack}
+use Rattle.probe.specs.Fields.{probeSize, bytesAt, fieldsOf, bytesOf, keptIn, probeOf, roomVerdict, written, Held, AllBytes, WritesBack, ReadsBack}
 use Rattle.probe.specs.declared.Probe.{Probe}
 use Rattle.probe.proofs.Tests.{first-length, read-whole}
-
--- the fields of more than one byte are numbers of their width, and the layout has eight bytes: what the type of a probe says
-pub record Held (p : Probe) : Type 0 where
-  pub hint : p .hint < 2 ^ 16
-  pub interval : p .interval < 2 ^ 32
-  pub «key_rate» : p .«key_rate» < 2 ^ 16
-  pub «p_rate» : p .«p_rate» < 2 ^ 16
-  pub quality : p .quality < 2 ^ 16
-  pub window : p .window < 2 ^ 16
-  pub delay : p .delay < 2 ^ 16
-  pub «frame_size» : p .«frame_size» < 2 ^ 32
-  pub «payload_size» : p .«payload_size» < 2 ^ 32
-  pub clock : p .clock < 2 ^ 32
-  pub «rate_modes» : p .«rate_modes» < 2 ^ 16
-  pub layout : length (p .layout) ≡ 8
-
--- every element is a byte: what the type of a slice says
-abbrev Bytes : List ℕ → Type 0
-Bytes s = (i : ℕ) → getD s i 0 < 256
 
 -- ---- numbers and their bytes
 low : (a b : ℕ) → a < 256 → (a + b * 256) % 256 ≡ a
@@ -96,7 +77,7 @@ fields-back R11 p h = rw (two-back (p .hint) (h .hint), four-back (p .interval) 
 fields-back R15 p h = rw (two-back (p .hint) (h .hint), four-back (p .interval) (h .interval), two-back (p .«key_rate») (h .«key_rate»), two-back (p .«p_rate») (h .«p_rate»), two-back (p .quality) (h .quality), two-back (p .window) (h .window), two-back (p .delay) (h .delay), four-back (p .«frame_size») (h .«frame_size»), four-back (p .«payload_size») (h .«payload_size»), four-back (p .clock) (h .clock), two-back (p .«rate_modes») (h .«rate_modes»), bytes-all (p .layout) 8 (h .layout))
 
 -- ---- bytes to fields to bytes
-pub bytes-back : (s : List ℕ) → Bytes s → bytesOf (fieldsOf s) ≡ bytesAt s 0 48
+pub bytes-back : (s : List ℕ) → AllBytes s → bytesOf (fieldsOf s) ≡ bytesAt s 0 48
 unfolding fieldsOf bytesOf
 bytes-back s h =
     let q4 = four-bytes (getD s 4 0) (getD s 5 0) (getD s 6 0) (getD s 7 0) (h 4) (h 5) (h 6) (h 7) in
@@ -152,6 +133,6 @@ pub whole-back : (v : Revision) (p : Probe) (room now : List ℕ) → Held p →
 whole-back v p room now h l e k = rw e (read-written v p room h l)
 
 -- ---- what `read` promises: writing what was read gives the block's bytes back, and leaves the rest
-pub writes-back : (v : Revision) (s : List ℕ) (p : Probe) → Bytes s → p ≡ fieldsOf s → WritesBack v p s
+pub writes-back : (v : Revision) (s : List ℕ) (p : Probe) → AllBytes s → p ≡ fieldsOf s → WritesBack v p s
 writes-back v s p b e l room h =
     rw e (whole-is v (fieldsOf s) room h ∙ ap (λ (x : List ℕ). x ++ drop (probeSize v) room) (ap (take (probeSize v)) (bytes-back s b) ∙ first-bytes v s ∙ bytes-all s (probeSize v) l))

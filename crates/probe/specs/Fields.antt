@@ -1,5 +1,5 @@
 -- The bytes of a probe block, field by field, and what reading and writing them does. A block of an older revision has the first of the 48.
-use Prim.Native.Nat.{ℕ, zero, suc, _+_, _/_, _%_, _≤_}
+use Prim.Native.Nat.{ℕ, zero, suc, _+_, _/_, _%_, _^_, _≤_, _<_}
 use mathlib.Core.Path.{_≡_}
 use mathlib.Core.List.{List, [], _∷_, _++_}
 use lib.ListN.{length, getD, take, drop, replicate}
@@ -164,6 +164,25 @@ roomVerdict v room = ifElse (ltb (length room) (probeSize v)) (Refused 41 0) Acc
 
 unfoldable pub written : Revision → Probe → List ℕ → List ℕ
 written v p room = ifElse (ltb (length room) (probeSize v)) room (take (probeSize v) (bytesOf p) ++ drop (probeSize v) room)
+
+-- the fields of more than one byte are numbers of their width, and the layout has eight bytes: what the type of a probe says
+pub record Held (p : Probe) : Type 0 where
+  pub hint : p .hint < 2 ^ 16
+  pub interval : p .interval < 2 ^ 32
+  pub «key_rate» : p .«key_rate» < 2 ^ 16
+  pub «p_rate» : p .«p_rate» < 2 ^ 16
+  pub quality : p .quality < 2 ^ 16
+  pub window : p .window < 2 ^ 16
+  pub delay : p .delay < 2 ^ 16
+  pub «frame_size» : p .«frame_size» < 2 ^ 32
+  pub «payload_size» : p .«payload_size» < 2 ^ 32
+  pub clock : p .clock < 2 ^ 32
+  pub «rate_modes» : p .«rate_modes» < 2 ^ 16
+  pub layout : length (p .layout) ≡ 8
+
+-- every element is a byte: what the type of a slice says
+abbrev pub AllBytes : List ℕ → Type 0
+AllBytes s = (i : ℕ) → getD s i 0 < 256
 
 -- THE ROUND TRIP, over the revision. Every field is a number of its type and every byte is under 256, so that these hold of all that is read and written: they
 -- stand in the promises of `read` and `write`, where the types tell it.

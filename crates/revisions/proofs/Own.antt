@@ -36,10 +36,10 @@ use Rattle.control.proofs.Unique.{read-unique}
 use Rattle.control.proofs.ExactlyWhen.{accepted}
 use Rattle.control.proofs.Walking.{head-sizes}
 use Rattle.control.proofs.Listed.{lists}
-use Rattle.control_map.specs.Answer.{MapIs, controlsAt}
+use Rattle.control_map.specs.Answer.{MapIs, controlsAt, MappedAt}
 use Rattle.control_map.specs.declared.Map.{Map}
 use Rattle.control_map.proofs.Mapping.{entities-listed}
-use Rattle.control_map.proofs.ExactlyWhen.{only-these, MappedAt, bytes-given}
+use Rattle.control_map.proofs.ExactlyWhen.{only-these, bytes-given}
 use Rattle.probe.specs.Fields.{noFields}
 use Rattle.probe.proofs.Tests.{read-whole, read-wrong, write-short, write-whole}
 use Rattle.probe.proofs.Late.{fields-kept}

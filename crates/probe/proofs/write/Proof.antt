@@ -3,7 +3,8 @@ use native.Mathlib.Omega.{arith}
 use denote.Ref.{now}
 use lib.ListN.{length-map}
 use Rattle.probe.proofs.Tests.{write-short, write-whole, prefix-length, prefix-fits, copied}
-use Rattle.probe.proofs.RoundTrip.{Held, short-back, whole-back}
+use Rattle.probe.specs.Fields.{Held}
+use Rattle.probe.proofs.RoundTrip.{short-back, whole-back}
 use borrow.Author.Needs.{needs}
 use Rattle.probe.proofs.write.Statement.{statement}
 use Rattle.probe.proofs.write.Tie as tie
