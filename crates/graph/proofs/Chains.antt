@@ -63,13 +63,18 @@ module _ (E : ℕ → ℕ → Type 0) where
     chain-via (one e) = straight e
     chain-via (more e c) = over e (chain-from c) (chain-via c)
 
+-- an empty row draws no edge
+no-edge : (m : List ℕ) (k j : ℕ) → getD m k 0 ≡ 0 → Edge m k j → ⊥
+no-edge m k j z e = omega (arith, bit-zero j, sym (ap (λ (x : ℕ). bitOf x j) z) ∙ e)
+
 -- an edge starts at a row
 pub edge-from : (m : List ℕ) (i j : ℕ) → Edge m i j → (n : ℕ) → length m ≡ n → i < n
-edge-from m i j e n l = ⊎-elim (λ h. h) (λ h. absurd (no h)) (lt-or-ge i n)
-  where
-    no : n ≤ i → ⊥
-    no h = let z : getD m i 0 ≡ 0 = List·getD-eq-default m 0 (omega arith) in
-        omega (arith, bit-zero j, sym (ap (λ (x : ℕ). bitOf x j) z) ∙ e)
+edge-from m i j e n l =
+    ⊎-elim (λ h. h) (λ h. absurd (no-edge m i j (List·getD-eq-default m 0 (omega arith)) e)) (lt-or-ge i n)
+
+-- where row k is empty no two edges lead by way of k: the rows are what a round would make of them
+pub empty-adds-nothing : (m : List ℕ) (k : ℕ) → getD m k 0 ≡ 0 → (i j : ℕ) → Edge m i j ↔ Through (Edge m) k i j
+empty-adds-nothing m k z i j = (λ e. inl e, λ t. ⊎-elim (λ p. p) (λ p. absurd (no-edge m k j z (p .1))) t)
 
 -- the rows stand for the chains through nodes below k
 abbrev pub Stands : (ℕ → ℕ → Type 0) → ℕ → List ℕ → Type 0

@@ -35,7 +35,9 @@ fn close(m: &mut [u32; PLACES])
 {
     let mut k: usize = 0;
     while k < PLACES {
-        round(m, k);
+        if m[k] != 0 {
+            round(m, k);
+        }
         k += 1;
     }
 }
