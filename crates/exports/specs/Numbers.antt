@@ -7,6 +7,8 @@ use Rattle.rules.specs.declared.Verdict.the-variants.{Accepted, Refused}
 use Rattle.entities.specs.declared.Table.{Table}
 use Rattle.control.specs.declared.Control.{Control}
 use Rattle.control.specs.Answer.{ControlIs}
+use Rattle.configuration.specs.declared.Configuration.{Configuration}
+use Rattle.configuration.specs.Inner.{ConfigurationIs}
 use Rattle.streaming.specs.Inner.{streamingOf}
 
 unfoldable pub numberOf : Verdict → ℕ
@@ -29,3 +31,9 @@ pub record StreamingNumber (s t : List ℕ) (r : ℕ) : Type 0 where
   pub control : Control
   pub read : ControlIs s control
   pub number : r ≡ numberUnder (control .verdict) (control .table) t
+
+-- the configuration s is read so
+pub record ConfigurationNumber (s : List ℕ) (r : ℕ) : Type 0 where
+  pub configuration : Configuration
+  pub read : ConfigurationIs s configuration
+  pub number : r ≡ numberOf (configuration .verdict)

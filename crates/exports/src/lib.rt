@@ -2,7 +2,7 @@
 mod take;
 
 ghost use mathlib.Core.Path.{_≡_};
-ghost use Rattle.exports.specs.Numbers.{numberOf, numberUnder, ControlNumber, StreamingNumber};
+ghost use Rattle.exports.specs.Numbers.{numberOf, numberUnder, ControlNumber, StreamingNumber, ConfigurationNumber};
 use entities::Table;
 use rules::Verdict;
 
@@ -48,4 +48,14 @@ fn number_under(verdict: Verdict, table: Table, block: &[u8]) -> u64
             number_of(verdict)
         }
     }
+}
+
+// What reading a whole configuration says.
+#[no_mangle]
+pub extern "C" fn palkodhen_configuration(bytes: &[u8]) -> u64
+    ensures { λ r. ⌜ ConfigurationNumber (now (bytes .entry)) r ⌝ }
+{
+    let c = configuration::read(bytes);
+    let verdict = c.verdict;
+    number_of(verdict)
 }
