@@ -258,7 +258,7 @@ int main(void) {
     puts("control blocks: an input terminal first, and units whose 16 sources all name it");
     control_growth(0);
     puts("control blocks: the same with the terminal last. A source is sought in the table from its first place on, so its time grows with the entities, of which there are at\n"
-         "most 32; and the rounds that look for loops are always 32");
+         "most 32; and a round looks for loops for each entity that names a source");
     control_growth(1);
     puts("streaming blocks: frames of 57 intervals, the default last; reading the control block is taken off");
     streaming_growth();
