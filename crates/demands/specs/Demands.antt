@@ -27,7 +27,7 @@ use Rattle.probe.specs.Fields.{probeSize, fieldsOf, roomVerdict, written, Held,
 use Rattle.probe_check.specs.Answer.{checkOf}
 use Rattle.probe_check.specs.Broken.{Yes, No}
 use Rattle.configuration.specs.declared.Configuration.{Configuration}
-use Rattle.configuration.specs.Answer.{ConfigurationIs}
+use Rattle.configuration.specs.Inner.{ConfigurationIs}
 use Rattle.configuration_words.specs.Broken as configuration
 use Rattle.configuration_words.specs.Listed.{Lists-all}
 use Rattle.books.specs.Statement.{NoInputStops, FramesAreWhole, NothingGoesMissing}
