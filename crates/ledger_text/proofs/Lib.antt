@@ -1,6 +1,4 @@
 -- Laws of the report's text.
-pub mod Rows
-pub mod Texts
 pub mod Different
 pub mod Unique
 pub mod Samples

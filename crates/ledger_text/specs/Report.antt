@@ -2,7 +2,6 @@
 use mathlib.Core.List.{List, [], _∷_, _++_, map}
 use Prim.Native.Nat.{ℕ, _*_}
 use Prim.Native.String.{String}
-use lib.ListN.{getD}
 use Rattle.session_rules.specs.declared.Account.{Account}
 use Rattle.session_rules.specs.Accounts.{accounts, lineCount}
 use Rattle.trace.specs.declared.State.{State}
@@ -38,10 +37,6 @@ single s = record { name = bytes s; count = 1 }
 -- THE LINES: the accounts in their order, then the other counts
 unfoldable pub rows : List Row
 rows = map accountRow accounts ++ (single "lost" ∷ single "idle" ∷ single "ticks" ∷ single "backward" ∷ single "untimed" ∷ [])
-
--- the row of a line, from 0
-abbrev pub rowAt : ℕ → Row
-rowAt i = getD rows i (record { name = []; count = 0 })
 
 -- THE TEXT: the ledger's lines, or one line in their place
 abbrev pub textOf : State → List ℕ → List ℕ

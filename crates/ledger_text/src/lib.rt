@@ -1,15 +1,15 @@
 // The printed text of a report on a trace: the ledger's lines, or the one line in their place.
 ghost use mathlib.Core.Path.{_≡_};
-ghost use Prim.Native.Nat.{_+_, _≤_, _<_};
+ghost use Prim.Native.Nat.{_≤_};
 ghost use mathlib.Core.List.{[]};
 ghost use lib.ListN.{length};
 ghost use Rattle.io.specs.Counts.{Counts};
 ghost use Rattle.text.specs.Put.{Put};
-ghost use Rattle.text.specs.Text.{line as Text·line, lines};
+ghost use Rattle.text.specs.Text.{lines};
 ghost use Rattle.text.specs.Written.{answerOf, bufferOf};
-ghost use Rattle.session_rules.specs.Accounts.{numberCount, lineCount};
+ghost use Rattle.session_rules.specs.Accounts.{numberCount};
 ghost use Rattle.trace.specs.declared.State.{State};
-ghost use Rattle.ledger_text.specs.Report.{room, rowAt, rows, textOf, endText, shutText};
+ghost use Rattle.ledger_text.specs.Report.{room, rows, textOf, endText, shutText};
 ghost use Rattle.ledger_text.specs.Inner.{isUnsaid};
 use frame_lines::Show;
 use session_rules::Ledger;
@@ -19,53 +19,35 @@ use trace::State;
 // How many bytes are enough for any report: a line has at most 64.
 pub const ROOM: usize = 64 * Ledger::LINES;
 
-// How long the name of each line is, and how many numbers follow it: two of an account, one of any other.
-const WIDTHS: [usize; Ledger::LINES] = [9, 3, 5, 5, 4, 3, 5, 5, 5, 9, 5, 10, 7, 4, 4, 5, 8, 7];
-
-fn width(i: usize) -> usize
-    requires { ⌜ i < lineCount ⌝ }
-    ensures { λ r. ⌜ (r ≡ length (rowAt i .name)) × (r ≤ 10) ⌝ }
-{
-    WIDTHS[i]
-}
-
-fn count(i: usize) -> usize
-    requires { ⌜ i < lineCount ⌝ }
-    ensures { λ r. ⌜ (r ≡ rowAt i .count) × (r ≤ 2) ⌝ }
-{
-    if i < Ledger::ACCOUNTS {
-        return 2;
-    }
-    1
-}
-
-// One of the lines. The names stand in ten places each.
-fn row(buf: &mut [u8], at: usize, i: usize, ns: &[u64]) -> usize
-    requires { ⌜ (i < lineCount) × (length (now ns) ≤ 2) × (at + 64 ≤ length (now buf)) ⌝ }
-    ensures { λ r. ⌜ Put (now (buf .entry)) at (Text·line (rowAt i .name) (now (ns .entry))) r (now (buf .exit)) ⌝ }
-    ensures { λ r. ⌜ r ≤ at + 64 ⌝ }
-{
-    let names: &[u8] =
-        b"delivered gap       error     clock     long      cut       empty     still     mixed     under way stray     unreadableheaders   lost      idle      ticks     backward  untimed   ";
-    let from = 10 * i;
-    let to = from + width(i);
-    text::line(buf, at, &names[from..to], ns)
-}
+// How many numbers follow the name of each line: two of an account, one of any other.
+const COUNTS: [usize; Ledger::LINES] = [2, 2, 2, 2, 2, 2, 2, 2, 2, 2, 2, 2, 2, 1, 1, 1, 1, 1];
 
 fn ledger(buf: &mut [u8], ns: &[u64]) -> usize
     requires { ⌜ (length (now ns) ≡ numberCount) × (room ≤ length (now buf)) ⌝ }
     ensures { λ r. ⌜ Put (now (buf .entry)) 0 (lines rows (now (ns .entry))) r (now (buf .exit)) ⌝ }
 {
-    let mut at = 0;
-    let mut i = 0;
-    let mut from = 0;
-    while i < Ledger::LINES {
-        let to = from + count(i);
-        at = row(buf, at, i, &ns[from..to]);
-        from = to;
-        i += 1;
-    }
-    at
+    let names: &[u8] = b"\
+delivered\n\
+gap\n\
+error\n\
+clock\n\
+long\n\
+cut\n\
+empty\n\
+still\n\
+mixed\n\
+under way\n\
+stray\n\
+unreadable\n\
+headers\n\
+lost\n\
+idle\n\
+ticks\n\
+backward\n\
+untimed\n\
+";
+    let counts = COUNTS;
+    name_tables::lines(buf, 0, names, &counts, ns)
 }
 
 fn bad(buf: &mut [u8], n: u64) -> usize

@@ -1,102 +1,77 @@
--- THE LINES OF A PROBE BLOCK'S FIELDS TELL THE BLOCK.
+-- THE LINES OF A PROBE BLOCK'S FIELDS TELL THE BLOCK, and each field has its own line.
 use mathlib.Core.Path.{_≡_, refl, sym, ap, _∙_}
-use mathlib.Core.List.{List, [], _∷_, _++_, append-assoc}
+use mathlib.Core.List.{List, [], _∷_, _++_}
 use Prim.Native.Nat.{ℕ}
+use Prim.Native.String.{String}
 use lib.ListN.{length, getD}
 use Rattle.probe.specs.declared.Probe.{Probe}
 use Rattle.text.specs.Text.{bytes, line}
-use Rattle.text.proofs.Different.{line-split}
-use Rattle.probe_lines.specs.Fields.{choiceText, ratesText, timesText, sizesText, versionsText, limitsText, settingsText, layoutText, backText, fieldsText}
+use Rattle.text.proofs.Different.{line-split, lines-split}
+use Rattle.probe_lines.specs.Fields.{rows, numbersOf, layoutText, fieldsText}
 
-abbrev first : List ℕ → ℕ
-first l = getD l 0 0
+-- a field's line
+abbrev field : String → ℕ → List ℕ
+field name n = line (bytes name) (n ∷ [])
 
--- three lines of one number each
-abbrev trio : List ℕ → List ℕ → List ℕ → ℕ → ℕ → ℕ → List ℕ
-trio a b c i j k = line a (i ∷ []) ++ (line b (j ∷ []) ++ line c (k ∷ []))
+-- LINE BY LINE, what the table prints
+line-by-line : (p : Probe) →
+    fieldsText p
+    ≡ (field "hint" (p .hint)
+    ++ (field "format" (p .format)
+    ++ (field "frame" (p .frame)
+    ++ (field "interval" (p .interval)
+    ++ (field "key rate" (p .«key_rate»)
+    ++ (field "P rate" (p .«p_rate»)
+    ++ (field "quality" (p .quality)
+    ++ (field "window" (p .window)
+    ++ (field "delay" (p .delay)
+    ++ (field "frame size" (p .«frame_size»)
+    ++ (field "payload size" (p .«payload_size»)
+    ++ (field "clock" (p .clock)
+    ++ (field "framing" (p .framing)
+    ++ (field "preferred" (p .preferred)
+    ++ (field "minimum" (p .minimum)
+    ++ (field "maximum version" (p .maximum)
+    ++ (field "usage" (p .usage)
+    ++ (field "luma depth" (p .«luma_depth»)
+    ++ (field "settings" (p .settings)
+    ++ (field "reference frames" (p .«reference_frames»)
+    ++ (field "rate modes" (p .«rate_modes»)
+    ++ [])))))))))))))))))))))
+    ++ line (bytes "layout") (p .layout)
+line-by-line p = refl
 
-three-split : (a b c : List ℕ) (i j k l m n : ℕ) (s t : List ℕ) → trio a b c i j k ++ s ≡ trio a b c l m n ++ t → ((i ∷ j ∷ k ∷ []) ≡ (l ∷ m ∷ n ∷ [])) × (s ≡ t)
-three-split a b c i j k l m n s t e =
-    let x = line-split a (i ∷ []) (l ∷ []) (line b (j ∷ []) ++ (line c (k ∷ []) ++ s)) (line b (m ∷ []) ++ (line c (n ∷ []) ++ t)) refl (sym (apart i j k s) ∙ (e ∙ apart l m n t)) in
-    let y = line-split b (j ∷ []) (m ∷ []) (line c (k ∷ []) ++ s) (line c (n ∷ []) ++ t) refl (x .1) in
-    let z = line-split c (k ∷ []) (n ∷ []) s t refl (y .1) in
-    let p : i ≡ l = ap first (x .0) in
-    let q : j ≡ m = ap first (y .0) in
-    let r : k ≡ n = ap first (z .0) in
-    (rw (p, q, r), z .1)
-  where
-    apart : (i j k : ℕ) (s : List ℕ) → trio a b c i j k ++ s ≡ line a (i ∷ []) ++ (line b (j ∷ []) ++ (line c (k ∷ []) ++ s))
-    apart i j k s = append-assoc (line a (i ∷ [])) (line b (j ∷ []) ++ line c (k ∷ [])) s ∙ ap (λ (l : List ℕ). line a (i ∷ []) ++ l) (append-assoc (line b (j ∷ [])) (line c (k ∷ [])) s)
-
--- the fields' text from a part on
-abbrev fromSettings : Probe → List ℕ
-fromSettings p = settingsText p ++ layoutText p
-
-abbrev fromLimits : Probe → List ℕ
-fromLimits p = limitsText p ++ fromSettings p
-
-abbrev fromVersions : Probe → List ℕ
-fromVersions p = versionsText p ++ fromLimits p
-
-abbrev fromSizes : Probe → List ℕ
-fromSizes p = sizesText p ++ fromVersions p
-
-abbrev fromTimes : Probe → List ℕ
-fromTimes p = timesText p ++ fromSizes p
-
-abbrev fromRates : Probe → List ℕ
-fromRates p = ratesText p ++ fromTimes p
-
-abbrev fromChoice : Probe → List ℕ
-fromChoice p = choiceText p ++ fromRates p
-
-in-order : (p : Probe) → fieldsText p ≡ fromChoice p
-in-order p =
-    append-assoc (choiceText p) (ratesText p ++ (timesText p ++ sizesText p)) (backText p)
-    ∙ ap (λ (l : List ℕ). choiceText p ++ l) (append-assoc (ratesText p) (timesText p ++ sizesText p) (backText p)
-    ∙ ap (λ (l : List ℕ). ratesText p ++ l) (append-assoc (timesText p) (sizesText p) (backText p)))
-
--- a probe block of seven times three numbers and a layout
-probeOf : List ℕ → List ℕ → List ℕ → List ℕ → List ℕ → List ℕ → List ℕ → List ℕ → Probe
-probeOf a b c d e f g l =
+-- a probe block of its numbers and its layout
+probeOf : List ℕ → List ℕ → Probe
+probeOf ns l =
     record {
-      hint = getD a 0 0;
-      format = getD a 1 0;
-      frame = getD a 2 0;
-      interval = getD b 0 0;
-      «key_rate» = getD b 1 0;
-      «p_rate» = getD b 2 0;
-      quality = getD c 0 0;
-      window = getD c 1 0;
-      delay = getD c 2 0;
-      «frame_size» = getD d 0 0;
-      «payload_size» = getD d 1 0;
-      clock = getD d 2 0;
-      framing = getD e 0 0;
-      preferred = getD e 1 0;
-      minimum = getD e 2 0;
-      maximum = getD f 0 0;
-      usage = getD f 1 0;
-      «luma_depth» = getD f 2 0;
-      settings = getD g 0 0;
-      «reference_frames» = getD g 1 0;
-      «rate_modes» = getD g 2 0;
+      hint = getD ns 0 0;
+      format = getD ns 1 0;
+      frame = getD ns 2 0;
+      interval = getD ns 3 0;
+      «key_rate» = getD ns 4 0;
+      «p_rate» = getD ns 5 0;
+      quality = getD ns 6 0;
+      window = getD ns 7 0;
+      delay = getD ns 8 0;
+      «frame_size» = getD ns 9 0;
+      «payload_size» = getD ns 10 0;
+      clock = getD ns 11 0;
+      framing = getD ns 12 0;
+      preferred = getD ns 13 0;
+      minimum = getD ns 14 0;
+      maximum = getD ns 15 0;
+      usage = getD ns 16 0;
+      «luma_depth» = getD ns 17 0;
+      settings = getD ns 18 0;
+      «reference_frames» = getD ns 19 0;
+      «rate_modes» = getD ns 20 0;
       layout = l;
     }
-
-probe-of-parts : {a a₂ b b₂ c c₂ d d₂ e e₂ f f₂ g g₂ l l₂ : List ℕ} → a ≡ a₂ → b ≡ b₂ → c ≡ c₂ → d ≡ d₂ → e ≡ e₂ → f ≡ f₂ → g ≡ g₂ → l ≡ l₂
-    → probeOf a b c d e f g l ≡ probeOf a₂ b₂ c₂ d₂ e₂ f₂ g₂ l₂
-probe-of-parts m n o p q r s t = rw (m, n, o, p, q, r, s, t)
 
 pub fields-different : (p q : Probe) → length (p .layout) ≡ 8 → length (q .layout) ≡ 8 → fieldsText p ≡ fieldsText q → p ≡ q
 unfolding probeOf
 fields-different p q h k e =
-    let a = three-split (bytes "hint") (bytes "format") (bytes "frame") (p .hint) (p .format) (p .frame) (q .hint) (q .format) (q .frame) (fromRates p) (fromRates q) (sym (in-order p) ∙ (e ∙ in-order q)) in
-    let b = three-split (bytes "interval") (bytes "key rate") (bytes "P rate") (p .interval) (p .«key_rate») (p .«p_rate») (q .interval) (q .«key_rate») (q .«p_rate») (fromTimes p) (fromTimes q) (a .1) in
-    let c = three-split (bytes "quality") (bytes "window") (bytes "delay") (p .quality) (p .window) (p .delay) (q .quality) (q .window) (q .delay) (fromSizes p) (fromSizes q) (b .1) in
-    let d = three-split (bytes "frame size") (bytes "payload size") (bytes "clock") (p .«frame_size») (p .«payload_size») (p .clock) (q .«frame_size») (q .«payload_size») (q .clock) (fromVersions p) (fromVersions q) (c .1) in
-    let f = three-split (bytes "framing") (bytes "preferred") (bytes "minimum") (p .framing) (p .preferred) (p .minimum) (q .framing) (q .preferred) (q .minimum) (fromLimits p) (fromLimits q) (d .1) in
-    let g = three-split (bytes "maximum version") (bytes "usage") (bytes "luma depth") (p .maximum) (p .usage) (p .«luma_depth») (q .maximum) (q .usage) (q .«luma_depth») (fromSettings p) (fromSettings q) (f .1) in
-    let i = three-split (bytes "settings") (bytes "reference frames") (bytes "rate modes") (p .settings) (p .«reference_frames») (p .«rate_modes») (q .settings) (q .«reference_frames») (q .«rate_modes») (layoutText p) (layoutText q) (g .1) in
-    let l = line-split (bytes "layout") (p .layout) (q .layout) [] [] (h ∙ sym k) (ap (λ (r : List ℕ). r ++ []) (i .1)) in
-    probe-of-parts (a .0) (b .0) (c .0) (d .0) (f .0) (g .0) (i .0) (l .0)
+    let w = lines-split rows (numbersOf p) (numbersOf q) (layoutText (p .layout)) (layoutText (q .layout)) refl refl e in
+    let l = line-split (bytes "layout") (p .layout) (q .layout) [] [] (h ∙ sym k) (ap (_++ []) (w .1)) in
+    λ i. probeOf (w .0 i) (l .0 i)

@@ -1,2 +1,3 @@
 -- Laws of a probe block's lines.
+pub mod Joined
 pub mod Different

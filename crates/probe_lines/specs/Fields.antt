@@ -3,42 +3,68 @@ use mathlib.Core.List.{List, [], _∷_, _++_}
 use Prim.Native.Nat.{ℕ}
 use Prim.Native.String.{String}
 use Rattle.probe.specs.declared.Probe.{Probe}
-use Rattle.text.specs.Text.{bytes, line}
+use Rattle.text.specs.Text.{Row, bytes, line, lines}
 
-abbrev pub field : String → ℕ → List ℕ
-field name n = line (bytes name) (n ∷ [])
+-- a field of one number
+abbrev pub single : String → Row
+single s = record { name = bytes s; count = 1 }
 
-abbrev pub choiceText : Probe → List ℕ
-choiceText p = field "hint" (p .hint) ++ (field "format" (p .format) ++ (field "frame" (p .frame)))
+-- THE LINES: each field has one number; the layout comes behind them
+abbrev pub rows : List Row
+rows =
+    single "hint" ∷
+    single "format" ∷
+    single "frame" ∷
+    single "interval" ∷
+    single "key rate" ∷
+    single "P rate" ∷
+    single "quality" ∷
+    single "window" ∷
+    single "delay" ∷
+    single "frame size" ∷
+    single "payload size" ∷
+    single "clock" ∷
+    single "framing" ∷
+    single "preferred" ∷
+    single "minimum" ∷
+    single "maximum version" ∷
+    single "usage" ∷
+    single "luma depth" ∷
+    single "settings" ∷
+    single "reference frames" ∷
+    single "rate modes" ∷
+    []
 
-abbrev pub ratesText : Probe → List ℕ
-ratesText p = field "interval" (p .interval) ++ (field "key rate" (p .«key_rate») ++ (field "P rate" (p .«p_rate»)))
-
-abbrev pub timesText : Probe → List ℕ
-timesText p = field "quality" (p .quality) ++ (field "window" (p .window) ++ (field "delay" (p .delay)))
-
-abbrev pub sizesText : Probe → List ℕ
-sizesText p = field "frame size" (p .«frame_size») ++ (field "payload size" (p .«payload_size») ++ (field "clock" (p .clock)))
-
-abbrev pub versionsText : Probe → List ℕ
-versionsText p = field "framing" (p .framing) ++ (field "preferred" (p .preferred) ++ (field "minimum" (p .minimum)))
-
-abbrev pub limitsText : Probe → List ℕ
-limitsText p = field "maximum version" (p .maximum) ++ (field "usage" (p .usage) ++ (field "luma depth" (p .«luma_depth»)))
-
-abbrev pub settingsText : Probe → List ℕ
-settingsText p = field "settings" (p .settings) ++ (field "reference frames" (p .«reference_frames») ++ (field "rate modes" (p .«rate_modes»)))
+-- their numbers
+abbrev pub numbersOf : Probe → List ℕ
+numbersOf p =
+    p .hint ∷
+    p .format ∷
+    p .frame ∷
+    p .interval ∷
+    p .«key_rate» ∷
+    p .«p_rate» ∷
+    p .quality ∷
+    p .window ∷
+    p .delay ∷
+    p .«frame_size» ∷
+    p .«payload_size» ∷
+    p .clock ∷
+    p .framing ∷
+    p .preferred ∷
+    p .minimum ∷
+    p .maximum ∷
+    p .usage ∷
+    p .«luma_depth» ∷
+    p .settings ∷
+    p .«reference_frames» ∷
+    p .«rate_modes» ∷
+    []
 
 -- the eight numbers of the layout
-abbrev pub layoutText : Probe → List ℕ
-layoutText p = line (bytes "layout") (p .layout)
-
-abbrev pub frontText : Probe → List ℕ
-frontText p = choiceText p ++ (ratesText p ++ (timesText p ++ sizesText p))
-
-abbrev pub backText : Probe → List ℕ
-backText p = versionsText p ++ (limitsText p ++ (settingsText p ++ layoutText p))
+abbrev pub layoutText : List ℕ → List ℕ
+layoutText l = line (bytes "layout") l
 
 -- ALL FIELDS
 abbrev pub fieldsText : Probe → List ℕ
-fieldsText p = frontText p ++ backText p
+fieldsText p = lines rows (numbersOf p) ++ layoutText (p .layout)

@@ -1,59 +1,22 @@
--- What the code's tables say of each number: tests that antt computes. From `beyond` on there are no words.
-use mathlib.Core.Path.{_≡_, refl}
-use mathlib.Core.Bool.{Bool, true}
+-- What the code's tables say of each number: tests that antt computes, and one law for every group. From `beyond` on there are no words.
+use mathlib.Core.Path.{_≡_, refl, ap}
+use mathlib.Core.Bool.{Bool, true, false}
 use mathlib.Core.List.{List, [], _∷_}
-use Prim.Native.Nat.{ℕ, zero, suc, _+_, _-_, _*_, _≤_, _<_}
+use Prim.Native.Nat.{ℕ, _+_, _-_, _*_, _≤_, _<_}
 use native.Mathlib.Omega.{arith}
-use borrow.Author.Tests.{ne-eqb}
-use lib.Dec.{T, eqb, eqb→eq, ltb, ltb→lt, leb, leb→le}
-use lib.ListN.{length, take, drop, getD}
+use borrow.Author.Tests.{ne-eqb, ltb-true, ltb-false}
+use lib.Dec.{T, eqb, ltb, ltb→lt, leb, leb→le}
+use lib.ListN.{length, length-append}
 use Rattle.text.specs.Put.{Put}
+use Rattle.text.specs.Text.{line}
 use Rattle.text.proofs.Computed.{both, both-left, both-right, every, below, equal, equal→eq}
+use Rattle.name_tables.specs.Tables.{nameAt}
 use Rattle.refusal_words.specs.Words.{Entry, table, wordsIn, wordsOf}
+use Rattle.refusal_words.specs.Inner.{Says}
 
 -- above every number of the table
 abbrev pub beyond : ℕ
 beyond = 96
-
--- the code's widths: how long the lines of k numbers are, from n on
-abbrev widthsFrom : ℕ → ℕ → List ℕ
-widthsFrom zero n = []
-widthsFrom (suc k) n = length (wordsOf n) ∷ widthsFrom k (suc n)
-
-abbrev pub widths : List ℕ
-widths = widthsFrom beyond 0
-
-most : (n : ℕ) → n < beyond → length (wordsOf n) ≤ 72
-unfolding wordsOf
-most n h = leb→le (length (wordsOf n)) 72 (below (λ i. leb (length (wordsOf i)) 72) beyond tt n h)
-
-pub width-right : (n : ℕ) → n < beyond → (getD widths n 0 ≡ length (wordsOf n)) × (getD widths n 0 ≤ 72)
-unfolding wordsOf
-width-right n h =
-    let e : getD widths n 0 ≡ length (wordsOf n) = eqb→eq (getD widths n 0) (length (wordsOf n)) (below (λ i. eqb (getD widths i 0) (length (wordsOf i))) beyond tt n h) in
-    (e, omega (arith, most n h))
-
--- a group's text, from its first number on: each line of 72 bytes begins with its number's words
-abbrev beginsWith : ℕ → List ℕ → ℕ → Bool
-beginsWith first lines i = equal (take (length (wordsOf (first + i))) (drop (72 * i) lines)) (wordsOf (first + i))
-
-abbrev pub linesRight : ℕ → ℕ → List ℕ → Bool
-linesRight first many lines = every (beginsWith first lines) many
-
-line-at : (first many : ℕ) (lines : List ℕ) (n : ℕ) → first ≤ n → n < first + many → T (linesRight first many lines)
-    → take (length (wordsOf n)) (drop (72 * (n - first)) lines) ≡ wordsOf n
-line-at first many lines n l h t =
-    let e : first + (n - first) ≡ n = omega arith in
-    let b : T (beginsWith first lines (n - first)) = below (beginsWith first lines) many t (n - first) (omega arith) in
-    let c : T (equal (take (length (wordsOf n)) (drop (72 * (n - first)) lines)) (wordsOf n)) = rw e at b in
-    equal→eq (take (length (wordsOf n)) (drop (72 * (n - first)) lines)) (wordsOf n) c
-
-pub line-right : (first many : ℕ) (lines : List ℕ) (n w : ℕ) {old new : List ℕ} {at r : ℕ} → first ≤ n → n < first + many → w ≡ length (wordsOf n)
-    → Put old at (take (72 * (n - first) + w - 72 * (n - first)) (drop (72 * (n - first)) lines)) r new → T (linesRight first many lines) → Put old at (wordsOf n) r new
-line-right first many lines n w l h e p t =
-    let size : 72 * (n - first) + w - 72 * (n - first) ≡ length (wordsOf n) = omega arith in
-    let part : take (72 * (n - first) + w - 72 * (n - first)) (drop (72 * (n - first)) lines) ≡ wordsOf n = rw size (line-at first many lines n l h t) in
-    rw part at p
 
 -- every number of the table is below it
 abbrev lowIn : List Entry → Bool
@@ -69,3 +32,40 @@ past-in (e ∷ es) n t h =
 pub past : (n : ℕ) → beyond ≤ n → wordsOf n ≡ []
 unfolding wordsOf
 past n h = past-in table n tt h
+
+-- no line has over 72 bytes
+most-below : (n : ℕ) → n < beyond → length (wordsOf n) ≤ 72
+unfolding wordsOf
+most-below n h = leb→le (length (wordsOf n)) 72 (below (λ i. leb (length (wordsOf i)) 72) beyond tt n h)
+
+most : (n : ℕ) → length (wordsOf n) ≤ 72
+most n = by-test (ltb n beyond) refl
+  where
+    by-test : (b : Bool) → ltb n beyond ≡ b → length (wordsOf n) ≤ 72
+    by-test true e = most-below n (ltb-true n beyond e)
+    by-test false e = rw (past n (ltb-false n beyond e)) (omega arith)
+
+pub most-put : (n : ℕ) {old new : List ℕ} {at r : ℕ} → Put old at (wordsOf n) r new → r ≤ at + 72
+most-put n p = omega (arith, p .next, most n)
+
+-- A GROUP'S TEXT, from its first number on: each row is its number's words
+abbrev isSaid : ℕ → List ℕ → ℕ → Bool
+isSaid first t i = equal (line (nameAt i t) []) (wordsOf (first + i))
+
+abbrev pub areSaid : ℕ → ℕ → List ℕ → Bool
+areSaid first many t = every (isSaid first t) many
+
+pub row-right : (first many : ℕ) (t : List ℕ) (n : ℕ) → first ≤ n → n < first + many → T (areSaid first many t) → Says first n t
+row-right first many t n l h w =
+    let e : first + (n - first) ≡ n = omega arith in
+    let b : T (isSaid first t (n - first)) = below (isSaid first t) many w (n - first) (omega arith) in
+    let c : T (equal (line (nameAt (n - first) t) []) (wordsOf n)) = rw e at b in
+    record { words = equal→eq (line (nameAt (n - first) t) []) (wordsOf n) c }
+
+-- and its line
+module _ (first n : ℕ) (t : List ℕ) (s : Says first n t) where
+  pub row-fits : (at m : ℕ) → at + 72 ≤ m → at + length (nameAt (n - first) t) + 21 * 0 + 1 ≤ m
+  row-fits at m r = omega (arith, ap length (s .words), length-append (nameAt (n - first) t) (10 ∷ []), most n)
+
+  pub row-put : {old new : List ℕ} {at r : ℕ} → Put old at (line (nameAt (n - first) t) []) r new → Put old at (wordsOf n) r new
+  row-put p = rw (s .words) at p

@@ -61,16 +61,22 @@ empty : (ns : List ℕ) → length ns ≡ 0 → ns ≡ []
 empty [] h = refl
 empty (n ∷ ns) h = absurd (omega arith)
 
-pub lines-different : (rs : List Row) (ns ms : List ℕ) → length ns ≡ total rs → length ms ≡ total rs → lines rs ns ≡ lines rs ms → ns ≡ ms
-lines-different [] ns ms h k e = empty ns h ∙ sym (empty ms k)
-lines-different (r ∷ rs) ns ms h k e =
+-- the lines of some rows, and what follows them
+pub lines-split : (rs : List Row) (ns ms s t : List ℕ) → length ns ≡ total rs → length ms ≡ total rs → lines rs ns ++ s ≡ lines rs ms ++ t → (ns ≡ ms) × (s ≡ t)
+lines-split [] ns ms s t h k e = (empty ns h ∙ sym (empty ms k), e)
+lines-split (r ∷ rs) ns ms s t h k e =
     let c = r .count in
-    let w : (take c ns ≡ take c ms) × (lines rs (drop c ns) ≡ lines rs (drop c ms))
-    = line-split (r .name) (take c ns) (take c ms) (lines rs (drop c ns)) (lines rs (drop c ms))
-    (simp length-take (omega arith)) e in
-    let d : drop c ns ≡ drop c ms
-    = lines-different rs (drop c ns) (drop c ms) (simp length-drop (omega arith)) (simp length-drop (omega arith)) (w .1) in
-    sym (take-append-drop c ns) ∙ (rw (w .0, d) (take-append-drop c ms))
+    let a = line (r .name) (take c ns) in
+    let b = line (r .name) (take c ms) in
+    let x = lines rs (drop c ns) in
+    let y = lines rs (drop c ms) in
+    let w : (take c ns ≡ take c ms) × (x ++ s ≡ y ++ t) =
+    line-split (r .name) (take c ns) (take c ms) (x ++ s) (y ++ t) (simp length-take (omega arith)) (sym (append-assoc a x s) ∙ (e ∙ append-assoc b y t)) in
+    let d : (drop c ns ≡ drop c ms) × (s ≡ t) = lines-split rs (drop c ns) (drop c ms) s t (simp length-drop (omega arith)) (simp length-drop (omega arith)) (w .1) in
+    (sym (take-append-drop c ns) ∙ (rw (w .0, d .0) (take-append-drop c ms)), d .1)
+
+pub lines-different : (rs : List Row) (ns ms : List ℕ) → length ns ≡ total rs → length ms ≡ total rs → lines rs ns ≡ lines rs ms → ns ≡ ms
+lines-different rs ns ms h k e = lines-split rs ns ms [] [] h k (ap (_++ []) e) .0
 
 -- LISTS OF LINES tell their things: where a line tells its thing and what follows it, and what follows the last line begins with no such line
 module _ {A : Type 0} (f : A → List ℕ) (each : (x y : A) (s t : List ℕ) → f x ++ s ≡ f y ++ t → (x ≡ y) × (s ≡ t)) where

@@ -4,10 +4,10 @@ use mathlib.Core.List.{List, [], _∷_, _++_, append-assoc, append-nil}
 use Prim.Native.Nat.{ℕ, _+_, _≤_, _<_}
 use native.Mathlib.Numerals.{add-one}
 use native.Mathlib.Omega.{arith}
-use lib.ListN.{length, take, drop, getD}
-use lib.Seq.{take-suc, take-all, drop-drop, paste-zero}
+use lib.ListN.{length, take, getD}
+use lib.Seq.{take-suc, take-all, paste-zero}
 use Rattle.text.specs.Put.{Put}
-use Rattle.text.specs.Text.{Row, texts, numbers, line, lines, total}
+use Rattle.text.specs.Text.{texts, numbers, line}
 use Rattle.text.proofs.Puts.{then}
 
 -- nothing yet
@@ -31,15 +31,3 @@ full f xs i h p = rw (take-all i xs h) at p
 pub lined : (ns : List ℕ) {old name a b new : List ℕ} {at m k r : ℕ}
     → Put old at name m a → Put a m (numbers ns) k b → Put b k (10 ∷ []) r new → Put old at (line name ns) r new
 lined ns p q e = then p (then q e)
-
--- ---- rows, each with its numbers from the front: one row more
-pub lines-more : (rs : List Row) (r : Row) (ns : List ℕ)
-    → lines (rs ++ (r ∷ [])) ns ≡ lines rs ns ++ line (r .name) (take (r .count) (drop (total rs) ns))
-lines-more [] r ns = append-nil (line (r .name) (take (r .count) ns))
-lines-more (q ∷ rs) r ns =
-    rw (lines-more rs r (drop (q .count) ns), drop-drop (total rs) (q .count) ns)
-    (sym (append-assoc (line (q .name) (take (q .count) ns)) (lines rs (drop (q .count) ns)) (line (r .name) (take (r .count) (drop (q .count + total rs) ns)))))
-
-pub total-more : (rs : List Row) (r : Row) → total (rs ++ (r ∷ [])) ≡ total rs + r .count
-total-more [] r = omega arith
-total-more (q ∷ rs) r = omega (arith, total-more rs r)

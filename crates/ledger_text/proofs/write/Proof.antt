@@ -1,11 +1,17 @@
 use borrow.Author.Needs.{needs}
-use mathlib.Core.Path.{sym}
-use Rattle.ledger_text.proofs.Rows.{length-of}
+use mathlib.Core.Path.{_≡_, sym, _∙_}
+use mathlib.Core.List.{List, map}
+use Prim.Native.Nat.{ℕ}
 use native.Mathlib.Omega.{arith}
+use lib.ListN.{length, length-map}
 use Rattle.ledger_text.specs.Report.{room}
 use Rattle.text.proofs.Whole.{short, whole}
 use Rattle.ledger_text.proofs.write.Statement.{statement}
 use Rattle.ledger_text.proofs.write.Tie as tie
+
+-- an array in a struct has its length
+length-of : (X Y : Type 0) (f : X → Y) (l : List X) (n : ℕ) → length (map f l) ≡ n → length l ≡ n
+length-of X Y f l n e = sym (length-map l f) ∙ e
 
 returns : tie.Need-returns
 returns c = short room _ _ (c .if1 .taken)

@@ -1,6 +1,4 @@
 use borrow.Author.Needs.{needs}
-use Rattle.entities.proofs.Finding.{length-of}
-use Rattle.text.specs.Text.{bytes}
 use Rattle.text.proofs.Eight.{laid}
 use Rattle.probe_lines.proofs.layout.Statement.{statement}
 use Rattle.probe_lines.proofs.layout.Tie as tie
@@ -66,9 +64,7 @@ same-length : tie.Need-same-length
 same-length c = search needs
 
 returns : tie.Need-returns
-returns c =
-    let p = c .before .before .before .before .before .before .before .before .args .p in
-    (laid (bytes "layout") (p .layout) (search length-of) (c .before .before .line .ensures .0), search needs)
+returns c = (search (laid, needs), search needs)
 
 pub layout-spec : {M : Type 1} → statement M
 layout-spec =

@@ -1,0 +1,3 @@
+-- Laws of tables of names.
+pub mod Names
+pub mod Each
