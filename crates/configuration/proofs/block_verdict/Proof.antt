@@ -29,13 +29,24 @@ enum-known-number : tie.Need-enum-known-number
 enum-known-number c = search needs
 
 add-t15 : tie.Need-add-t15
-add-t15 c = omega (arith, own-in _ _ (c .before .before .before .before .before .before .before .before .pre) _ (c .before .before .before .before .before .before .block-at .ensures) _ _ (c .before .before .before .stream-verdict .ensures) _ _ (c .before .number .given .1))
+add-t15 c =
+    let at-block-at = c .before .before .before .before .before .before in
+    let start = at-block-at .before .before in
+    omega
+    (arith, own-in _ _ (start .pre) _ (at-block-at .block-at .ensures) _ _ (c .before .before .before .stream-verdict .ensures) _ _ (c .before .number .given .1))
 
 returns : tie.Need-returns
-returns c = own-accepted _ _ (c .before .before .before .before .before .before .before .pre) _ (c .before .before .before .before .before .block-at .ensures) _ _ (c .before .before .stream-verdict .ensures) (c .enum-told .given .1)
+returns c =
+    let at-block-at = c .before .before .before .before .before in
+    let start = at-block-at .before .before in
+    own-accepted _ _ (start .pre) _ (at-block-at .block-at .ensures) _ _ (c .before .before .stream-verdict .ensures) (c .enum-told .given .1)
 
 returns-2 : tie.Need-returns-2
-returns-2 c = own-refused _ _ (c .before .before .before .before .before .before .before .before .pre) _ (c .before .before .before .before .before .before .block-at .ensures) _ _ (c .before .before .before .stream-verdict .ensures) _ _ (c .before .number .given .1)
+returns-2 c =
+    let at-block-at = c .before .before .before .before .before .before in
+    let start = at-block-at .before .before in
+    own-refused _ _ (start .pre) _ (at-block-at .block-at .ensures) _ _ (c .before .before .before .stream-verdict .ensures) _ _
+    (c .before .number .given .1)
 
 pub block-verdict-spec : {M : Type 1} → statement M
 block-verdict-spec =

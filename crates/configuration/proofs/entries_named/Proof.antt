@@ -34,7 +34,12 @@ place-of-requires : tie.Need-place-of-requires Inv-loop μ-loop
 place-of-requires c κs = search needs
 
 returns : tie.Need-returns Inv-loop μ-loop
-returns c = an-entry _ _ _ _ (c .before .before .before .before .before .wide .ensures .0 ∙ c .before .before .before .before .before .before .byte-at .ensures) _ (c .before .before .before .before .loop .inv) (c .before .before .before .loop-test .taken) _ _ (c .before .before .byte-at2 .ensures) (c .before .place-of .ensures) (c .if1 .taken)
+returns c =
+    let at-turn = c .before .before .before .before in
+    let at-wide = at-turn .before in
+    let at-byte-at = at-wide .before in
+    an-entry _ _ _ _ (at-wide .wide .ensures .0 ∙ at-byte-at .byte-at .ensures) _ (at-turn .loop .inv) (c .before .before .before .loop-test .taken) _ _
+    (c .before .before .byte-at2 .ensures) (c .before .place-of .ensures) (c .if1 .taken)
 
 add-j : tie.Need-add-j Inv-loop μ-loop
 add-j c = search needs
@@ -43,7 +48,13 @@ loop-less : tie.Need-loop-less Inv-loop μ-loop
 loop-less c = search needs
 
 loop-again : tie.Need-loop-again Inv-loop μ-loop
-loop-again c = entry-on (c .before .before .before .before .before .before .before .before .args .block .now) (c .before .before .before .before .before .before .before .before .args .streams) _ _ (c .before .before .before .before .before .wide .ensures .0 ∙ c .before .before .before .before .before .before .byte-at .ensures) _ (c .before .before .before .before .loop .inv) (c .before .before .before .loop-test .taken) _ _ (c .before .before .byte-at2 .ensures) (c .before .place-of .ensures) (c .if1 .left)
+loop-again c =
+    let at-turn = c .before .before .before .before in
+    let at-wide = at-turn .before in
+    let at-byte-at = at-wide .before in
+    let start = at-byte-at .before .before in
+    entry-on (start .args .block .now) (start .args .streams) _ _ (at-wide .wide .ensures .0 ∙ at-byte-at .byte-at .ensures) _ (at-turn .loop .inv)
+    (c .before .before .before .loop-test .taken) _ _ (c .before .before .byte-at2 .ensures) (c .before .place-of .ensures) (c .if1 .left)
 
 returns-2 : tie.Need-returns-2 Inv-loop μ-loop
 returns-2 c = no-entry _ _ _ _ (c .before .before .wide .ensures .0 ∙ c .before .before .before .byte-at .ensures) _ (c .before .loop .inv) (c .loop-test .left)

@@ -28,10 +28,18 @@ enum-known-verdict : tie.Need-enum-known-verdict
 enum-known-verdict c = search needs
 
 add-t17 : tie.Need-add-t17
-add-t17 c = omega (arith, late-in _ _ (c .before .before .before .before .before .before .before .before .before .pre) _ (c .before .before .before .before .before .before .before .block-at .ensures) _ (c .before .before .before .before .read .ensures) _ _ (c .before .verdict .given .1))
+add-t17 c =
+    let at-read = c .before .before .before .before in
+    let at-block-at = at-read .before .before .before in
+    let start = at-block-at .before .before in
+    omega (arith, late-in _ _ (start .pre) _ (at-block-at .block-at .ensures) _ (at-read .read .ensures) _ _ (c .before .verdict .given .1))
 
 returns : tie.Need-returns
-returns c = late-control _ _ (c .before .before .before .before .before .before .before .before .before .pre) _ (c .before .before .before .before .before .before .before .block-at .ensures) _ (c .before .before .before .before .read .ensures) _ _ (c .before .verdict .given .1)
+returns c =
+    let at-read = c .before .before .before .before in
+    let at-block-at = at-read .before .before .before in
+    let start = at-block-at .before .before in
+    late-control _ _ (start .pre) _ (at-block-at .block-at .ensures) _ (at-read .read .ensures) _ _ (c .before .verdict .given .1)
 
 enum-told : tie.Need-enum-told
 enum-told c = search needs
@@ -46,19 +54,37 @@ part-entries-named-start : tie.Need-part-entries-named-start
 part-entries-named-start c = search needs
 
 part-entries-named-end : tie.Need-part-entries-named-end
-part-entries-named-end c = end-in _ _ (c .before .before .before .before .before .before .before .before .before .before .pre) _ (c .before .before .before .before .before .before .before .before .block-at .ensures)
+part-entries-named-end c =
+    let earlier = c .before .before .before .before .before .before .before in
+    let at-block-at = earlier .before in
+    let start = at-block-at .before .before in
+    end-in _ _ (start .pre) _ (at-block-at .block-at .ensures)
 
 entries-named-requires : tie.Need-entries-named-requires
 entries-named-requires c κs = streams-few _ _ (c .before .before .listed .ensures)
 
 returns-2 : tie.Need-returns-2
-returns-2 c = late-73 _ _ (c .before .before .before .before .before .before .before .before .before .before .before .before .before .pre) _ (c .before .before .before .before .before .before .before .before .before .before .before .block-at .ensures) _ (c .before .before .before .before .before .before .before .before .read .ensures) (c .before .before .before .before .before .enum-told .given .1) _ (c .before .before .before .before .listed .ensures) _ (c .before .entries-named .ensures) (not-true _ (c .if1 .taken))
+returns-2 c =
+    let at-listed = c .before .before .before .before in
+    let at-enum-told = at-listed .before in
+    let at-read = at-enum-told .before .before .before in
+    let at-block-at = at-read .before .before .before in
+    let start = at-block-at .before .before in
+    late-73 _ _ (start .pre) _ (at-block-at .block-at .ensures) _ (at-read .read .ensures) (at-enum-told .enum-told .given .1) _
+    (at-listed .listed .ensures) _ (c .before .entries-named .ensures) (not-true _ (c .if1 .taken))
 
 streams-verdict-requires : tie.Need-streams-verdict-requires
 streams-verdict-requires c κs = search needs
 
 returns-3 : tie.Need-returns-3
-returns-3 c = late-rest _ _ (c .before .before .before .before .before .before .before .before .before .before .before .before .before .before .pre) _ (c .before .before .before .before .before .before .before .before .before .before .before .before .block-at .ensures) _ (c .before .before .before .before .before .before .before .before .before .read .ensures) (c .before .before .before .before .before .before .enum-told .given .1) _ (c .before .before .before .before .before .listed .ensures) _ (c .before .before .entries-named .ensures) (not-false _ (c .before .if1 .left)) _ (c .streams-verdict .ensures)
+returns-3 c =
+    let at-listed = c .before .before .before .before .before in
+    let at-enum-told = at-listed .before in
+    let at-read = at-enum-told .before .before .before in
+    let at-block-at = at-read .before .before .before in
+    let start = at-block-at .before .before in
+    late-rest _ _ (start .pre) _ (at-block-at .block-at .ensures) _ (at-read .read .ensures) (at-enum-told .enum-told .given .1) _
+    (at-listed .listed .ensures) _ (c .before .before .entries-named .ensures) (not-false _ (c .before .if1 .left)) _ (c .streams-verdict .ensures)
 
 pub judge-blocks-spec : {M : Type 1} → statement M
 judge-blocks-spec =

@@ -33,19 +33,34 @@ refused-requires-2 : tie.Need-refused-requires-2
 refused-requires-2 c κs = search needs
 
 returns-2 : tie.Need-returns-2
-returns-2 c = blocks-refuse _ _ (c .before .before .before .before .before .before .before .before .judge .ensures) (c .before .before .before .before .before .before .enum-told .given .1) _ (c .before .before .before .before .before .next .ensures) _ (c .before .before .before .before .judge-blocks .ensures) _ _ (c .before .before .number2 .given .1) _ (c .refused2 .ensures)
+returns-2 c =
+    let at-judge-blocks = c .before .before .before .before in
+    let at-next = at-judge-blocks .before in
+    let at-enum-told = at-next .before in
+    let at-judge = at-enum-told .before .before in
+    blocks-refuse _ _ (at-judge .judge .ensures) (at-enum-told .enum-told .given .1) _ (at-next .next .ensures) _ (at-judge-blocks .judge-blocks .ensures)
+    _ _ (c .before .before .number2 .given .1) _ (c .refused2 .ensures)
 
 enum-told-2 : tie.Need-enum-told-2
 enum-told-2 c = search needs
 
 block-at-requires : tie.Need-block-at-requires
-block-at-requires c κs = control-there _ (sym (c .before .before .before .before .before .before .judge .ensures) ∙ c .before .before .before .before .enum-told .given .1) _ (c .before .before .before .next .ensures)
+block-at-requires c κs =
+    let at-enum-told = c .before .before .before .before in
+    let at-judge = at-enum-told .before .before in
+    control-there _ (sym (at-judge .judge .ensures) ∙ at-enum-told .enum-told .given .1) _ (c .before .before .before .next .ensures)
 
 listed-requires : tie.Need-listed-requires
 listed-requires c κs = search needs
 
 returns-3 : tie.Need-returns-3
-returns-3 c = all-sound _ _ (c .before .before .before .before .before .before .before .before .before .judge .ensures) (c .before .before .before .before .before .before .before .enum-told .given .1) _ (c .before .before .before .before .before .before .next .ensures) _ (c .before .before .before .before .before .judge-blocks .ensures) (c .before .before .before .enum-told2 .given .1) _ (c .before .before .block-at .ensures) _ (c .before .listed .ensures)
+returns-3 c =
+    let at-judge-blocks = c .before .before .before .before .before in
+    let at-next = at-judge-blocks .before in
+    let at-enum-told = at-next .before in
+    let at-judge = at-enum-told .before .before in
+    all-sound _ _ (at-judge .judge .ensures) (at-enum-told .enum-told .given .1) _ (at-next .next .ensures) _ (at-judge-blocks .judge-blocks .ensures)
+    (c .before .before .before .enum-told2 .given .1) _ (c .before .before .block-at .ensures) _ (c .before .listed .ensures)
 
 pub read-spec : {M : Type 1} → statement M
 read-spec =

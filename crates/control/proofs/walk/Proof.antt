@@ -52,7 +52,12 @@ refused-requires : tie.Need-refused-requires Inv-loop μ-loop
 refused-requires c κs = search needs
 
 returns : tie.Need-returns Inv-loop μ-loop
-returns c = refuses _ (c .before .before .before .before .before .loop .table) _ _ (turn (c .before .before)) _ _ (c .before .before .before .before .before .before .before .before .before .before .pre) (rw (c .before .before .before .before .before .before .before .before .revision-of .ensures) at (c .before .before .rule-at .ensures)) (c .before .if1 .taken) (c .refused .ensures)
+returns c =
+    let at-turn = c .before .before .before .before .before in
+    let at-revision-of = at-turn .before .before .before in
+    let start = at-revision-of .before .before in
+    refuses _ (at-turn .loop .table) _ _ (turn (c .before .before)) _ _ (start .pre)
+    (rw (at-revision-of .revision-of .ensures) at (c .before .before .rule-at .ensures)) (c .before .if1 .taken) (c .refused .ensures)
 
 add-known-as : tie.Need-add-known-as Inv-loop μ-loop
 add-known-as c = search needs
@@ -70,19 +75,44 @@ add-with : tie.Need-add-with Inv-loop μ-loop
 add-with c = search needs
 
 shared-slice-read-with : tie.Need-shared-slice-read-with Inv-loop μ-loop
-shared-slice-read-with c = has-id _ (c .before .before .before .before .before .before .before .before .before .before .loop .table) _ _ (turn (c .before .before .before .before .before .before .before)) (none (c .before .before .before .before .before .before)) (said-entity (c .before .before .before .before .before .before .before .before .before .before .before .before .before .before .before .args .s .now) (c .before .before .before .before .before .before .before .before .before .before .loop .at) _ _ _ _ (c .before .before .before .before .before .before .before .before .before .before .before .before .before .revision-of .ensures) (c .before .before .before .before .known-as .ensures) (c .before .before .before .is-entity .ensures) (c .before .before .if2 .taken))
+shared-slice-read-with c =
+    let at-known-as = c .before .before .before .before in
+    let at-x = at-known-as .before .before in
+    let at-x-2 = at-x .before in
+    let at-turn = at-x-2 .before .before .before in
+    let at-revision-of = at-turn .before .before .before in
+    let start = at-revision-of .before .before in
+    has-id _ (at-turn .loop .table) _ _ (turn at-x-2) (none at-x)
+    (said-entity (start .args .s .now) (at-turn .loop .at) _ _ _ _ (at-revision-of .revision-of .ensures) (at-known-as .known-as .ensures) (c .before .before .before .is-entity .ensures) (c .before .before .if2 .taken))
 
 with-requires : tie.Need-with-requires Inv-loop μ-loop
 with-requires c κs = search needs
 
 entity-at-requires : tie.Need-entity-at-requires Inv-loop μ-loop
-entity-at-requires c κs = ((let h = head-sizes _ (c .before .before .before .before .before .before .before .before .before .before .before .before .before .before .before .before .pre) in omega arith, fits (c .before .before .before .before .before .before .before) .shaped), (said-entity (c .before .before .before .before .before .before .before .before .before .before .before .before .before .before .before .before .args .s .now) (c .before .before .before .before .before .before .before .before .before .before .before .loop .at) _ _ _ _ (c .before .before .before .before .before .before .before .before .before .before .before .before .before .before .revision-of .ensures) (c .before .before .before .before .before .known-as .ensures) (c .before .before .before .before .is-entity .ensures) (c .before .before .before .if2 .taken)))
+entity-at-requires c κs =
+    let at-is-entity = c .before .before .before .before in
+    let at-known-as = at-is-entity .before in
+    let at-x = at-known-as .before .before in
+    let at-turn = at-x .before .before .before .before in
+    let at-revision-of = at-turn .before .before .before in
+    let start = at-revision-of .before .before in
+    ((let h = head-sizes _ (start .pre) in omega arith, fits at-x .shaped), (said-entity (start .args .s .now) (at-turn .loop .at) _ _ _ _ (at-revision-of .revision-of .ensures) (at-known-as .known-as .ensures) (at-is-entity .is-entity .ensures) (c .before .before .before .if2 .taken)))
 
 mul-t22 : tie.Need-mul-t22 Inv-loop μ-loop
 mul-t22 c = search needs
 
 element-set-from-table : tie.Need-element-set-from-table Inv-loop μ-loop
-element-set-from-table c = has-place _ (c .before .before .before .before .before .before .before .before .before .before .before .before .loop .table) _ _ (turn (c .before .before .before .before .before .before .before .before .before)) (none (c .before .before .before .before .before .before .before .before)) (said-entity (c .before .before .before .before .before .before .before .before .before .before .before .before .before .before .before .before .before .args .s .now) (c .before .before .before .before .before .before .before .before .before .before .before .before .loop .at) _ _ _ _ (c .before .before .before .before .before .before .before .before .before .before .before .before .before .before .before .revision-of .ensures) (c .before .before .before .before .before .before .known-as .ensures) (c .before .before .before .before .before .is-entity .ensures) (c .before .before .before .before .if2 .taken))
+element-set-from-table c =
+    let at-branch = c .before .before .before .before in
+    let at-is-entity = at-branch .before in
+    let at-known-as = at-is-entity .before in
+    let at-x = at-known-as .before .before in
+    let at-x-2 = at-x .before in
+    let at-turn = at-x-2 .before .before .before in
+    let at-revision-of = at-turn .before .before .before in
+    let start = at-revision-of .before .before in
+    has-place _ (at-turn .loop .table) _ _ (turn at-x-2) (none at-x)
+    (said-entity (start .args .s .now) (at-turn .loop .at) _ _ _ _ (at-revision-of .revision-of .ensures) (at-known-as .known-as .ensures) (at-is-entity .is-entity .ensures) (at-branch .if2 .taken))
 
 add-table : tie.Need-add-table Inv-loop μ-loop
 add-table c = search needs
@@ -124,10 +154,21 @@ refused-requires-2 : tie.Need-refused-requires-2 Inv-loop μ-loop
 refused-requires-2 c κs = search needs
 
 returns-2 : tie.Need-returns-2 Inv-loop μ-loop
-returns-2 c = accepts _ (c .before .before .before .before .before .before .loop .table) _ _ (c .before .before .before .before .before .before .loop .inv) (c .before .before .before .before .before .before .before .before .before .before .before .pre) (omega arith) _ (c .before .before .before .before .judge .ensures) _ _ (c .before .before .enum-told .given .1) (c .le32 .ensures) (c .before .before .before .before .before .before .before .before .before .revision-of .ensures)
+returns-2 c =
+    let at-judge = c .before .before .before .before in
+    let at-turn = at-judge .before .before in
+    let at-revision-of = at-turn .before .before .before in
+    let start = at-revision-of .before .before in
+    accepts _ (at-turn .loop .table) _ _ (at-turn .loop .inv) (start .pre) (omega arith) _ (at-judge .judge .ensures) _ _
+    (c .before .before .enum-told .given .1) (c .le32 .ensures) (at-revision-of .revision-of .ensures)
 
 returns-3 : tie.Need-returns-3 Inv-loop μ-loop
-returns-3 c = rejects _ (c .before .before .before .before .before .before .loop .table) _ _ (c .before .before .before .before .before .before .loop .inv) (c .before .before .before .before .before .before .before .before .before .before .before .pre) (omega arith) _ (c .before .before .before .before .judge .ensures) _ _ _ (c .before .before .number .given .1) (c .refused2 .ensures)
+returns-3 c =
+    let at-judge = c .before .before .before .before in
+    let at-turn = at-judge .before .before in
+    let start = at-turn .before .before .before .before .before in
+    rejects _ (at-turn .loop .table) _ _ (at-turn .loop .inv) (start .pre) (omega arith) _ (at-judge .judge .ensures) _ _ _
+    (c .before .before .number .given .1) (c .refused2 .ensures)
 
 pub walk-spec : {M : Type 1} → statement M
 walk-spec =

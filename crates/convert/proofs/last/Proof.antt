@@ -25,7 +25,10 @@ same-length c = search needs
 
 -- src/lib.rt:172:1
 returns : tie.Need-returns
-returns c = last-ended (c .before .before .before .before .before .before .before .before .before .args .r) _ _ _ _ _ (c .before .before .before .run .ensures .0)
+returns c =
+    let earlier = c .before .before .before .before .before .before .before in
+    let start = earlier .before .before in
+    last-ended (start .args .r) _ _ _ _ _ (c .before .before .before .run .ensures .0)
 
 pub last-spec : {M : Type 1} → statement M
 last-spec =

@@ -49,7 +49,11 @@ same-length-2 c = search needs
 
 -- src/lib.rt:132:1
 returns : tie.Need-returns
-returns c = rest-gone _ _ _ _ _ _ _ _ _ _ _ _ (c .before .before .before .before .before .before .before .before .before .before .before .end .ensures) (c .before .before .before .before .before .before .before .before .run .ensures .0) (c .before .before .before .fill .ensures)
+returns c =
+    let earlier = c .before .before .before .before .before .before .before in
+    let at-run = earlier .before in
+    let at-end = at-run .before .before .before in
+    rest-gone _ _ _ _ _ _ _ _ _ _ _ _ (at-end .end .ensures) (at-run .run .ensures .0) (c .before .before .before .fill .ensures)
 
 pub rest-spec : {M : Type 1} → statement M
 rest-spec =

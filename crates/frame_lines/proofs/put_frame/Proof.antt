@@ -34,7 +34,12 @@ same-length c = search needs
 
 -- src/lib.rt:150:1
 returns : tie.Need-returns
-returns c = (then (c .before .before .before .before .before .before .before .before .before .before .before .before .before .before .before .before .before .before .before .digits .ensures .0) (then (c .before .before .before .before .before .before .before .before .before .before .before .before .before .before .before .put-how .ensures .0) (then (c .before .before .before .before .before .before .before .before .before .before .before .number .ensures .0) (then (c .before .before .before .before .before .before .before .put-stamp .ensures .0) (c .before .before .put .ensures)))), omega arith)
+returns c =
+    let at-put-stamp = c .before .before .before .before .before .before .before in
+    let at-number = at-put-stamp .before .before .before .before in
+    let at-put-how = at-number .before .before .before .before in
+    let at-digits = at-put-how .before .before .before .before in
+    (then (at-digits .digits .ensures .0) (then (at-put-how .put-how .ensures .0) (then (at-number .number .ensures .0) (then (at-put-stamp .put-stamp .ensures .0) (c .before .before .put .ensures)))), omega arith)
 
 pub put-frame-spec : {M : Type 1} → statement M
 put-frame-spec =

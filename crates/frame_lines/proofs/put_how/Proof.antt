@@ -56,7 +56,9 @@ same-length-3 c = search needs
 
 -- src/lib.rt:126:1
 returns-3 : tie.Need-returns-3
-returns-3 c = (rw (c .before .before .before .before .before .how .given .1) (c .before .before .put-reason .ensures .0), c .before .before .put-reason .ensures .1)
+returns-3 c =
+    let at-how = c .before .before .before .before .before in
+    (rw (at-how .how .given .1) (c .before .before .put-reason .ensures .0), c .before .before .put-reason .ensures .1)
 
 pub put-how-spec : {M : Type 1} → statement M
 put-how-spec =

@@ -30,7 +30,11 @@ same-length c = search needs
 
 -- src/lib.rt:99:1
 returns : tie.Need-returns
-returns c = (then (c .before .before .before .before .before .before .before .before .before .before .before .before .before .before .before .digits .ensures .0) (then (c .before .before .before .before .before .before .before .before .before .before .before .number .ensures .0) (then (c .before .before .before .before .before .before .before .put-since .ensures .0) (c .before .before .put .ensures))), omega arith)
+returns c =
+    let at-put-since = c .before .before .before .before .before .before .before in
+    let at-number = at-put-since .before .before .before .before in
+    let at-digits = at-number .before .before .before .before in
+    (then (at-digits .digits .ensures .0) (then (at-number .number .ensures .0) (then (at-put-since .put-since .ensures .0) (c .before .before .put .ensures))), omega arith)
 
 pub put-replay-spec : {M : Type 1} → statement M
 put-replay-spec =

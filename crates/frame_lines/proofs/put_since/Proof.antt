@@ -53,7 +53,10 @@ same-length-2 c = search needs
 
 -- src/lib.rt:84:1
 returns-2 : tie.Need-returns-2
-returns-2 c = (rw (c .before .before .before .before .before .before .before .before .s .given .1, c .before .before .before .before .before .step .given .1) (c .before .before .number .ensures .0), omega arith)
+returns-2 c =
+    let at-step = c .before .before .before .before .before in
+    let at-s = at-step .before .before .before in
+    (rw (at-s .s .given .1, at-step .step .given .1) (c .before .before .number .ensures .0), omega arith)
 
 -- src/lib.rt:84:1
 same-length-3 : tie.Need-same-length-3
@@ -61,7 +64,10 @@ same-length-3 c = search needs
 
 -- src/lib.rt:84:1
 returns-3 : tie.Need-returns-3
-returns-3 c = (rw (c .before .before .before .before .before .before .before .before .s .given .1, c .before .before .before .before .before .step2 .given .1) (c .before .before .put-backward .ensures .0), c .before .before .put-backward .ensures .1)
+returns-3 c =
+    let at-step = c .before .before .before .before .before in
+    let at-s = at-step .before .before .before in
+    (rw (at-s .s .given .1, at-step .step2 .given .1) (c .before .before .put-backward .ensures .0), c .before .before .put-backward .ensures .1)
 
 pub put-since-spec : {M : Type 1} → statement M
 put-since-spec =

@@ -45,7 +45,12 @@ same-length c = search needs
 
 -- src/lib.rt:165:1
 returns : tie.Need-returns
-returns c = delivered _ _ _ _ _ _ _ _ _ (c .before .before .before .before .before .before .before .enum-told .given .1) (c .before .before .before .before .before .step-from .ensures) (c .before .next .ensures) (c .moved .ensures) (c .before .before .before .before .put-replay .ensures .0) (c .before .before .before .before .put-replay .ensures .1)
+returns c =
+    let at-put-replay = c .before .before .before .before in
+    let at-step-from = at-put-replay .before in
+    let at-enum-told = at-step-from .before .before in
+    delivered _ _ _ _ _ _ _ _ _ (at-enum-told .enum-told .given .1) (at-step-from .step-from .ensures) (c .before .next .ensures) (c .moved .ensures)
+    (at-put-replay .put-replay .ensures .0) (at-put-replay .put-replay .ensures .1)
 
 -- src/lib.rt:165:1
 same-length-2 : tie.Need-same-length-2
@@ -53,7 +58,10 @@ same-length-2 c = search needs
 
 -- src/lib.rt:165:1
 returns-2 : tie.Need-returns-2
-returns-2 c = still _ _ _ _ _ _ _ (c .before .before .before .before .before .enum-told2 .given .1) (c .next2 .ensures) (c .before .before .before .put-replay2 .ensures .0) (c .before .before .before .put-replay2 .ensures .1)
+returns-2 c =
+    let at-enum-told = c .before .before .before .before .before in
+    still _ _ _ _ _ _ _ (at-enum-told .enum-told2 .given .1) (c .next2 .ensures) (c .before .before .before .put-replay2 .ensures .0)
+    (c .before .before .before .put-replay2 .ensures .1)
 
 -- src/lib.rt:165:1
 returns-3 : tie.Need-returns-3

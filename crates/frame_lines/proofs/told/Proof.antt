@@ -41,7 +41,9 @@ returns c = told-none _ _ _ _ _ (c .enum-told .given .1) (c .before .before .bef
 
 -- src/lib.rt:193:1
 returns-2 : tie.Need-returns-2
-returns-2 c = told-unshown _ _ _ _ _ _ (c .before .before .before .t .given .1) (c .enum-told2 .given .1) (c .before .before .before .before .before .before .pre)
+returns-2 c =
+    let start = c .before .before .before .before .before .before in
+    told-unshown _ _ _ _ _ _ (c .before .before .before .t .given .1) (c .enum-told2 .given .1) (start .pre)
 
 -- src/lib.rt:193:1
 same-length : tie.Need-same-length
@@ -49,7 +51,10 @@ same-length c = search needs
 
 -- src/lib.rt:193:1
 returns-3 : tie.Need-returns-3
-returns-3 c = told-replayed _ _ _ _ _ _ _ _ _ (c .before .before .before .before .before .before .before .t .given .1) (c .before .before .before .before .enum-told3 .given .1) (c .before .before .replayed .ensures)
+returns-3 c =
+    let at-enum-told = c .before .before .before .before in
+    let at-t = at-enum-told .before .before .before in
+    told-replayed _ _ _ _ _ _ _ _ _ (at-t .t .given .1) (at-enum-told .enum-told3 .given .1) (c .before .before .replayed .ensures)
 
 -- src/lib.rt:193:1
 same-length-2 : tie.Need-same-length-2
@@ -57,7 +62,11 @@ same-length-2 c = search needs
 
 -- src/lib.rt:193:1
 returns-4 : tie.Need-returns-4
-returns-4 c = told-frame _ _ _ _ _ _ _ _ _ (c .before .before .before .before .before .before .before .before .t .given .1) (c .before .before .before .before .before .enum-told4 .given .1) (c .next .ensures) (c .before .before .before .put-frame .ensures .0) (c .before .before .before .put-frame .ensures .1)
+returns-4 c =
+    let at-enum-told = c .before .before .before .before .before in
+    let at-t = at-enum-told .before .before .before in
+    told-frame _ _ _ _ _ _ _ _ _ (at-t .t .given .1) (at-enum-told .enum-told4 .given .1) (c .next .ensures)
+    (c .before .before .before .put-frame .ensures .0) (c .before .before .before .put-frame .ensures .1)
 
 pub told-spec : {M : Type 1} → statement M
 told-spec =

@@ -47,7 +47,11 @@ loop-less : tie.Need-loop-less Inv-loop μ-loop
 loop-less c = search next-falls
 
 loop-again : tie.Need-loop-again Inv-loop μ-loop
-loop-again c = listing-more _ _ _ _ (c .before .before .before .before .before .loop .inv) (c .before .before .before .before .loop-test .taken) (c .before .before .before .if1 .left) _ (c .before .before .stream-at .ensures) _ _ (c .before .after .ensures) (c .next2 .ensures)
+loop-again c =
+    let at-loop-test = c .before .before .before .before in
+    let at-turn = at-loop-test .before in
+    listing-more _ _ _ _ (at-turn .loop .inv) (at-loop-test .loop-test .taken) (c .before .before .before .if1 .left) _
+    (c .before .before .stream-at .ensures) _ _ (c .before .after .ensures) (c .next2 .ensures)
 
 returns-2 : tie.Need-returns-2 Inv-loop μ-loop
 returns-2 c = search listing-done

@@ -33,7 +33,11 @@ one-too-many-requires : tie.Need-one-too-many-requires Inv-loop μ-loop
 one-too-many-requires c κs = search needs
 
 returns : tie.Need-returns Inv-loop μ-loop
-returns c = counting-full _ _ _ _ (c .before .before .before .before .before .loop .inv) (c .before .before .before .before .loop-test .taken) _ (c .before .before .wide .ensures .1) (c .before .before .wide .ensures .0 ∙ c .before .before .before .byte-of .ensures) _ refl _ (c .before .one-too-many .ensures) (c .if1 .taken)
+returns c =
+    let at-loop-test = c .before .before .before .before in
+    let at-turn = at-loop-test .before in
+    counting-full _ _ _ _ (at-turn .loop .inv) (at-loop-test .loop-test .taken) _ (c .before .before .wide .ensures .1)
+    (c .before .before .wide .ensures .0 ∙ c .before .before .before .byte-of .ensures) _ refl _ (c .before .one-too-many .ensures) (c .if1 .taken)
 
 is-sought-requires : tie.Need-is-sought-requires Inv-loop μ-loop
 is-sought-requires c κs = search needs
@@ -42,7 +46,13 @@ one-if-requires : tie.Need-one-if-requires Inv-loop μ-loop
 one-if-requires c κs = search needs
 
 add-listed : tie.Need-add-listed Inv-loop μ-loop
-add-listed c = omega (arith, adds-listed _ _ _ _ (c .before .before .before .before .before .before .before .loop .inv) (c .before .before .before .before .before .before .loop-test .taken) _ (c .before .before .before .before .wide .ensures .1) (c .before .before .before .before .wide .ensures .0 ∙ c .before .before .before .before .before .byte-of .ensures) _ refl _ (c .before .before .before .one-too-many .ensures) (c .before .before .if1 .left) _ _ (c .one-if .ensures) (c .before .is-sought .ensures))
+add-listed c =
+    let at-wide = c .before .before .before .before in
+    let at-byte-of = at-wide .before in
+    let at-loop-test = at-byte-of .before in
+    let at-turn = at-loop-test .before in
+    omega
+    (arith, adds-listed _ _ _ _ (at-turn .loop .inv) (at-loop-test .loop-test .taken) _ (at-wide .wide .ensures .1) (at-wide .wide .ensures .0 ∙ at-byte-of .byte-of .ensures) _ refl _ (c .before .before .before .one-too-many .ensures) (c .before .before .if1 .left) _ _ (c .one-if .ensures) (c .before .is-sought .ensures))
 
 is-sought-requires-2 : tie.Need-is-sought-requires-2 Inv-loop μ-loop
 is-sought-requires-2 c κs = search needs
@@ -51,7 +61,15 @@ one-if-requires-2 : tie.Need-one-if-requires-2 Inv-loop μ-loop
 one-if-requires-2 c κs = search needs
 
 add-counts : tie.Need-add-counts Inv-loop μ-loop
-add-counts c = omega (arith, adds-seen _ _ _ _ (c .before .before .before .before .before .before .before .before .before .loop .inv) (c .before .before .before .before .before .before .before .before .loop-test .taken) _ (c .before .before .before .before .before .before .wide .ensures .1) (c .before .before .before .before .before .before .wide .ensures .0 ∙ c .before .before .before .before .before .before .before .byte-of .ensures) _ refl _ (c .before .before .before .before .before .one-too-many .ensures) (c .before .before .before .before .if1 .left) _ _ _ (c .one-if2 .ensures) (c .before .is-sought2 .ensures) (c .before .before .before .before .before .before .wide .ensures .0))
+add-counts c =
+    let at-branch = c .before .before .before .before in
+    let at-one-too-many = at-branch .before in
+    let at-wide = at-one-too-many .before in
+    let at-byte-of = at-wide .before in
+    let at-loop-test = at-byte-of .before in
+    let at-turn = at-loop-test .before in
+    omega
+    (arith, adds-seen _ _ _ _ (at-turn .loop .inv) (at-loop-test .loop-test .taken) _ (at-wide .wide .ensures .1) (at-wide .wide .ensures .0 ∙ at-byte-of .byte-of .ensures) _ refl _ (at-one-too-many .one-too-many .ensures) (at-branch .if1 .left) _ _ _ (c .one-if2 .ensures) (c .before .is-sought2 .ensures) (at-wide .wide .ensures .0))
 
 array-write-counts : tie.Need-array-write-counts Inv-loop μ-loop
 array-write-counts c = search needs
@@ -63,7 +81,18 @@ loop-less : tie.Need-loop-less Inv-loop μ-loop
 loop-less c = search falls
 
 loop-again : tie.Need-loop-again Inv-loop μ-loop
-loop-again c = counting-on _ _ _ _ (c .before .before .before .before .before .before .before .before .before .before .loop .inv) (c .before .before .before .before .before .before .before .before .before .loop-test .taken) _ (c .before .before .before .before .before .before .before .wide .ensures .1) (c .before .before .before .before .before .before .before .wide .ensures .0 ∙ c .before .before .before .before .before .before .before .before .byte-of .ensures) _ refl _ (c .before .before .before .before .before .before .one-too-many .ensures) (c .before .before .before .before .before .if1 .left) _ _ _ (c .before .one-if2 .ensures) (c .before .before .is-sought2 .ensures) (c .before .before .before .before .before .before .before .wide .ensures .0) _ _ (c .before .before .before .one-if .ensures) (c .before .before .before .before .is-sought .ensures) _ (c .after .ensures)
+loop-again c =
+    let at-is-sought = c .before .before .before .before in
+    let at-branch = at-is-sought .before in
+    let at-one-too-many = at-branch .before in
+    let at-wide = at-one-too-many .before in
+    let at-byte-of = at-wide .before in
+    let at-loop-test = at-byte-of .before in
+    let at-turn = at-loop-test .before in
+    counting-on _ _ _ _ (at-turn .loop .inv) (at-loop-test .loop-test .taken) _ (at-wide .wide .ensures .1)
+    (at-wide .wide .ensures .0 ∙ at-byte-of .byte-of .ensures) _ refl _ (at-one-too-many .one-too-many .ensures) (at-branch .if1 .left) _ _ _
+    (c .before .one-if2 .ensures) (c .before .before .is-sought2 .ensures) (at-wide .wide .ensures .0) _ _ (c .before .before .before .one-if .ensures)
+    (at-is-sought .is-sought .ensures) _ (c .after .ensures)
 
 returns-2 : tie.Need-returns-2 Inv-loop μ-loop
 returns-2 c = search counting-done

@@ -118,7 +118,45 @@ element-copy-out-t96 : tie.Need-element-copy-out-t96
 element-copy-out-t96 c = search needs
 
 returns : tie.Need-returns
-returns c = bytes-are _ _ _ _ _ _ _ _ _ _ _ _ _ _ _ _ _ _ _ _ _ _ _ _ _ _ _ _ _ _ _ (c .before .before .before .before .before .before .before .before .before .before .before .before .before .before .before .before .before .before .before .before .before .before .before .before .before .before .before .before .before .before .before .before .before .before .before .before .before .low .ensures) (c .before .before .before .before .before .before .before .before .before .before .before .before .before .before .before .before .before .before .before .before .before .before .before .before .before .before .before .before .before .before .before .before .before .before .before .before .high .ensures) (c .before .before .before .before .before .before .before .before .before .before .before .before .before .before .before .before .before .before .before .before .before .before .before .before .before .before .before .before .before .before .before .before .before .before .before .byte-0 .ensures) (c .before .before .before .before .before .before .before .before .before .before .before .before .before .before .before .before .before .before .before .before .before .before .before .before .before .before .before .before .before .before .before .before .before .before .byte-1 .ensures) (c .before .before .before .before .before .before .before .before .before .before .before .before .before .before .before .before .before .before .before .before .before .before .before .before .before .before .before .before .before .before .before .before .before .byte-2 .ensures) (c .before .before .before .before .before .before .before .before .before .before .before .before .before .before .before .before .before .before .before .before .before .before .before .before .before .before .before .before .before .before .before .before .byte-3 .ensures) (c .before .before .before .before .before .before .before .before .before .before .before .before .before .before .before .before .before .before .before .before .before .before .before .before .before .before .before .before .before .before .before .low2 .ensures) (c .before .before .before .before .before .before .before .before .before .before .before .before .before .before .before .before .before .before .before .before .before .before .before .before .before .before .before .before .before .before .high2 .ensures) (c .before .before .before .before .before .before .before .before .before .before .before .before .before .before .before .before .before .before .before .before .before .before .before .before .before .before .before .before .before .low3 .ensures) (c .before .before .before .before .before .before .before .before .before .before .before .before .before .before .before .before .before .before .before .before .before .before .before .before .before .before .before .before .high3 .ensures) (c .before .before .before .before .before .before .before .before .before .before .before .before .before .before .before .before .before .before .before .before .before .before .before .before .before .before .before .low4 .ensures) (c .before .before .before .before .before .before .before .before .before .before .before .before .before .before .before .before .before .before .before .before .before .before .before .before .before .before .high4 .ensures) (c .before .before .before .before .before .before .before .before .before .before .before .before .before .before .before .before .before .before .before .before .before .before .before .before .before .low5 .ensures) (c .before .before .before .before .before .before .before .before .before .before .before .before .before .before .before .before .before .before .before .before .before .before .before .before .high5 .ensures) (c .before .before .before .before .before .before .before .before .before .before .before .before .before .before .before .before .before .before .before .before .before .before .before .low6 .ensures) (c .before .before .before .before .before .before .before .before .before .before .before .before .before .before .before .before .before .before .before .before .before .before .high6 .ensures) (c .before .before .before .before .before .before .before .before .before .before .before .before .before .before .before .before .before .before .before .before .before .byte-02 .ensures) (c .before .before .before .before .before .before .before .before .before .before .before .before .before .before .before .before .before .before .before .before .byte-12 .ensures) (c .before .before .before .before .before .before .before .before .before .before .before .before .before .before .before .before .before .before .before .byte-22 .ensures) (c .before .before .before .before .before .before .before .before .before .before .before .before .before .before .before .before .before .before .byte-32 .ensures) (c .before .before .before .before .before .before .before .before .before .before .before .before .before .before .before .before .before .byte-03 .ensures) (c .before .before .before .before .before .before .before .before .before .before .before .before .before .before .before .before .byte-13 .ensures) (c .before .before .before .before .before .before .before .before .before .before .before .before .before .before .before .byte-23 .ensures) (c .before .before .before .before .before .before .before .before .before .before .before .before .before .before .byte-33 .ensures) (c .before .before .before .before .before .before .before .before .before .before .before .before .before .byte-04 .ensures) (c .before .before .before .before .before .before .before .before .before .before .before .before .byte-14 .ensures) (c .before .before .before .before .before .before .before .before .before .before .before .byte-24 .ensures) (c .before .before .before .before .before .before .before .before .before .before .byte-34 .ensures) (c .before .before .before .before .before .before .before .before .before .low7 .ensures) (c .before .before .before .before .before .before .before .before .high7 .ensures)
+returns c =
+    let earlier = c .before .before .before .before .before .before .before in
+    let at-high = earlier .before in
+    let at-low = at-high .before in
+    let at-byte- = at-low .before in
+    let at-byte--2 = at-byte- .before in
+    let at-byte--3 = at-byte--2 .before in
+    let at-byte--4 = at-byte--3 .before in
+    let at-byte--5 = at-byte--4 .before in
+    let at-byte--6 = at-byte--5 .before in
+    let at-byte--7 = at-byte--6 .before in
+    let at-byte--8 = at-byte--7 .before in
+    let at-byte--9 = at-byte--8 .before in
+    let at-byte--10 = at-byte--9 .before in
+    let at-byte--11 = at-byte--10 .before in
+    let at-byte--12 = at-byte--11 .before in
+    let at-high-2 = at-byte--12 .before in
+    let at-low-2 = at-high-2 .before in
+    let at-high-3 = at-low-2 .before in
+    let at-low-3 = at-high-3 .before in
+    let at-high-4 = at-low-3 .before in
+    let at-low-4 = at-high-4 .before in
+    let at-high-5 = at-low-4 .before in
+    let at-low-5 = at-high-5 .before in
+    let at-high-6 = at-low-5 .before in
+    let at-low-6 = at-high-6 .before in
+    let at-byte--13 = at-low-6 .before in
+    let at-byte--14 = at-byte--13 .before in
+    let at-byte--15 = at-byte--14 .before in
+    let at-byte--16 = at-byte--15 .before in
+    let at-high-7 = at-byte--16 .before in
+    let at-low-7 = at-high-7 .before in
+    bytes-are _ _ _ _ _ _ _ _ _ _ _ _ _ _ _ _ _ _ _ _ _ _ _ _ _ _ _ _ _ _ _ (at-low-7 .low .ensures) (at-high-7 .high .ensures)
+    (at-byte--16 .byte-0 .ensures) (at-byte--15 .byte-1 .ensures) (at-byte--14 .byte-2 .ensures) (at-byte--13 .byte-3 .ensures) (at-low-6 .low2 .ensures)
+    (at-high-6 .high2 .ensures) (at-low-5 .low3 .ensures) (at-high-5 .high3 .ensures) (at-low-4 .low4 .ensures) (at-high-4 .high4 .ensures)
+    (at-low-3 .low5 .ensures) (at-high-3 .high5 .ensures) (at-low-2 .low6 .ensures) (at-high-2 .high6 .ensures) (at-byte--12 .byte-02 .ensures)
+    (at-byte--11 .byte-12 .ensures) (at-byte--10 .byte-22 .ensures) (at-byte--9 .byte-32 .ensures) (at-byte--8 .byte-03 .ensures)
+    (at-byte--7 .byte-13 .ensures) (at-byte--6 .byte-23 .ensures) (at-byte--5 .byte-33 .ensures) (at-byte--4 .byte-04 .ensures)
+    (at-byte--3 .byte-14 .ensures) (at-byte--2 .byte-24 .ensures) (at-byte- .byte-34 .ensures) (at-low .low7 .ensures) (at-high .high7 .ensures)
 
 pub bytes-of-spec : {M : Type 1} → statement M
 bytes-of-spec =

@@ -70,7 +70,28 @@ byte-at-requires-8 : tie.Need-byte-at-requires-8
 byte-at-requires-8 c κs = search needs
 
 returns : tie.Need-returns
-returns c = fields-are _ _ _ _ _ _ _ _ _ _ _ _ _ _ _ _ _ _ _ _ _ (c .before .before .before .before .before .before .before .before .before .before .before .before .before .before .before .before .before .before .before .before .before .le16 .ensures) (c .before .before .before .before .before .before .before .before .before .before .before .before .before .before .before .before .before .before .before .before .le32 .ensures) (c .before .before .before .before .before .before .before .before .before .before .before .before .before .before .before .before .before .before .before .le162 .ensures) (c .before .before .before .before .before .before .before .before .before .before .before .before .before .before .before .before .before .before .le163 .ensures) (c .before .before .before .before .before .before .before .before .before .before .before .before .before .before .before .before .before .le164 .ensures) (c .before .before .before .before .before .before .before .before .before .before .before .before .before .before .before .before .le165 .ensures) (c .before .before .before .before .before .before .before .before .before .before .before .before .before .before .before .le166 .ensures) (c .before .before .before .before .before .before .before .before .before .before .before .before .before .before .le322 .ensures) (c .before .before .before .before .before .before .before .before .before .before .before .before .before .le323 .ensures) (c .before .before .before .before .before .before .before .before .before .before .before .before .late32 .ensures) (c .before .before .before .before .before .before .before .before .before .before .before .late16 .ensures) (c .before .before .before .before .before .before .before .before .before .before .late-layout .ensures) (c .before .before .before .before .before .before .before .byte-at .ensures) (c .before .before .before .before .before .before .byte-at2 .ensures) (c .before .before .before .before .before .byte-at3 .ensures) (c .before .before .before .before .byte-at4 .ensures) (c .before .before .before .byte-at5 .ensures) (c .before .before .byte-at6 .ensures) (c .before .byte-at7 .ensures) (c .byte-at8 .ensures)
+returns c =
+    let at-byte-at = c .before .before .before .before in
+    let at-byte-at-2 = at-byte-at .before in
+    let at-byte-at-3 = at-byte-at-2 .before in
+    let at-byte-at-4 = at-byte-at-3 .before in
+    let at-late-layout = at-byte-at-4 .before .before .before in
+    let at-late = at-late-layout .before in
+    let at-late-2 = at-late .before in
+    let at-le = at-late-2 .before in
+    let at-le-2 = at-le .before in
+    let at-le-3 = at-le-2 .before in
+    let at-le-4 = at-le-3 .before in
+    let at-le-5 = at-le-4 .before in
+    let at-le-6 = at-le-5 .before in
+    let at-le-7 = at-le-6 .before in
+    let at-le-8 = at-le-7 .before in
+    let at-le-9 = at-le-8 .before in
+    fields-are _ _ _ _ _ _ _ _ _ _ _ _ _ _ _ _ _ _ _ _ _ (at-le-9 .le16 .ensures) (at-le-8 .le32 .ensures) (at-le-7 .le162 .ensures)
+    (at-le-6 .le163 .ensures) (at-le-5 .le164 .ensures) (at-le-4 .le165 .ensures) (at-le-3 .le166 .ensures) (at-le-2 .le322 .ensures)
+    (at-le .le323 .ensures) (at-late-2 .late32 .ensures) (at-late .late16 .ensures) (at-late-layout .late-layout .ensures)
+    (at-byte-at-4 .byte-at .ensures) (at-byte-at-3 .byte-at2 .ensures) (at-byte-at-2 .byte-at3 .ensures) (at-byte-at .byte-at4 .ensures)
+    (c .before .before .before .byte-at5 .ensures) (c .before .before .byte-at6 .ensures) (c .before .byte-at7 .ensures) (c .byte-at8 .ensures)
 
 pub fields-of-spec : {M : Type 1} → statement M
 fields-of-spec =

@@ -27,7 +27,13 @@ byte-at-requires-8 : tie.Need-byte-at-requires-8
 byte-at-requires-8 c κs = search needs
 
 returns : tie.Need-returns
-returns c = rw (c .before .before .before .before .before .before .before .byte-at .ensures, c .before .before .before .before .before .before .byte-at2 .ensures, c .before .before .before .before .before .byte-at3 .ensures, c .before .before .before .before .byte-at4 .ensures, c .before .before .before .byte-at5 .ensures, c .before .before .byte-at6 .ensures, c .before .byte-at7 .ensures, c .byte-at8 .ensures)
+returns c =
+    let at-byte-at = c .before .before .before .before in
+    let at-byte-at-2 = at-byte-at .before in
+    let at-byte-at-3 = at-byte-at-2 .before in
+    let at-byte-at-4 = at-byte-at-3 .before in
+    rw
+    (at-byte-at-4 .byte-at .ensures, at-byte-at-3 .byte-at2 .ensures, at-byte-at-2 .byte-at3 .ensures, at-byte-at .byte-at4 .ensures, c .before .before .before .byte-at5 .ensures, c .before .before .byte-at6 .ensures, c .before .byte-at7 .ensures, c .byte-at8 .ensures)
 
 pub late-layout-spec : {M : Type 1} → statement M
 late-layout-spec =

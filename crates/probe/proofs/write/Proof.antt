@@ -13,7 +13,8 @@ size-of-requires : tie.Need-size-of-requires
 size-of-requires c κs = search needs
 
 returns : tie.Need-returns
-returns c = (write-short _ _ _ (rw (c .before .size-of .ensures .0) at (c .if1 .taken)), short-back _ _ (now (c .before .before .before .args .room)) (rw (c .before .size-of .ensures .0) at (c .if1 .taken)))
+returns c =
+    (write-short _ _ _ (rw (c .before .size-of .ensures .0) at (c .if1 .taken)), short-back _ _ (now (c .before .before .before .args .room)) (rw (c .before .size-of .ensures .0) at (c .if1 .taken)))
 
 bytes-of-requires : tie.Need-bytes-of-requires
 bytes-of-requires c κs = search needs
@@ -25,7 +26,7 @@ slice-aggregate-copy : tie.Need-slice-aggregate-copy
 slice-aggregate-copy c = prefix-length _ _ _ (c .before .bytes-of .ensures) (c .before .before .before .size-of .ensures .2)
 
 copy-requires : tie.Need-copy-requires
-copy-requires c κs = prefix-fits _ _ _ _ (c .before .before .bytes-of .ensures) (c .before .before .before .before .size-of .ensures .2) (c .before .before .before .if1 .left)
+copy-requires c κs = search prefix-fits
 
 same-length : tie.Need-same-length
 same-length c = search needs

@@ -32,7 +32,11 @@ enum-known-verdict : tie.Need-enum-known-verdict Inv-loop μ-loop
 enum-known-verdict c = search needs
 
 returns-2 : tie.Need-returns-2 Inv-loop μ-loop
-returns-2 c = check-own _ _ _ _ (c .before .before .before .before .if1 .left ∙ c .before .before .before .before .before .size-of .ensures .0) _ (c .before .before .before .read .ensures) _ _ (c .before .verdict .given .1) refl
+returns-2 c =
+    let at-branch = c .before .before .before .before in
+    let at-size-of = at-branch .before in
+    check-own _ _ _ _ (at-branch .if1 .left ∙ at-size-of .size-of .ensures .0) _ (c .before .before .before .read .ensures) _ _
+    (c .before .verdict .given .1) refl
 
 enum-told : tie.Need-enum-told Inv-loop μ-loop
 enum-told c = search needs
@@ -47,13 +51,22 @@ refused-requires-2 : tie.Need-refused-requires-2 Inv-loop μ-loop
 refused-requires-2 c κs = search needs
 
 returns-3 : tie.Need-returns-3 Inv-loop μ-loop
-returns-3 c = check-42 _ _ _ _ (c .before .before .before .before .before .before .before .if1 .left ∙ c .before .before .before .before .before .before .before .before .size-of .ensures .0) _ (c .before .before .before .before .before .before .read .ensures) (c .before .before .before .before .enum-told .given .1) _ (c .before .before .format-missing .ensures) (c .before .if2 .taken) (c .refused2 .ensures)
+returns-3 c =
+    let at-enum-told = c .before .before .before .before in
+    let at-read = at-enum-told .before .before in
+    let at-branch = at-read .before in
+    let at-size-of = at-branch .before in
+    check-42 _ _ _ _ (at-branch .if1 .left ∙ at-size-of .size-of .ensures .0) _ (at-read .read .ensures) (at-enum-told .enum-told .given .1) _
+    (c .before .before .format-missing .ensures) (c .before .if2 .taken) (c .refused2 .ensures)
 
 shared-slice-read-number : tie.Need-shared-slice-read-number Inv-loop μ-loop
 shared-slice-read-number c = search needs
 
 loop-holds : tie.Need-loop-holds Inv-loop μ-loop
-loop-holds c = (seek _ _, frames-held _ _ _ (c .before .before .before .before .before .before .read .ensures) (c .before .before .before .before .enum-told .given .1))
+loop-holds c =
+    let at-enum-told = c .before .before .before .before in
+    let at-read = at-enum-told .before .before in
+    (seek _ _, frames-held _ _ _ (at-read .read .ensures) (at-enum-told .enum-told .given .1))
 
 mul-f : tie.Need-mul-f Inv-loop μ-loop
 mul-f c = let w = c .before .loop .inv .1 .few in let t = c .loop-test .taken in omega arith
@@ -62,16 +75,37 @@ element-copy-out-f : tie.Need-element-copy-out-f Inv-loop μ-loop
 element-copy-out-f c = let w = c .before .loop .inv .1 .few in let t = c .loop-test .taken in omega arith
 
 has-number-requires : tie.Need-has-number-requires Inv-loop μ-loop
-has-number-requires c κs = number-room (now (c .before .before .before .before .before .before .before .before .before .before .before .before .before .before .args .block)) _ (c .before .before .loop .inv .1 .inside _ (c .before .loop-test .taken))
+has-number-requires c κs =
+    let earlier = c .before .before .before .before .before .before .before in
+    let start = earlier .before .before .before .before .before .before .before in
+    number-room (now (start .args .block)) _ (c .before .before .loop .inv .1 .inside _ (c .before .loop-test .taken))
 
 cast-at : tie.Need-cast-at Inv-loop μ-loop
 cast-at c = search needs
 
 check-frame-requires : tie.Need-check-frame-requires Inv-loop μ-loop
-check-frame-requires c κs = (c .before .before .before .before .before .loop .inv .1 .inside _ (c .before .before .before .before .loop-test .taken), (let l = c .before .before .before .before .before .before .before .before .before .before .before .before .before .if1 .left in let h = c .before .before .before .before .before .before .before .before .before .before .before .before .before .before .size-of .ensures .1 in omega arith))
+check-frame-requires c κs =
+    let at-loop-test = c .before .before .before .before in
+    let at-turn = at-loop-test .before in
+    let earlier = at-turn .before .before .before .before .before .before .before in
+    let at-branch = earlier .before in
+    let at-size-of = at-branch .before in
+    (at-turn .loop .inv .1 .inside _ (at-loop-test .loop-test .taken), (let l = at-branch .if1 .left in let h = at-size-of .size-of .ensures .1 in omega arith))
 
 returns-4 : tie.Need-returns-4 Inv-loop μ-loop
-returns-4 c = check-on _ _ _ _ (c .before .before .before .before .before .before .before .before .before .before .before .before .before .before .if1 .left ∙ c .before .before .before .before .before .before .before .before .before .before .before .before .before .before .before .size-of .ensures .0) _ (c .before .before .before .before .before .before .before .before .before .before .before .before .before .read .ensures) (c .before .before .before .before .before .before .before .before .before .before .before .enum-told .given .1) _ (c .before .before .before .before .before .before .before .before .before .format-missing .ensures) (c .before .before .before .before .before .before .before .before .if2 .left) _ (found-here _ _ _ (c .before .before .before .before .before .before .loop .inv .0) (c .before .before .before .before .before .loop-test .taken) (sym (c .before .before .before .has-number .ensures) ∙ c .before .before .if3 .taken)) (c .before .before .before .before .before .loop-test .taken) (c .check-frame .ensures)
+returns-4 c =
+    let at-loop-test = c .before .before .before .before .before in
+    let at-turn = at-loop-test .before in
+    let at-branch = at-turn .before .before in
+    let at-format-missing = at-branch .before in
+    let at-enum-told = at-format-missing .before .before in
+    let at-read = at-enum-told .before .before in
+    let at-branch-2 = at-read .before in
+    let at-size-of = at-branch-2 .before in
+    check-on _ _ _ _ (at-branch-2 .if1 .left ∙ at-size-of .size-of .ensures .0) _ (at-read .read .ensures) (at-enum-told .enum-told .given .1) _
+    (at-format-missing .format-missing .ensures) (at-branch .if2 .left) _
+    (found-here _ _ _ (at-turn .loop .inv .0) (at-loop-test .loop-test .taken) (sym (c .before .before .before .has-number .ensures) ∙ c .before .before .if3 .taken))
+    (at-loop-test .loop-test .taken) (c .check-frame .ensures)
 
 add-i : tie.Need-add-i Inv-loop μ-loop
 add-i c = search needs
@@ -80,13 +114,24 @@ loop-less : tie.Need-loop-less Inv-loop μ-loop
 loop-less c = let t = c .before .before .before .loop-test .taken in omega arith
 
 loop-again : tie.Need-loop-again Inv-loop μ-loop
-loop-again c = (not-here _ _ _ (c .before .before .before .before .loop .inv .0) (c .before .before .before .loop-test .taken) (sym (c .before .has-number .ensures) ∙ c .if3 .left), c .before .before .before .before .loop .inv .1)
+loop-again c =
+    let at-turn = c .before .before .before .before in
+    (not-here _ _ _ (at-turn .loop .inv .0) (c .before .before .before .loop-test .taken) (sym (c .before .has-number .ensures) ∙ c .if3 .left), at-turn .loop .inv .1)
 
 refused-requires-3 : tie.Need-refused-requires-3 Inv-loop μ-loop
 refused-requires-3 c κs = search needs
 
 returns-5 : tie.Need-returns-5 Inv-loop μ-loop
-returns-5 c = check-43 _ _ _ _ (c .before .before .before .before .before .before .before .before .before .before .if1 .left ∙ c .before .before .before .before .before .before .before .before .before .before .before .size-of .ensures .0) _ (c .before .before .before .before .before .before .before .before .before .read .ensures) (c .before .before .before .before .before .before .before .enum-told .given .1) _ (c .before .before .before .before .before .format-missing .ensures) (c .before .before .before .before .if2 .left) _ (none-here _ _ _ (c .before .before .loop .inv .0) (c .before .loop-test .left)) (omega arith) (c .refused3 .ensures)
+returns-5 c =
+    let at-branch = c .before .before .before .before in
+    let at-format-missing = at-branch .before in
+    let at-enum-told = at-format-missing .before .before in
+    let at-read = at-enum-told .before .before in
+    let at-branch-2 = at-read .before in
+    let at-size-of = at-branch-2 .before in
+    check-43 _ _ _ _ (at-branch-2 .if1 .left ∙ at-size-of .size-of .ensures .0) _ (at-read .read .ensures) (at-enum-told .enum-told .given .1) _
+    (at-format-missing .format-missing .ensures) (at-branch .if2 .left) _ (none-here _ _ _ (c .before .before .loop .inv .0) (c .before .loop-test .left))
+    (omega arith) (c .refused3 .ensures)
 
 pub check-spec : {M : Type 1} → statement M
 check-spec =

@@ -14,7 +14,8 @@ refused-requires : tie.Need-refused-requires
 refused-requires c κs = search needs
 
 returns : tie.Need-returns
-returns c = frame-44 _ _ _ _ (c .before .before .before .le32 .ensures) _ (c .before .before .offers-at .ensures) _ (c .before .if1 .taken) (c .refused .ensures)
+returns c =
+    frame-44 _ _ _ _ (c .before .before .before .le32 .ensures) _ (c .before .before .offers-at .ensures) _ (c .before .if1 .taken) (c .refused .ensures)
 
 le32-requires-2 : tie.Need-le32-requires-2
 le32-requires-2 c κs = search needs
@@ -29,7 +30,12 @@ refused-requires-2 : tie.Need-refused-requires-2
 refused-requires-2 c κs = search needs
 
 returns-2 : tie.Need-returns-2
-returns-2 c = frame-45 _ _ _ _ (c .before .before .before .before .before .before .le32 .ensures) _ (c .before .before .before .before .before .offers-at .ensures) _ (c .before .before .before .before .if1 .left) _ (c .before .before .before .le322 .ensures) _ (c .before .before .frame-size-broken .ensures) (c .before .if2 .taken) (c .refused2 .ensures)
+returns-2 c =
+    let at-branch = c .before .before .before .before in
+    let at-offers-at = at-branch .before in
+    let at-le = at-offers-at .before in
+    frame-45 _ _ _ _ (at-le .le32 .ensures) _ (at-offers-at .offers-at .ensures) _ (at-branch .if1 .left) _ (c .before .before .before .le322 .ensures) _
+    (c .before .before .frame-size-broken .ensures) (c .before .if2 .taken) (c .refused2 .ensures)
 
 le32-requires-3 : tie.Need-le32-requires-3
 le32-requires-3 c κs = search needs
@@ -44,10 +50,27 @@ refused-requires-3 : tie.Need-refused-requires-3
 refused-requires-3 c κs = search needs
 
 returns-3 : tie.Need-returns-3
-returns-3 c = frame-46 _ _ _ _ (c .before .before .before .before .before .before .before .before .before .le32 .ensures) _ (c .before .before .before .before .before .before .before .before .offers-at .ensures) _ (c .before .before .before .before .before .before .before .if1 .left) _ (c .before .before .before .before .before .before .le322 .ensures) _ (c .before .before .before .before .before .frame-size-broken .ensures) (c .before .before .before .before .if2 .left) _ (c .before .before .before .le323 .ensures) _ (c .before .before .payload-size-broken .ensures) (c .before .if3 .taken) (c .refused3 .ensures)
+returns-3 c =
+    let at-branch = c .before .before .before .before in
+    let at-frame-size-broken = at-branch .before in
+    let at-le = at-frame-size-broken .before in
+    let at-branch-2 = at-le .before in
+    let at-offers-at = at-branch-2 .before in
+    let at-le-2 = at-offers-at .before in
+    frame-46 _ _ _ _ (at-le-2 .le32 .ensures) _ (at-offers-at .offers-at .ensures) _ (at-branch-2 .if1 .left) _ (at-le .le322 .ensures) _
+    (at-frame-size-broken .frame-size-broken .ensures) (at-branch .if2 .left) _ (c .before .before .before .le323 .ensures) _
+    (c .before .before .payload-size-broken .ensures) (c .before .if3 .taken) (c .refused3 .ensures)
 
 returns-4 : tie.Need-returns-4
-returns-4 c = frame-well _ _ _ _ (c .before .before .before .before .before .before .before .before .le32 .ensures) _ (c .before .before .before .before .before .before .before .offers-at .ensures) _ (c .before .before .before .before .before .before .if1 .left) _ (c .before .before .before .before .before .le322 .ensures) _ (c .before .before .before .before .frame-size-broken .ensures) (c .before .before .before .if2 .left) _ (c .before .before .le323 .ensures) _ (c .before .payload-size-broken .ensures) (c .if3 .left) refl
+returns-4 c =
+    let at-frame-size-broken = c .before .before .before .before in
+    let at-le = at-frame-size-broken .before in
+    let at-branch = at-le .before in
+    let at-offers-at = at-branch .before in
+    let at-le-2 = at-offers-at .before in
+    frame-well _ _ _ _ (at-le-2 .le32 .ensures) _ (at-offers-at .offers-at .ensures) _ (at-branch .if1 .left) _ (at-le .le322 .ensures) _
+    (at-frame-size-broken .frame-size-broken .ensures) (c .before .before .before .if2 .left) _ (c .before .before .le323 .ensures) _
+    (c .before .payload-size-broken .ensures) (c .if3 .left) refl
 
 pub check-frame-spec : {M : Type 1} → statement M
 check-frame-spec =

@@ -59,7 +59,11 @@ part-put-lines-end c = let u = next-here _ _ _ _ _ _ _ _ _ _ _ _ (c .before .bef
 
 -- src/lib.rt:153:13
 put-lines-requires : tie.Need-put-lines-requires Inv-loop μ-loop
-put-lines-requires c κs = (fits-said _ _ _ _ (c .before .before .step .ensures .1), follow-room _ _ _ _ _ _ _ _ _ _ _ _ (c .before .before .before .before .before .before .before .before .loop .inv) (c .before .before .before .before .before .before .before .loop-test .taken) (c .before .before .before .before .before .before .before .before .before .before .before .before .before .pre))
+put-lines-requires c κs =
+    let at-loop-test = c .before .before .before .before .before .before .before in
+    let at-turn = at-loop-test .before in
+    let start = at-turn .before .before .before .before .before in
+    (fits-said _ _ _ _ (c .before .before .step .ensures .1), follow-room _ _ _ _ _ _ _ _ _ _ _ _ (at-turn .loop .inv) (at-loop-test .loop-test .taken) (start .pre))
 
 -- src/lib.rt:158:12
 decided-requires : tie.Need-decided-requires Inv-loop μ-loop
@@ -67,11 +71,27 @@ decided-requires c κs = search needs
 
 -- src/lib.rt:159:13
 same-length : tie.Need-same-length Inv-loop μ-loop
-same-length c = c .before .before .before .before .before .before .put-lines .ensures .0 .size ∙ c .before .before .before .before .before .before .before .before .before .before .before .before .before .before .before .loop .inv .put .size
+same-length c =
+    let at-put-lines = c .before .before .before .before .before .before in
+    let earlier = at-put-lines .before .before .before .before .before .before .before in
+    let at-turn = earlier .before .before in
+    at-put-lines .put-lines .ensures .0 .size ∙ at-turn .loop .inv .put .size
 
 -- src/lib.rt:159:13
 returns : tie.Need-returns Inv-loop μ-loop
-returns c = follow-decides _ _ _ _ _ _ _ _ _ _ _ _ (c .before .before .before .before .before .before .before .before .before .before .before .before .before .before .before .loop .inv) (c .before .before .before .before .before .before .before .before .before .before .before .before .before .before .loop-test .taken) _ (ends-at (c .before .before .before .before .before .before .before .before .before .before .before .before .before .before .before .before .before .before .before .before .args .form) _ _ _ _ (c .before .before .before .before .before .before .before .before .before .before .before .before .before .size .ensures) (c .before .before .before .before .before .before .before .before .before .before .before .before .next .ensures)) _ _ _ _ _ _ (one-leads _ _ _ _ _ _ (c .before .before .before .before .before .before .before .before .before .step .result) _ _ (c .before .before .before .before .before .before .before .before .before .step .ensures .0) (c .before .before .before .before .before .before .before .before .before .step .ensures .1) (c .before .before .before .before .before .before .put-lines .ensures .1 .0)) (one-text _ _ _ _ _ _ (c .before .before .before .before .before .before .before .before .before .step .result) (c .before .before .before .before .before .before .before .before .before .step .ensures .1) (c .before .before .before .before .before .before .put-lines .ensures .0)) (c .before .before .before .before .before .before .put-lines .ensures .1 .1) _ (c .before .decided .ensures) (c .if1 .taken)
+returns c =
+    let at-put-lines = c .before .before .before .before .before .before in
+    let at-step = at-put-lines .before .before .before in
+    let at-next = at-step .before .before .before in
+    let at-size = at-next .before in
+    let at-loop-test = at-size .before in
+    let at-turn = at-loop-test .before in
+    let start = at-turn .before .before .before .before .before in
+    follow-decides _ _ _ _ _ _ _ _ _ _ _ _ (at-turn .loop .inv) (at-loop-test .loop-test .taken) _
+    (ends-at (start .args .form) _ _ _ _ (at-size .size .ensures) (at-next .next .ensures)) _ _ _ _ _ _
+    (one-leads _ _ _ _ _ _ (at-step .step .result) _ _ (at-step .step .ensures .0) (at-step .step .ensures .1) (at-put-lines .put-lines .ensures .1 .0))
+    (one-text _ _ _ _ _ _ (at-step .step .result) (at-step .step .ensures .1) (at-put-lines .put-lines .ensures .0))
+    (at-put-lines .put-lines .ensures .1 .1) _ (c .before .decided .ensures) (c .if1 .taken)
 
 -- src/lib.rt:149:5
 loop-less : tie.Need-loop-less Inv-loop μ-loop
@@ -79,7 +99,19 @@ loop-less c = let u = next-here _ _ _ _ _ _ _ _ _ _ _ _ (c .before .before .befo
 
 -- src/lib.rt:149:5
 loop-again : tie.Need-loop-again Inv-loop μ-loop
-loop-again c = follow-on _ _ _ _ _ _ _ _ _ _ _ _ (c .before .before .before .before .before .before .before .before .before .before .before .before .before .before .before .loop .inv) (c .before .before .before .before .before .before .before .before .before .before .before .before .before .before .loop-test .taken) _ (ends-at (c .before .before .before .before .before .before .before .before .before .before .before .before .before .before .before .before .before .before .before .before .args .form) _ _ _ _ (c .before .before .before .before .before .before .before .before .before .before .before .before .before .size .ensures) (c .before .before .before .before .before .before .before .before .before .before .before .before .next .ensures)) _ _ _ _ _ _ (one-leads _ _ _ _ _ _ (c .before .before .before .before .before .before .before .before .before .step .result) _ _ (c .before .before .before .before .before .before .before .before .before .step .ensures .0) (c .before .before .before .before .before .before .before .before .before .step .ensures .1) (c .before .before .before .before .before .before .put-lines .ensures .1 .0)) (one-text _ _ _ _ _ _ (c .before .before .before .before .before .before .before .before .before .step .result) (c .before .before .before .before .before .before .before .before .before .step .ensures .1) (c .before .before .before .before .before .before .put-lines .ensures .0)) (c .before .before .before .before .before .before .put-lines .ensures .1 .1) _ (c .before .decided .ensures) (c .if1 .left)
+loop-again c =
+    let at-put-lines = c .before .before .before .before .before .before in
+    let at-step = at-put-lines .before .before .before in
+    let at-next = at-step .before .before .before in
+    let at-size = at-next .before in
+    let at-loop-test = at-size .before in
+    let at-turn = at-loop-test .before in
+    let start = at-turn .before .before .before .before .before in
+    follow-on _ _ _ _ _ _ _ _ _ _ _ _ (at-turn .loop .inv) (at-loop-test .loop-test .taken) _
+    (ends-at (start .args .form) _ _ _ _ (at-size .size .ensures) (at-next .next .ensures)) _ _ _ _ _ _
+    (one-leads _ _ _ _ _ _ (at-step .step .result) _ _ (at-step .step .ensures .0) (at-step .step .ensures .1) (at-put-lines .put-lines .ensures .1 .0))
+    (one-text _ _ _ _ _ _ (at-step .step .result) (at-step .step .ensures .1) (at-put-lines .put-lines .ensures .0))
+    (at-put-lines .put-lines .ensures .1 .1) _ (c .before .decided .ensures) (c .if1 .left)
 
 -- src/lib.rt:132:1
 same-length-2 : tie.Need-same-length-2 Inv-loop μ-loop

@@ -27,7 +27,10 @@ same-length c = c .before .before .run .ensures .put .size
 
 -- src/lib.rt:248:1
 returns : tie.Need-returns
-returns c = first-ran _ _ _ (now (c .before .before .before .before .before .before .before .before .args .piece)) _ (c .before .before .before .before .before .before .before .before .args .r .have) _ _ (c .before .before .run .ensures)
+returns c =
+    let earlier = c .before .before .before .before .before .before .before in
+    let start = earlier .before in
+    first-ran _ _ _ (now (start .args .piece)) _ (start .args .r .have) _ _ (c .before .before .run .ensures)
 
 pub last-spec : {M : Type 1} → statement M
 last-spec =

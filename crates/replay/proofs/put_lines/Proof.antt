@@ -12,7 +12,11 @@ is-silent-requires c κs = search needs
 
 -- src/lib.rt:133:9
 returns : tie.Need-returns
-returns c = lined-silent (c .before .before .before .before .args .show) (c .before .before .before .before .args .c) _ _ (listIn (tellSaid (c .before .before .before .before .args .form) (c .before .before .before .before .args .before) (now (c .before .before .before .before .args .r)) (c .before .before .before .before .args .said))) _ (c .before .is-silent .ensures) (c .if1 .taken) (c .before .before .before .before .pre .1)
+returns c =
+    let start = c .before .before .before .before in
+    lined-silent (start .args .show) (start .args .c) _ _
+    (listIn (tellSaid (start .args .form) (start .args .before) (now (start .args .r)) (start .args .said))) _ (c .before .is-silent .ensures)
+    (c .if1 .taken) (start .pre .1)
 
 -- src/lib.rt:135:9
 told-requires : tie.Need-told-requires
@@ -28,7 +32,11 @@ same-length c = search needs
 
 -- src/lib.rt:118:1
 returns-2 : tie.Need-returns-2
-returns-2 c = lined-told (c .before .before .before .before .before .before .before .before .before .args .show) (c .before .before .before .before .before .before .before .before .before .args .c) _ _ _ (tellSaid (c .before .before .before .before .before .before .before .before .before .args .form) (c .before .before .before .before .before .before .before .before .before .args .before) (now (c .before .before .before .before .before .before .before .before .before .args .r)) (c .before .before .before .before .before .before .before .before .before .args .said)) _ _ _ (c .before .before .before .before .told .ensures) (c .before .before .tell .ensures)
+returns-2 c =
+    let at-told = c .before .before .before .before in
+    let start = at-told .before .before .before .before .before in
+    lined-told (start .args .show) (start .args .c) _ _ _ (tellSaid (start .args .form) (start .args .before) (now (start .args .r)) (start .args .said))
+    _ _ _ (at-told .told .ensures) (c .before .before .tell .ensures)
 
 pub put-lines-spec : {M : Type 1} → statement M
 put-lines-spec =

@@ -15,15 +15,24 @@ end-requires c κs = (omega (arith, c .size .ensures, positive (c .before .befor
 
 -- src/lib.rt:213:36
 sub-run : tie.Need-sub-run
-sub-run c = omega (arith, (stop-bounds (c .before .before .before .before .before .args .form) _ _ _ (c .before .before .before .before .before .pre .0) (stop-is (c .before .before .before .before .before .args .form) _ _ _ _ (c .before .size .ensures) (c .end .ensures))) .0)
+sub-run c =
+    let start = c .before .before .before .before .before in
+    omega
+    (arith, (stop-bounds (start .args .form) _ _ _ (start .pre .0) (stop-is (start .args .form) _ _ _ _ (c .before .size .ensures) (c .end .ensures))) .0)
 
 -- src/lib.rt:213:36
 part-run-start : tie.Need-part-run-start
-part-run-start c = omega (arith, (stop-bounds (c .before .before .before .before .before .args .form) _ _ _ (c .before .before .before .before .before .pre .0) (stop-is (c .before .before .before .before .before .args .form) _ _ _ _ (c .before .size .ensures) (c .end .ensures))) .0)
+part-run-start c =
+    let start = c .before .before .before .before .before in
+    omega
+    (arith, (stop-bounds (start .args .form) _ _ _ (start .pre .0) (stop-is (start .args .form) _ _ _ _ (c .before .size .ensures) (c .end .ensures))) .0)
 
 -- src/lib.rt:213:36
 part-run-end : tie.Need-part-run-end
-part-run-end c = omega (arith, (stop-bounds (c .before .before .before .before .before .args .form) _ _ _ (c .before .before .before .before .before .pre .0) (stop-is (c .before .before .before .before .before .args .form) _ _ _ _ (c .before .size .ensures) (c .end .ensures))) .1)
+part-run-end c =
+    let start = c .before .before .before .before .before in
+    omega
+    (arith, (stop-bounds (start .args .form) _ _ _ (start .pre .0) (stop-is (start .args .form) _ _ _ _ (c .before .size .ensures) (c .end .ensures))) .1)
 
 -- src/lib.rt:213:9
 run-requires : tie.Need-run-requires
@@ -31,11 +40,21 @@ run-requires c κs = search needs
 
 -- src/lib.rt:214:37
 sub-fill : tie.Need-sub-fill
-sub-fill c = omega (arith, (stop-bounds (c .before .before .before .before .before .before .before .before .before .before .before .args .form) _ _ _ (c .before .before .before .before .before .before .before .before .before .before .before .pre .0) (stop-is (c .before .before .before .before .before .before .before .before .before .before .before .args .form) _ _ _ _ (c .before .before .before .before .before .before .before .size .ensures) (c .before .before .before .before .before .before .end .ensures))) .1)
+sub-fill c =
+    let at-end = c .before .before .before .before .before .before in
+    let at-size = at-end .before in
+    let start = at-size .before .before .before .before in
+    omega
+    (arith, (stop-bounds (start .args .form) _ _ _ (start .pre .0) (stop-is (start .args .form) _ _ _ _ (at-size .size .ensures) (at-end .end .ensures))) .1)
 
 -- src/lib.rt:214:37
 part-fill-start : tie.Need-part-fill-start
-part-fill-start c = omega (arith, (stop-bounds (c .before .before .before .before .before .before .before .before .before .before .before .args .form) _ _ _ (c .before .before .before .before .before .before .before .before .before .before .before .pre .0) (stop-is (c .before .before .before .before .before .before .before .before .before .before .before .args .form) _ _ _ _ (c .before .before .before .before .before .before .before .size .ensures) (c .before .before .before .before .before .before .end .ensures))) .1)
+part-fill-start c =
+    let at-end = c .before .before .before .before .before .before in
+    let at-size = at-end .before in
+    let start = at-size .before .before .before .before in
+    omega
+    (arith, (stop-bounds (start .args .form) _ _ _ (start .pre .0) (stop-is (start .args .form) _ _ _ _ (at-size .size .ensures) (at-end .end .ensures))) .1)
 
 -- src/lib.rt:214:37
 part-fill-end : tie.Need-part-fill-end
@@ -55,7 +74,14 @@ same-length-2 c = search needs
 
 -- src/lib.rt:208:1
 returns : tie.Need-returns
-returns c = rested _ _ _ _ _ _ _ _ _ _ _ _ _ (stop-is (c .before .before .before .before .before .before .before .before .before .before .before .before .before .before .before .before .args .form) _ _ _ _ (c .before .before .before .before .before .before .before .before .before .before .before .before .size .ensures) (c .before .before .before .before .before .before .before .before .before .before .before .end .ensures)) (c .before .before .before .before .before .before .before .before .run .ensures) (c .before .before .before .fill .ensures .0) (c .before .before .before .fill .ensures .1)
+returns c =
+    let earlier = c .before .before .before .before .before .before .before in
+    let at-run = earlier .before in
+    let at-end = at-run .before .before .before in
+    let at-size = at-end .before in
+    let start = at-size .before .before .before .before in
+    rested _ _ _ _ _ _ _ _ _ _ _ _ _ (stop-is (start .args .form) _ _ _ _ (at-size .size .ensures) (at-end .end .ensures)) (at-run .run .ensures)
+    (c .before .before .before .fill .ensures .0) (c .before .before .before .fill .ensures .1)
 
 pub rest-of-spec : {M : Type 1} → statement M
 rest-of-spec =

@@ -22,7 +22,11 @@ same-length c = c .before .before .follow .ensures .put .size
 
 -- src/lib.rt:230:1
 returns-2 : tie.Need-returns-2
-returns-2 c = run-follows _ _ _ _ _ _ (c .before .before .before .before .before .before .before .before .before .before .before .pre) _ _ (sym (c .before .before .before .before .before .before .decided .ensures) ∙ c .before .before .before .before .before .if1 .left) (c .before .before .follow .ensures)
+returns-2 c =
+    let at-branch = c .before .before .before .before .before in
+    let at-decided = at-branch .before in
+    let start = at-decided .before .before .before .before .before in
+    run-follows _ _ _ _ _ _ (start .pre) _ _ (sym (at-decided .decided .ensures) ∙ at-branch .if1 .left) (c .before .before .follow .ensures)
 
 pub run-spec : {M : Type 1} → statement M
 run-spec = tie.close (tie.spec decided-requires returns follow-requires same-length returns-2)

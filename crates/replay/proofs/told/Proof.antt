@@ -34,7 +34,9 @@ part-taken-start c = search needs
 
 -- src/lib.rt:98:36
 part-taken-end : tie.Need-part-taken-end
-part-taken-end c = omega (arith, c .before .head .ensures, c .length .ensures .0, fits-transfer _ _ _ _ (c .before .before .before .said .given .1) (c .before .before .before .before .before .before .pre) .1)
+part-taken-end c =
+    let start = c .before .before .before .before .before .before in
+    omega (arith, c .before .head .ensures, c .length .ensures .0, fits-transfer _ _ _ _ (c .before .before .before .said .given .1) (start .pre) .1)
 
 -- src/lib.rt:98:13
 taken-requires : tie.Need-taken-requires
@@ -54,7 +56,10 @@ returns c = tells-nothing _ _ _ _ (c .enum-told .given .1)
 
 -- src/lib.rt:86:1
 returns-2 : tie.Need-returns-2
-returns-2 c = tells-transfer _ _ _ _ _ _ _ _ (c .before .before .before .before .before .said .given .1) (c .before .before .before .head .ensures) (c .before .before .length .ensures .0) (c .taken .ensures)
+returns-2 c =
+    let at-said = c .before .before .before .before .before in
+    tells-transfer _ _ _ _ _ _ _ _ (at-said .said .given .1) (c .before .before .before .head .ensures) (c .before .before .length .ensures .0)
+    (c .taken .ensures)
 
 -- src/lib.rt:86:1
 returns-3 : tie.Need-returns-3

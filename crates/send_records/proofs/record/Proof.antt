@@ -20,7 +20,11 @@ same-length : tie.Need-same-length
 same-length c = search needs
 
 returns : tie.Need-returns
-returns c = front-record (c .before .before .before .before .before .before .before .before .args .written) (c .before .before .before .before .before .before .before .before .args .n) (now (c .before .before .before .before .before .before .before .before .args .room)) (now (c .before .before .before .before .before .before .before .before .args .out)) _ (c .before .before .before .before .before .if1 .taken) (c .before .before .full .ensures)
+returns c =
+    let at-branch = c .before .before .before .before .before in
+    let start = at-branch .before .before .before in
+    front-record (start .args .written) (start .args .n) (now (start .args .room)) (now (start .args .out)) _ (at-branch .if1 .taken)
+    (c .before .before .full .ensures)
 
 returns-2 : tie.Need-returns-2
 returns-2 c = search needs

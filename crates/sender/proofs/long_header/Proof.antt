@@ -28,7 +28,12 @@ byte-requires-4 : tie.Need-byte-requires-4
 byte-requires-4 c κs = search needs
 
 returns : tie.Need-returns
-returns c = long-is (c .before .before .before .before .before .before .args .fid) (c .before .before .before .before .before .before .args .eof) (c .before .before .before .before .before .before .args .ticks) _ _ _ _ _ _ (c .before .before .before .before .before .weight .ensures .0) (c .before .before .before .before .weight2 .ensures .0) (c .before .before .before .byte .ensures) (c .before .before .byte2 .ensures) (c .before .byte3 .ensures) (c .byte4 .ensures)
+returns c =
+    let at-weight = c .before .before .before .before in
+    let at-weight-2 = at-weight .before in
+    let start = at-weight-2 .before in
+    long-is (start .args .fid) (start .args .eof) (start .args .ticks) _ _ _ _ _ _ (at-weight-2 .weight .ensures .0) (at-weight .weight2 .ensures .0)
+    (c .before .before .before .byte .ensures) (c .before .before .byte2 .ensures) (c .before .byte3 .ensures) (c .byte4 .ensures)
 
 pub long-header-spec : {M : Type 1} → statement M
 long-header-spec =

@@ -41,7 +41,12 @@ same-length : tie.Need-same-length
 same-length c = search needs
 
 returns : tie.Need-returns
-returns c = (wrote-is (c .before .before .before .before .before .before .before .before .before .before .before .before .before .args .x) (now (c .before .before .before .before .before .before .before .before .before .before .before .before .before .args .frame)) (now (c .before .before .before .before .before .before .before .before .before .before .before .before .before .args .room)) (c .before .before .before .before .before .before .before .before .before .before .before .before .before .args .payload) (c .before .before .before .before .before .before .before .before .before .before .before .before .before .args .stamp) (c .before .before .before .before .before .before .before .before .before .before .before .before .before .pre) _ _ (c .before .before .before .before .before .before .before .before .before .before .size-of .ensures) (c .before .before .before .before .before .before .before .before .before .least .ensures), put-is (c .before .before .before .before .before .before .before .before .before .before .before .before .before .args .x) (now (c .before .before .before .before .before .before .before .before .before .before .before .before .before .args .frame)) (now (c .before .before .before .before .before .before .before .before .before .before .before .before .before .args .room)) (c .before .before .before .before .before .before .before .before .before .before .before .before .before .args .payload) (c .before .before .before .before .before .before .before .before .before .before .before .before .before .args .stamp) (c .before .before .before .before .before .before .before .before .before .before .before .before .before .pre) _ _ (c .before .before .before .before .before .before .before .before .before .before .size-of .ensures) (c .before .before .before .before .before .before .before .before .before .least .ensures) _ _ (c .before .before .before .before .before .before .before .write-header .ensures) (c .before .before .put .ensures))
+returns c =
+    let at-write-header = c .before .before .before .before .before .before .before in
+    let at-least = at-write-header .before .before in
+    let at-size-of = at-least .before in
+    let start = at-size-of .before .before .before in
+    (wrote-is (start .args .x) (now (start .args .frame)) (now (start .args .room)) (start .args .payload) (start .args .stamp) (start .pre) _ _ (at-size-of .size-of .ensures) (at-least .least .ensures), put-is (start .args .x) (now (start .args .frame)) (now (start .args .room)) (start .args .payload) (start .args .stamp) (start .pre) _ _ (at-size-of .size-of .ensures) (at-least .least .ensures) _ _ (at-write-header .write-header .ensures) (c .before .before .put .ensures))
 
 pub write-spec : {M : Type 1} → statement M
 write-spec =

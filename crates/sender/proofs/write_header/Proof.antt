@@ -15,7 +15,10 @@ slice-aggregate-copy : tie.Need-slice-aggregate-copy
 slice-aggregate-copy c = search needs
 
 copy-requires : tie.Need-copy-requires
-copy-requires c κs = header-room (c .before .before .before .before .before .before .args .fid) (c .before .before .before .before .before .before .args .eof) (c .before .before .before .before .before .before .args .stamp) Absent (c .before .before .before .enum-told .given .1) _ (now (c .before .before .before .before .before .before .args .room)) (c .before .before .short-header .ensures) (c .before .before .before .before .before .before .pre)
+copy-requires c κs =
+    let start = c .before .before .before .before .before .before in
+    header-room (start .args .fid) (start .args .eof) (start .args .stamp) Absent (c .before .before .before .enum-told .given .1) _
+    (now (start .args .room)) (c .before .before .short-header .ensures) (start .pre)
 
 enum-known-stamp : tie.Need-enum-known-stamp
 enum-known-stamp c = search needs
@@ -27,19 +30,33 @@ slice-aggregate-copy-2 : tie.Need-slice-aggregate-copy-2
 slice-aggregate-copy-2 c = search needs
 
 copy-requires-2 : tie.Need-copy-requires-2
-copy-requires-2 c κs = header-room (c .before .before .before .before .before .before .before .args .fid) (c .before .before .before .before .before .before .before .args .eof) (c .before .before .before .before .before .before .before .args .stamp) _ (c .before .before .before .before .stamp .given .1) _ (now (c .before .before .before .before .before .before .before .args .room)) (c .before .before .long-header .ensures) (c .before .before .before .before .before .before .before .pre)
+copy-requires-2 c κs =
+    let at-stamp = c .before .before .before .before in
+    let start = at-stamp .before .before .before in
+    header-room (start .args .fid) (start .args .eof) (start .args .stamp) _ (at-stamp .stamp .given .1) _ (now (start .args .room))
+    (c .before .before .long-header .ensures) (start .pre)
 
 same-length : tie.Need-same-length
 same-length c = search needs
 
 returns : tie.Need-returns
-returns c = header-written (c .before .before .before .before .before .before .before .before .before .args .fid) (c .before .before .before .before .before .before .before .before .before .args .eof) (c .before .before .before .before .before .before .before .before .before .args .stamp) Absent (c .before .before .before .before .before .before .enum-told .given .1) _ (now (c .before .before .before .before .before .before .before .before .before .args .room)) (c .before .before .before .before .before .short-header .ensures) _ (c .before .before .copy .ensures .1)
+returns c =
+    let at-short-header = c .before .before .before .before .before in
+    let at-enum-told = at-short-header .before in
+    let start = at-enum-told .before .before .before in
+    header-written (start .args .fid) (start .args .eof) (start .args .stamp) Absent (at-enum-told .enum-told .given .1) _ (now (start .args .room))
+    (at-short-header .short-header .ensures) _ (c .before .before .copy .ensures .1)
 
 same-length-2 : tie.Need-same-length-2
 same-length-2 c = search needs
 
 returns-2 : tie.Need-returns-2
-returns-2 c = header-written (c .before .before .before .before .before .before .before .before .before .before .args .fid) (c .before .before .before .before .before .before .before .before .before .before .args .eof) (c .before .before .before .before .before .before .before .before .before .before .args .stamp) _ (c .before .before .before .before .before .before .before .stamp .given .1) _ (now (c .before .before .before .before .before .before .before .before .before .before .args .room)) (c .before .before .before .before .before .long-header .ensures) _ (c .before .before .copy2 .ensures .1)
+returns-2 c =
+    let at-long-header = c .before .before .before .before .before in
+    let at-stamp = at-long-header .before .before in
+    let start = at-stamp .before .before .before in
+    header-written (start .args .fid) (start .args .eof) (start .args .stamp) _ (at-stamp .stamp .given .1) _ (now (start .args .room))
+    (at-long-header .long-header .ensures) _ (c .before .before .copy2 .ensures .1)
 
 pub write-header-spec : {M : Type 1} → statement M
 write-header-spec =

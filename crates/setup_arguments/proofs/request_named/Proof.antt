@@ -65,14 +65,18 @@ returns-6 c = named SetCur (c .before .same6 .ensures .0 (c .if6 .taken))
 
 returns-7 : tie.Need-returns-7
 returns-7 c =
+    let at-same = c .before .before .before .before in
+    let at-branch = at-same .before .before in
+    let at-same-2 = at-branch .before in
+    let at-branch-2 = at-same-2 .before .before in
+    let at-same-3 = at-branch-2 .before in
+    let at-branch-3 = at-same-3 .before .before in
+    let at-same-4 = at-branch-3 .before in
+    let at-branch-4 = at-same-4 .before .before in
+    let at-same-5 = at-branch-4 .before in
+    let start = at-same-5 .before .before .before in
     unnamed
-    (each-request (λ q. now (c .before .before .before .before .before .before .before .before .before .before .before .before .before .before .before .before .before .before .before .args .word) ≡ requestName q → ⊥)
-    (unlike _ _ _ (c .before .before .before .before .before .before .before .before .before .before .before .before .before .before .before .if1 .left) (c .before .before .before .before .before .before .before .before .before .before .before .before .before .before .before .before .same .ensures .1))
-    (unlike _ _ _ (c .before .before .before .before .before .before .before .before .before .before .before .before .if2 .left) (c .before .before .before .before .before .before .before .before .before .before .before .before .before .same2 .ensures .1))
-    (unlike _ _ _ (c .before .before .before .before .before .before .before .before .before .if3 .left) (c .before .before .before .before .before .before .before .before .before .before .same3 .ensures .1))
-    (unlike _ _ _ (c .before .before .before .before .before .before .if4 .left) (c .before .before .before .before .before .before .before .same4 .ensures .1))
-    (unlike _ _ _ (c .before .before .before .if5 .left) (c .before .before .before .before .same5 .ensures .1))
-    (unlike _ _ _ (c .if6 .left) (c .before .same6 .ensures .1)))
+    (each-request (λ q. now (start .args .word) ≡ requestName q → ⊥) (unlike _ _ _ (at-branch-4 .if1 .left) (at-same-5 .same .ensures .1)) (unlike _ _ _ (at-branch-3 .if2 .left) (at-same-4 .same2 .ensures .1)) (unlike _ _ _ (at-branch-2 .if3 .left) (at-same-3 .same3 .ensures .1)) (unlike _ _ _ (at-branch .if4 .left) (at-same-2 .same4 .ensures .1)) (unlike _ _ _ (c .before .before .before .if5 .left) (at-same .same5 .ensures .1)) (unlike _ _ _ (c .if6 .left) (c .before .same6 .ensures .1)))
 
 pub request-named-spec : {M : Type 1} → statement M
 request-named-spec =

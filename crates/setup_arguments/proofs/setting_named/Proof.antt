@@ -47,12 +47,14 @@ returns-4 c = named Saturation (c .before .same4 .ensures .0 (c .if4 .taken))
 
 returns-5 : tie.Need-returns-5
 returns-5 c =
+    let at-same = c .before .before .before .before in
+    let at-branch = at-same .before .before in
+    let at-same-2 = at-branch .before in
+    let at-branch-2 = at-same-2 .before .before in
+    let at-same-3 = at-branch-2 .before in
+    let start = at-same-3 .before .before .before in
     unnamed
-    (each-setting (λ s. now (c .before .before .before .before .before .before .before .before .before .before .before .before .before .args .word) ≡ settingName s → ⊥)
-    (unlike _ _ _ (c .before .before .before .before .before .before .before .before .before .if1 .left) (c .before .before .before .before .before .before .before .before .before .before .same .ensures .1))
-    (unlike _ _ _ (c .before .before .before .before .before .before .if2 .left) (c .before .before .before .before .before .before .before .same2 .ensures .1))
-    (unlike _ _ _ (c .before .before .before .if3 .left) (c .before .before .before .before .same3 .ensures .1))
-    (unlike _ _ _ (c .if4 .left) (c .before .same4 .ensures .1)))
+    (each-setting (λ s. now (start .args .word) ≡ settingName s → ⊥) (unlike _ _ _ (at-branch-2 .if1 .left) (at-same-3 .same .ensures .1)) (unlike _ _ _ (at-branch .if2 .left) (at-same-2 .same2 .ensures .1)) (unlike _ _ _ (c .before .before .before .if3 .left) (at-same .same3 .ensures .1)) (unlike _ _ _ (c .if4 .left) (c .before .same4 .ensures .1)))
 
 pub setting-named-spec : {M : Type 1} → statement M
 setting-named-spec =

@@ -25,7 +25,9 @@ minus-requires : tie.Need-minus-requires
 minus-requires c κs = search needs
 
 returns-2 : tie.Need-returns-2
-returns-2 c = with-minus _ _ _ (c .before .before .before .before .before .if1 .left) (c .before .before .before .if2 .taken) (c .before .read .ensures) (c .minus .ensures)
+returns-2 c =
+    let at-branch = c .before .before .before .before .before in
+    with-minus _ _ _ (at-branch .if1 .left) (c .before .before .before .if2 .taken) (c .before .read .ensures) (c .minus .ensures)
 
 read-requires-2 : tie.Need-read-requires-2
 read-requires-2 c κs = search needs

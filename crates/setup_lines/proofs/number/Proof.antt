@@ -21,7 +21,10 @@ same-length : tie.Need-same-length
 same-length c = search needs
 
 returns : tie.Need-returns
-returns c = rw (line-below _ _ (omega arith) (sym (c .before .before .before .before .before .before .is-below .ensures) ∙ c .before .before .before .before .before .if1 .taken)) (c .before .before .spelt .ensures)
+returns c =
+    let at-branch = c .before .before .before .before .before in
+    let at-is-below = at-branch .before in
+    rw (line-below _ _ (omega arith) (sym (at-is-below .is-below .ensures) ∙ at-branch .if1 .taken)) (c .before .before .spelt .ensures)
 
 slice-aggregate-spelt-2 : tie.Need-slice-aggregate-spelt-2
 slice-aggregate-spelt-2 c = search needs
@@ -33,7 +36,10 @@ same-length-2 : tie.Need-same-length-2
 same-length-2 c = search needs
 
 returns-2 : tie.Need-returns-2
-returns-2 c = rw (line-above _ _ (sym (c .before .before .before .before .before .before .is-below .ensures) ∙ c .before .before .before .before .before .if1 .left)) (c .before .before .spelt2 .ensures)
+returns-2 c =
+    let at-branch = c .before .before .before .before .before in
+    let at-is-below = at-branch .before in
+    rw (line-above _ _ (sym (at-is-below .is-below .ensures) ∙ at-branch .if1 .left)) (c .before .before .spelt2 .ensures)
 
 pub number-spec : {M : Type 1} → statement M
 number-spec =

@@ -19,7 +19,10 @@ same-length : tie.Need-same-length
 same-length c = search needs
 
 returns : tie.Need-returns
-returns c = then (c .before .before .before .before .before .before .before .before .before .before .before .put .ensures) (then (c .before .before .before .before .before .before .before .digits .ensures .0) (c .before .before .put2 .ensures))
+returns c =
+    let at-digits = c .before .before .before .before .before .before .before in
+    let at-put = at-digits .before .before .before .before in
+    then (at-put .put .ensures) (then (at-digits .digits .ensures .0) (c .before .before .put2 .ensures))
 
 pub spelt-spec : {M : Type 1} → statement M
 spelt-spec =

@@ -31,7 +31,10 @@ element-copy-out-if1 : tie.Need-element-copy-out-if1 Inv-loop μ-loop
 element-copy-out-if1 c = search needs
 
 returns : tie.Need-returns Inv-loop μ-loop
-returns c = found-here _ _ _ (c .before .before .before .before .before .loop .inv) (c .before .before .before .before .loop-test .taken) (count-differs _ _ (c .if1 .taken))
+returns c =
+    let at-loop-test = c .before .before .before .before in
+    let at-turn = at-loop-test .before in
+    found-here _ _ _ (at-turn .loop .inv) (at-loop-test .loop-test .taken) (count-differs _ _ (c .if1 .taken))
 
 add-i : tie.Need-add-i Inv-loop μ-loop
 add-i c = search needs
@@ -40,7 +43,10 @@ loop-less : tie.Need-loop-less Inv-loop μ-loop
 loop-less c = omega arith
 
 loop-again : tie.Need-loop-again Inv-loop μ-loop
-loop-again c = not-here _ _ _ (c .before .before .before .before .before .loop .inv) (c .before .before .before .before .loop-test .taken) (count-agrees _ _ (c .if1 .left))
+loop-again c =
+    let at-loop-test = c .before .before .before .before in
+    let at-turn = at-loop-test .before in
+    not-here _ _ _ (at-turn .loop .inv) (at-loop-test .loop-test .taken) (count-agrees _ _ (c .if1 .left))
 
 returns-2 : tie.Need-returns-2 Inv-loop μ-loop
 returns-2 c = none-here _ _ _ (c .before .loop .inv) (c .loop-test .left)

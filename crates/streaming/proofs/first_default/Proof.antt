@@ -28,7 +28,9 @@ default-broken-requires : tie.Need-default-broken-requires Inv-loop μ-loop
 default-broken-requires c κs = search needs
 
 returns : tie.Need-returns Inv-loop μ-loop
-returns c = found-here _ _ _ (c .before .before .before .before .loop .inv) (c .before .before .before .loop-test .taken) (sym (c .before .default-broken .ensures) ∙ c .if1 .taken)
+returns c =
+    let at-turn = c .before .before .before .before in
+    found-here _ _ _ (at-turn .loop .inv) (c .before .before .before .loop-test .taken) (sym (c .before .default-broken .ensures) ∙ c .if1 .taken)
 
 add-i : tie.Need-add-i Inv-loop μ-loop
 add-i c = search needs
@@ -37,7 +39,9 @@ loop-less : tie.Need-loop-less Inv-loop μ-loop
 loop-less c = omega arith
 
 loop-again : tie.Need-loop-again Inv-loop μ-loop
-loop-again c = not-here _ _ _ (c .before .before .before .before .loop .inv) (c .before .before .before .loop-test .taken) (sym (c .before .default-broken .ensures) ∙ c .if1 .left)
+loop-again c =
+    let at-turn = c .before .before .before .before in
+    not-here _ _ _ (at-turn .loop .inv) (c .before .before .before .loop-test .taken) (sym (c .before .default-broken .ensures) ∙ c .if1 .left)
 
 returns-2 : tie.Need-returns-2 Inv-loop μ-loop
 returns-2 c = none-here _ _ _ (c .before .loop .inv) (c .loop-test .left)

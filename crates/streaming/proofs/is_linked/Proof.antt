@@ -13,10 +13,15 @@ enum-known-i : tie.Need-enum-known-i
 enum-known-i c = search needs
 
 mul-is-output : tie.Need-mul-is-output
-mul-is-output c = omega (arith, found-inside (c .before .before .before .before .args .t1) _ _ entitiesMost _ (search length-of) (c .before .before .before .find .ensures) (c .before .i .given .1))
+mul-is-output c =
+    let start = c .before .before .before .before in
+    omega
+    (arith, found-inside (start .args .t1) _ _ entitiesMost _ (search length-of) (c .before .before .before .find .ensures) (c .before .i .given .1))
 
 element-copy-out-is-output : tie.Need-element-copy-out-is-output
-element-copy-out-is-output c = found-inside (c .before .before .before .before .args .t1) _ _ entitiesMost _ (search length-of) (c .before .before .before .find .ensures) (c .before .i .given .1)
+element-copy-out-is-output c =
+    let start = c .before .before .before .before in
+    found-inside (start .args .t1) _ _ entitiesMost _ (search length-of) (c .before .before .before .find .ensures) (c .before .i .given .1)
 
 is-output-requires : tie.Need-is-output-requires
 is-output-requires c κs = search needs

@@ -31,16 +31,28 @@ cast-t16 : tie.Need-cast-t16
 cast-t16 c = search needs
 
 returns-2 : tie.Need-returns-2
-returns-2 c = late-37 _ _ _ _ _ (c .before .before .before .before .before .first-count .ensures) (c .before .before .before .before .if1 .left) _ (c .before .before .before .first-default .ensures) (c .before .before .if2 .taken)
+returns-2 c =
+    let at-branch = c .before .before .before .before in
+    let at-first-count = at-branch .before in
+    late-37 _ _ _ _ _ (at-first-count .first-count .ensures) (at-branch .if1 .left) _ (c .before .before .before .first-default .ensures)
+    (c .before .before .if2 .taken)
 
 wide-requires : tie.Need-wide-requires
 wide-requires c κs = search needs
 
 returns-3 : tie.Need-returns-3
-returns-3 c = late-none _ _ _ _ _ (c .before .before .before .before .before .first-count .ensures) (c .before .before .before .before .if1 .left) _ (c .before .before .before .first-default .ensures) (c .before .before .if2 .left) _ (c .before .wide .ensures .0) (c .if3 .taken)
+returns-3 c =
+    let at-branch = c .before .before .before .before in
+    let at-first-count = at-branch .before in
+    late-none _ _ _ _ _ (at-first-count .first-count .ensures) (at-branch .if1 .left) _ (c .before .before .before .first-default .ensures)
+    (c .before .before .if2 .left) _ (c .before .wide .ensures .0) (c .if3 .taken)
 
 returns-4 : tie.Need-returns-4
-returns-4 c = late-38 _ _ _ _ _ (c .before .before .before .before .before .first-count .ensures) (c .before .before .before .before .if1 .left) _ (c .before .before .before .first-default .ensures) (c .before .before .if2 .left) _ (c .before .wide .ensures .0) (c .if3 .left)
+returns-4 c =
+    let at-branch = c .before .before .before .before in
+    let at-first-count = at-branch .before in
+    late-38 _ _ _ _ _ (at-first-count .first-count .ensures) (at-branch .if1 .left) _ (c .before .before .before .first-default .ensures)
+    (c .before .before .if2 .left) _ (c .before .wide .ensures .0) (c .if3 .left)
 
 pub late-verdict-spec : {M : Type 1} → statement M
 late-verdict-spec =

@@ -55,7 +55,9 @@ returns : tie.Need-returns Inv-loop μ-loop
 returns c = head-bad _ _ _ (c .before .before .head-rule .ensures) _ (c .before .if1 .taken) (c .refused .ensures)
 
 shared-slice-read-is-linked : tie.Need-shared-slice-read-is-linked Inv-loop μ-loop
-shared-slice-read-is-linked c = omega (arith, block-sizes (c .before .before .before .before .args .table) _ _ (c .before .before .head-rule .ensures) (c .before .if1 .left))
+shared-slice-read-is-linked c =
+    let start = c .before .before .before .before in
+    omega (arith, block-sizes (start .args .table) _ _ (c .before .before .head-rule .ensures) (c .before .if1 .left))
 
 is-linked-requires : tie.Need-is-linked-requires Inv-loop μ-loop
 is-linked-requires c κs = search needs
@@ -82,7 +84,13 @@ refused-requires-2 : tie.Need-refused-requires-2 Inv-loop μ-loop
 refused-requires-2 c κs = search needs
 
 returns-2 : tie.Need-returns-2 Inv-loop μ-loop
-returns-2 c = head-good _ _ _ (c .before .before .before .before .before .before .before .before .before .before .before .head-rule .ensures) (c .before .before .before .before .before .before .before .before .before .before .if1 .left) _ _ (c .before .before .before .before .before .before .before .before .is-linked .ensures) (c .refused2 .ensures ∙ going-stops _ _ _ _ _ _ _ _ _ (c .before .before .before .before .loop .inv) _ (c .before .before .before .loop-test .taken) (c .before .before .rule-at .ensures) (c .before .if2 .taken))
+returns-2 c =
+    let at-turn = c .before .before .before .before in
+    let at-is-linked = at-turn .before .before .before .before in
+    let at-branch = at-is-linked .before .before in
+    let at-head-rule = at-branch .before in
+    head-good _ _ _ (at-head-rule .head-rule .ensures) (at-branch .if1 .left) _ _ (at-is-linked .is-linked .ensures)
+    (c .refused2 .ensures ∙ going-stops _ _ _ _ _ _ _ _ _ (at-turn .loop .inv) _ (c .before .before .before .loop-test .taken) (c .before .before .rule-at .ensures) (c .before .if2 .taken))
 
 shared-slice-read-wide : tie.Need-shared-slice-read-wide Inv-loop μ-loop
 shared-slice-read-wide c = search needs
@@ -106,7 +114,9 @@ is-format-requires : tie.Need-is-format-requires Inv-loop μ-loop
 is-format-requires c κs = search needs
 
 format-at-requires : tie.Need-format-at-requires Inv-loop μ-loop
-format-at-requires c κs = (rw (c .before .before .kind-of .ensures) (format-room _ _ _ (fit (c .before .before .before .before .before .before)) (a-format c)), omega (arith, short (c .before .before .before .before .before .before)))
+format-at-requires c κs =
+    let at-x = c .before .before .before .before .before .before in
+    (rw (c .before .before .kind-of .ensures) (format-room _ _ _ (fit at-x) (a-format c)), omega (arith, short at-x))
 
 mul-formats : tie.Need-mul-formats Inv-loop μ-loop
 mul-formats c = let w = fit (c .before .before .before .before .before .before .before) .fewer (a-format (c .before)) in omega arith
@@ -121,7 +131,13 @@ loop-less : tie.Need-loop-less Inv-loop μ-loop
 loop-less c = let w = fit (c .before .before .before .before .before .before .before) in omega (arith, w .inside, w .long, c .before .before .before .before .before .wide .ensures)
 
 loop-again : tie.Need-loop-again Inv-loop μ-loop
-loop-again c = rw (c .before .before .before .before .before .wide .ensures .0) (going-format _ _ _ _ _ _ _ _ _ (c .before .before .before .before .before .before .before .before .before .before .loop .inv) (c .before .before .before .before .before .before .before .before .before .loop-test .taken) (none (c .before .before .before .before .before .before .before)) _ (a-format (c .before)) (rw (c .before .before .before .kind-of .ensures) at (c .format-at .ensures)))
+loop-again c =
+    let at-wide = c .before .before .before .before .before in
+    let at-x = at-wide .before .before in
+    let at-loop-test = at-x .before .before in
+    let at-turn = at-loop-test .before in
+    rw (at-wide .wide .ensures .0)
+    (going-format _ _ _ _ _ _ _ _ _ (at-turn .loop .inv) (at-loop-test .loop-test .taken) (none at-x) _ (a-format (c .before)) (rw (c .before .before .before .kind-of .ensures) at (c .format-at .ensures)))
 
 is-frame-requires : tie.Need-is-frame-requires Inv-loop μ-loop
 is-frame-requires c κs = search needs
@@ -133,7 +149,10 @@ mul-frames : tie.Need-mul-frames Inv-loop μ-loop
 mul-frames c = let w = fit (c .before .before .before .before .before .before .before .before .before) .few (a-frame (c .before)) in omega arith
 
 array-set-from-frames : tie.Need-array-set-from-frames Inv-loop μ-loop
-array-set-from-frames c = fit (c .before .before .before .before .before .before .before .before .before) .few (a-frame (c .before))
+array-set-from-frames c =
+    let earlier = c .before .before .before .before .before .before .before in
+    let at-x = earlier .before .before in
+    fit at-x .few (a-frame (c .before))
 
 add-counts : tie.Need-add-counts Inv-loop μ-loop
 add-counts c = let w = fit (c .before .before .before .before .before .before .before .before .before) in omega (arith, frame-room _ _ _ w (a-frame (c .before)), short (c .before .before .before .before .before .before .before .before .before))
@@ -142,7 +161,10 @@ shared-slice-read-counts : tie.Need-shared-slice-read-counts Inv-loop μ-loop
 shared-slice-read-counts c = let w = fit (c .before .before .before .before .before .before .before .before .before .before) in omega (arith, frame-room _ _ _ w (a-frame (c .before .before)))
 
 array-write-counts : tie.Need-array-write-counts Inv-loop μ-loop
-array-write-counts c = omega (arith, c .before .before .before .before .before .before .before .before .before .before .before .before .before .loop .inv .formats-few)
+array-write-counts c =
+    let earlier = c .before .before .before .before .before .before .before in
+    let at-turn = earlier .before .before .before .before .before .before in
+    omega (arith, at-turn .loop .inv .formats-few)
 
 add-n : tie.Need-add-n Inv-loop μ-loop
 add-n c = let w = fit (c .before .before .before .before .before .before .before .before .before .before) .few (a-frame (c .before .before)) in omega arith
@@ -151,16 +173,35 @@ loop-less-2 : tie.Need-loop-less-2 Inv-loop μ-loop
 loop-less-2 c = let w = fit (c .before .before .before .before .before .before .before .before .before .before) in omega (arith, w .inside, w .long, c .before .before .before .before .before .before .before .before .wide .ensures)
 
 loop-again-2 : tie.Need-loop-again-2 Inv-loop μ-loop
-loop-again-2 c = rw (c .before .before .before .before .before .before .before .before .wide .ensures .0) (going-frame _ _ _ _ _ _ _ _ _ (c .before .before .before .before .before .before .before .before .before .before .before .before .before .loop .inv) (c .before .before .before .before .before .before .before .before .before .before .before .before .loop-test .taken) (none (c .before .before .before .before .before .before .before .before .before .before)) _ (no-format (c .before .before .before .before)) (a-frame (c .before .before)) (rw (c .before .before .before .before .before .before .kind-of .ensures) at (c .before .frame-at .ensures)))
+loop-again-2 c =
+    let at-x = c .before .before .before .before in
+    let at-kind-of = at-x .before .before in
+    let at-wide = at-kind-of .before .before in
+    let at-x-2 = at-wide .before .before in
+    let at-loop-test = at-x-2 .before .before in
+    let at-turn = at-loop-test .before in
+    rw (at-wide .wide .ensures .0)
+    (going-frame _ _ _ _ _ _ _ _ _ (at-turn .loop .inv) (at-loop-test .loop-test .taken) (none at-x-2) _ (no-format at-x) (a-frame (c .before .before)) (rw (at-kind-of .kind-of .ensures) at (c .before .frame-at .ensures)))
 
 loop-less-3 : tie.Need-loop-less-3 Inv-loop μ-loop
 loop-less-3 c = let w = fit (c .before .before .before .before .before .before .before .before) in omega (arith, w .inside, w .long, c .before .before .before .before .before .before .wide .ensures)
 
 loop-again-3 : tie.Need-loop-again-3 Inv-loop μ-loop
-loop-again-3 c = rw (c .before .before .before .before .before .before .wide .ensures .0) (going-other _ _ _ _ _ _ _ _ _ (c .before .before .before .before .before .before .before .before .before .before .before .loop .inv) (c .before .before .before .before .before .before .before .before .before .before .loop-test .taken) (none (c .before .before .before .before .before .before .before .before)) (no-format (c .before .before)) (no-frame c))
+loop-again-3 c =
+    let at-wide = c .before .before .before .before .before .before in
+    let at-x = at-wide .before .before in
+    let at-loop-test = at-x .before .before in
+    let at-turn = at-loop-test .before in
+    rw (at-wide .wide .ensures .0)
+    (going-other _ _ _ _ _ _ _ _ _ (at-turn .loop .inv) (at-loop-test .loop-test .taken) (none at-x) (no-format (c .before .before)) (no-frame c))
 
 shared-slice-read-late-verdict : tie.Need-shared-slice-read-late-verdict Inv-loop μ-loop
-shared-slice-read-late-verdict c = omega (arith, block-sizes (c .before .before .before .before .before .before .before .before .before .before .before .before .args .table) _ _ (c .before .before .before .before .before .before .before .before .before .before .head-rule .ensures) (c .before .before .before .before .before .before .before .before .before .if1 .left) .0)
+shared-slice-read-late-verdict c =
+    let earlier = c .before .before .before .before .before .before .before in
+    let at-branch = earlier .before .before in
+    let at-head-rule = at-branch .before in
+    let start = at-head-rule .before .before in
+    omega (arith, block-sizes (start .args .table) _ _ (at-head-rule .head-rule .ensures) (at-branch .if1 .left) .0)
 
 late-verdict-requires : tie.Need-late-verdict-requires Inv-loop μ-loop
 late-verdict-requires c κs = omega (arith, c .before .before .before .loop .inv .formats-few)
@@ -172,19 +213,45 @@ refused-requires-3 : tie.Need-refused-requires-3 Inv-loop μ-loop
 refused-requires-3 c κs = search needs
 
 returns-3 : tie.Need-returns-3 Inv-loop μ-loop
-returns-3 c = head-good _ _ _ (c .before .before .before .before .before .before .before .before .before .before .before .before .before .before .before .head-rule .ensures) (c .before .before .before .before .before .before .before .before .before .before .before .before .before .before .if1 .left) _ _ (c .before .before .before .before .before .before .before .before .before .before .before .before .is-linked .ensures) (c .refused3 .ensures ∙ going-refuses _ _ _ _ _ _ _ _ _ (c .before .before .before .before .before .before .before .before .loop .inv) (c .before .before .before .before .before .before .before .loop-test .left) _ (c .before .before .before .before .late-verdict .ensures) _ _ (c .before .before .verdict .given .1))
+returns-3 c =
+    let at-late-verdict = c .before .before .before .before in
+    let at-loop-test = at-late-verdict .before .before .before in
+    let at-turn = at-loop-test .before in
+    let at-is-linked = at-turn .before .before .before .before in
+    let at-branch = at-is-linked .before .before in
+    let at-head-rule = at-branch .before in
+    head-good _ _ _ (at-head-rule .head-rule .ensures) (at-branch .if1 .left) _ _ (at-is-linked .is-linked .ensures)
+    (c .refused3 .ensures ∙ going-refuses _ _ _ _ _ _ _ _ _ (at-turn .loop .inv) (at-loop-test .loop-test .left) _ (at-late-verdict .late-verdict .ensures) _ _ (c .before .before .verdict .given .1))
 
 enum-told : tie.Need-enum-told Inv-loop μ-loop
 enum-told c = search needs
 
 shared-slice-read-t26 : tie.Need-shared-slice-read-t26 Inv-loop μ-loop
-shared-slice-read-t26 c = omega (arith, block-sizes (c .before .before .before .before .before .before .before .before .before .before .before .before .before .before .before .before .args .table) _ _ (c .before .before .before .before .before .before .before .before .before .before .before .before .before .before .head-rule .ensures) (c .before .before .before .before .before .before .before .before .before .before .before .before .before .if1 .left) .0)
+shared-slice-read-t26 c =
+    let earlier = c .before .before .before .before .before .before .before in
+    let at-branch = earlier .before .before .before .before .before .before in
+    let at-head-rule = at-branch .before in
+    let start = at-head-rule .before .before in
+    omega (arith, block-sizes (start .args .table) _ _ (at-head-rule .head-rule .ensures) (at-branch .if1 .left) .0)
 
 shared-slice-read-t53 : tie.Need-shared-slice-read-t53 Inv-loop μ-loop
-shared-slice-read-t53 c = omega (arith, block-sizes (c .before .before .before .before .before .before .before .before .before .before .before .before .before .before .before .before .before .args .table) _ _ (c .before .before .before .before .before .before .before .before .before .before .before .before .before .before .before .head-rule .ensures) (c .before .before .before .before .before .before .before .before .before .before .before .before .before .before .if1 .left) .0)
+shared-slice-read-t53 c =
+    let earlier = c .before .before .before .before .before .before .before in
+    let at-branch = earlier .before .before .before .before .before .before .before in
+    let at-head-rule = at-branch .before in
+    let start = at-head-rule .before .before in
+    omega (arith, block-sizes (start .args .table) _ _ (at-head-rule .head-rule .ensures) (at-branch .if1 .left) .0)
 
 returns-4 : tie.Need-returns-4 Inv-loop μ-loop
-returns-4 c = head-good _ _ _ (c .before .before .before .before .before .before .before .before .before .before .before .before .before .before .before .head-rule .ensures) (c .before .before .before .before .before .before .before .before .before .before .before .before .before .before .if1 .left) _ _ (c .before .before .before .before .before .before .before .before .before .before .before .before .is-linked .ensures) (going-accepts _ _ _ _ _ _ _ _ _ (c .before .before .before .before .before .before .before .before .loop .inv) (c .before .before .before .before .before .before .before .loop-test .left) _ (c .before .before .before .before .late-verdict .ensures) (c .before .before .enum-told .given .1))
+returns-4 c =
+    let at-late-verdict = c .before .before .before .before in
+    let at-loop-test = at-late-verdict .before .before .before in
+    let at-turn = at-loop-test .before in
+    let at-is-linked = at-turn .before .before .before .before in
+    let at-branch = at-is-linked .before .before in
+    let at-head-rule = at-branch .before in
+    head-good _ _ _ (at-head-rule .head-rule .ensures) (at-branch .if1 .left) _ _ (at-is-linked .is-linked .ensures)
+    (going-accepts _ _ _ _ _ _ _ _ _ (at-turn .loop .inv) (at-loop-test .loop-test .left) _ (at-late-verdict .late-verdict .ensures) (c .before .before .enum-told .given .1))
 
 pub read-spec : {M : Type 1} → statement M
 read-spec =
