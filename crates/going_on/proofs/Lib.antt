@@ -1,0 +1,2 @@
+-- Laws of a transfer that goes on with the frame under way.
+pub mod GoingOn
