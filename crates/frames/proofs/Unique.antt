@@ -4,6 +4,7 @@ use mathlib.Core.Bool.{Bool}
 use mathlib.Core.Path.{_≡_, sym, _∙_}
 use Rattle.sizes.specs.declared.Opening.{Opening}
 use Rattle.session_rules.specs.declared.Header.{Header}
+use Rattle.session_rules.specs.declared.Stamp.{Stamp}
 use Rattle.session_rules.specs.declared.Track.{Track}
 use Rattle.session_rules.specs.declared.Turn.{Turn}
 use Rattle.session_rules.specs.declared.HandOut.{HandOut}
@@ -11,7 +12,10 @@ use Rattle.session_rules.specs.declared.Out.{Out}
 use Rattle.session_rules.specs.declared.Shut.{Shut}
 use Rattle.session_rules.specs.declared.Fate.{Fate}
 use Rattle.session_rules.specs.Track.{handing}
-use Rattle.session_rules.specs.Turns.{turnOf, handsOf, outOf, spoiltOf, closedOf}
+use Rattle.session_rules.specs.Turns.{clashOf, turnOf, handsOf, outOf, spoiltOf, closedOf}
+
+pub clash-unique : (a b : Stamp) (x y : Bool) → x ≡ clashOf a b → y ≡ clashOf a b → x ≡ y
+clash-unique a b x y p q = p ∙ sym q
 
 pub turn-unique : (o : Opening) (t : Track) (h : Header) (n : ℕ) (x y : Turn) → x ≡ turnOf o t h n → y ≡ turnOf o t h n → x ≡ y
 turn-unique o t h n x y p q = p ∙ sym q

@@ -31,8 +31,8 @@ fn first_of(f: Fault, bad: bool, why: Reason) -> Fault
     }
 }
 
-// Two stamps that differ.
-fn clash(a: Stamp, b: Stamp) -> bool
+// Inner: two stamps that differ.
+pub fn clash(a: Stamp, b: Stamp) -> bool
     ensures { λ r. ⌜ r ≡ clashOf a b ⌝ }
 {
     match a {

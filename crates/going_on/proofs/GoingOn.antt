@@ -29,7 +29,7 @@ use Rattle.session_rules.specs.Session.{readOf, tookOf, tookBuffer, handsOut, t
 use Rattle.going_on.specs.GoingOn.{isSound, goesOn, wentOn, keptOf, keptBuffer}
 
 -- ---- the tests one by one
-sound-is : (f : Fault) → isSound f ≡ true → f ≡ Sound
+pub sound-is : (f : Fault) → isSound f ≡ true → f ≡ Sound
 sound-is Sound e = refl
 sound-is (Bad why) e = absurd (true≢false (sym e))
 

@@ -1,4 +1,4 @@
--- Document 01, "Numbers": "Kept means that the frame is still under way." A transfer that goes on with the frame under way, and what is answered to it: one case of
+-- Document 01, "Payload transfers": "Kept means that the frame is still under way". A transfer that goes on with the frame under way, and what is answered to it: one case of
 -- `takeOf` (session_rules/specs/Session), which proofs/GoingOn.antt shows. It has both kinds of header and both framings.
 use Prim.Native.Nat.{ℕ, _+_, _-_}
 use mathlib.Core.Bool.{Bool, true, false, not, _&&_}

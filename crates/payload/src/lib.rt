@@ -6,7 +6,8 @@ ghost use lib.ListN.{length};
 ghost use lib.Dec.{ltb};
 ghost use Rattle.rules.specs.IfElse.{ifElse};
 ghost use Rattle.rules.specs.Numbered.{firstRow};
-ghost use Rattle.session_rules.specs.Layouts.{Laid};
+ghost use Rattle.sizes.specs.declared.HeaderKind.the-variants.{Old};
+ghost use Rattle.session_rules.specs.Layouts.{Laid, headerLayout};
 ghost use Rattle.session_rules.specs.Transfer.{flagOf, flagsAt, hasLayer, layerPlace, needOf, stampMissing, stampOf, layerOf, headerBy, rowsBy, sortedBy, readingOf};
 use session_rules::Header;
 use session_rules::Layer;
@@ -232,4 +233,19 @@ pub fn read(o: Opening, t: &[u8]) -> Reading
         HeaderKind::Old => read_by(OLD, o.payload, t),
         HeaderKind::Vp8 => read_by(VP8, o.payload, t),
     }
+}
+
+// Inner: 65 of the old kind of header.
+pub fn old_too_short(len: usize, flags: u32) -> bool
+    ensures { λ r. ⌜ r ≡ ltb len (needOf (headerLayout Old) flags) ⌝ }
+{
+    too_short(OLD, len, flags)
+}
+
+// Inner: the stamp of the old kind of header.
+pub fn old_stamp(t: &[u8], flags: u32) -> Stamp
+    requires { ⌜ needOf (headerLayout Old) flags ≤ length (now t) ⌝ }
+    ensures { λ r. ⌜ r ≡ stampOf (headerLayout Old) (now (t .entry)) flags ⌝ }
+{
+    stamp_of(OLD, t, flags)
 }
