@@ -72,6 +72,9 @@ module _ (r : Rest) (l : List ℕ) (places : length l ≡ numberCount) (posted :
 
 -- ---- a call that nothing refuses
 module _ (s : Session) where
+  pub take-none : (room len : ℕ) → firstRow (takeRows s room len) ≡ 0 → NoneOf (takeRows s room len)
+  take-none room len e = row-none (takeRows s room len) (omega arith, (omega arith, (omega arith, (omega arith, (omega arith, tt))))) e
+
   pub close-sound : (n : ℕ) → n ≡ firstRow (closeRows s) → n ≡ 0 → recordBroken s ≡ false
   close-sound n e z = row-none (closeRows s) (omega arith, (omega arith, tt)) (sym e ∙ z) .0
 
@@ -92,7 +95,7 @@ module _ (s : Session) where
 
     pub take-ready : (room len n : ℕ) → n ≡ firstRow (takeRows s room len) → n ≡ 0 → Free room len
     take-ready room len n e z =
-        let q = row-none (takeRows s room len) (omega arith, (omega arith, (omega arith, (omega arith, (omega arith, tt))))) (sym e ∙ z) in
+        let q = take-none room len (sym e ∙ z) in
         record {
           ready = lost-none (q .0, (q .1 .0, (q .1 .1 .0, tt)));
           whole = ltb-false room (s .rest .opening .frame) (q .1 .1 .1 .0);

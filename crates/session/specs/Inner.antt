@@ -1,12 +1,14 @@
 -- What the inner contracts cite: the calls on the record's two parts, of which the numbers are lent. Nothing here needs to be believed.
 use Prim.Native.Nat.{ℕ, _+_, _≤_, _<_}
 use mathlib.Core.Path.{_≡_}
-use mathlib.Core.Bool.{false}
+use mathlib.Core.Bool.{true, false}
 use mathlib.Core.List.{List}
 use lib.ListN.{length, drop}
 use lib.Seq.{paste}
 use Rattle.rules.specs.Numbered.{firstRow}
 use Rattle.session_rules.specs.declared.Stamp.{Stamp}
+use Rattle.session_rules.specs.declared.Run.{Run}
+use Rattle.session_rules.specs.declared.Phase.the-variants.{Under}
 use Rattle.session_rules.specs.declared.Track.{Track}
 use Rattle.session_rules.specs.Accounts.{numberCount}
 use Rattle.session_rules.specs.declared.Session.{Session}
@@ -21,6 +23,7 @@ use Rattle.session_rules.specs.declared.Closed.{Closed}
 use Rattle.session_rules.specs.Refusals.{takenMost}
 use Rattle.session_rules.specs.Refusals.{recordBroken, takeRows}
 use Rattle.session_rules.specs.Session.{bufferBy}
+use Rattle.going_on.specs.Bytes.{bytesGoOn}
 
 abbrev pub wholeOf : Rest → List ℕ → Session
 wholeOf r numbers = record { rest = r; numbers = numbers }
@@ -42,6 +45,13 @@ pub record Ready (s : Session) : Type 0 where
   pub sound : recordBroken s ≡ false
   pub more : s .rest .taken < takenMost
   pub places : length (s .numbers) ≡ numberCount
+
+-- what the short way of take is for: nothing refuses the call, and the transfer goes on with the frame r under way
+pub record GoesOn (s : Session) (r : Run) (room : ℕ) (t : List ℕ) : Type 0 where
+  pub places : length (s .numbers) ≡ numberCount
+  pub free : firstRow (takeRows s room (length t)) ≡ 0
+  pub under : s .rest .track .phase ≡ Under r
+  pub on : bytesGoOn (s .rest .opening) r t ≡ true
 
 -- what a call with that room makes of a buffer
 abbrev pub bufferFor : Session → ℕ → List ℕ → List ℕ → List ℕ

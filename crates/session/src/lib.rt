@@ -5,9 +5,10 @@ ghost use Prim.Native.Nat.{_-_, _+_, _<_, _≤_};
 ghost use lib.ListN.{length};
 ghost use Rattle.session_rules.specs.Accounts.{numberCount};
 ghost use Rattle.session_rules.specs.Rule50.{transferMost};
-ghost use Rattle.session_rules.specs.Refusals.{takenMost, ledgerOf};
+ghost use Rattle.rules.specs.Numbered.{firstRow};
+ghost use Rattle.session_rules.specs.Refusals.{takenMost, takeRows, ledgerOf};
 ghost use Rattle.session_rules.specs.Session.{openOf, newSession, readOf, readBuffer, handedOf, metOf, metBuffer, takeOf, bufferOf, lostOf, closeOf};
-ghost use Rattle.session.specs.Inner.{wholeOf, countedRest, takenWith, reportedWith, closedWith, Ready, unwrittenOf, bufferFor, Goes};
+ghost use Rattle.session.specs.Inner.{wholeOf, countedRest, takenWith, reportedWith, closedWith, Ready, GoesOn, unwrittenOf, bufferFor, Goes};
 use session_rules::Account;
 use session_rules::Answer;
 use session_rules::Closing;
@@ -22,6 +23,7 @@ use session_rules::Phase;
 use session_rules::Reading;
 use session_rules::Report;
 use session_rules::Rest;
+use session_rules::Run;
 use session_rules::Session;
 use session_rules::Stamp;
 use session_rules::Start;
@@ -263,9 +265,49 @@ fn post(rest: Rest, m: &mut Numbers, room: usize, t: &[u8]) -> Posted
     met(rest, m, t)
 }
 
-// Inner: takes one transfer. A refused call changes no byte of the buffer and no number, and gives the rest back as it was.
-// What is required, here and below, the type of the numbers says.
-pub fn take(rest: Rest, m: &mut Numbers, buffer: &mut [u8], t: &[u8]) -> RestTaken
+// What refuses a transfer of n bytes; 0 where nothing does.
+fn refusal(rest: Rest, m: &Numbers, room: usize, n: usize) -> u8
+    requires { ⌜ length (now m) ≡ numberCount ⌝ }
+    ensures { λ r. ⌜ r ≡ firstRow (takeRows (wholeOf rest (now (m .entry))) room n) ⌝ }
+{
+    let posted = rule_50::posted_broken(m, rest.taken);
+    let opening = rest.opening;
+    let track = rest.track;
+    let phase = track.phase;
+    refusals::take_refusal(posted, opening, phase, rest.closed, rest.taken, room, n)
+}
+
+// The short way: a transfer that nothing refuses and that goes on with the frame under way is kept.
+fn keep(rest: Rest, r: Run, m: &mut Numbers, buffer: &mut [u8], t: &[u8]) -> RestTaken
+    requires { ⌜ GoesOn (wholeOf rest (now m)) r (length (now buffer)) (now t) ⌝ }
+    ensures { λ x. ⌜ takenWith x (now (m .exit)) ≡ takeOf (wholeOf rest (now (m .entry))) (length (now (buffer .entry))) (now (t .entry)) ⌝ }
+    ensures { λ _. ⌜ now (buffer .exit) ≡ bufferOf (wholeOf rest (now (m .entry))) (now (buffer .entry)) (now (t .entry)) ⌝ }
+{
+    let from = le::wide(t[0]);
+    let at = r.fill;
+    let opening = rest.opening;
+    let run = going_on::went_on(opening, r, t);
+    let last = rest.last;
+    ledger::entered(m, Account::Headers, from as u64);
+    copier::lay(&mut buffer[at..], at, &t[from..]);
+    RestTaken {
+        rest: counted(
+            rest,
+            Track {
+                phase: Phase::Under(run),
+                gap: false,
+            },
+            last,
+        ),
+        outcome: Outcome::Taken(Answer {
+            ended: Ended::Nothing,
+            fate: Fate::Kept,
+        }),
+    }
+}
+
+// The long way, of any transfer.
+fn settle(rest: Rest, m: &mut Numbers, buffer: &mut [u8], t: &[u8]) -> RestTaken
     requires { ⌜ length (now m) ≡ numberCount ⌝ }
     ensures { λ r. ⌜ takenWith r (now (m .exit)) ≡ takeOf (wholeOf rest (now (m .entry))) (length (now (buffer .entry))) (now (t .entry)) ⌝ }
     ensures { λ _. ⌜ now (buffer .exit) ≡ bufferOf (wholeOf rest (now (m .entry))) (now (buffer .entry)) (now (t .entry)) ⌝ }
@@ -276,6 +318,26 @@ pub fn take(rest: Rest, m: &mut Numbers, buffer: &mut [u8], t: &[u8]) -> RestTak
     let end = from + posted.len;
     copier::lay(&mut buffer[at..], at, &t[from..end]);
     posted.taken
+}
+
+// Inner: takes one transfer. A refused call changes no byte of the buffer and no number, and gives the rest back as it was.
+// What is required, here and below, the type of the numbers says.
+pub fn take(rest: Rest, m: &mut Numbers, buffer: &mut [u8], t: &[u8]) -> RestTaken
+    requires { ⌜ length (now m) ≡ numberCount ⌝ }
+    ensures { λ r. ⌜ takenWith r (now (m .exit)) ≡ takeOf (wholeOf rest (now (m .entry))) (length (now (buffer .entry))) (now (t .entry)) ⌝ }
+    ensures { λ _. ⌜ now (buffer .exit) ≡ bufferOf (wholeOf rest (now (m .entry))) (now (buffer .entry)) (now (t .entry)) ⌝ }
+{
+    let opening = rest.opening;
+    let track = rest.track;
+    let phase = track.phase;
+    if let Phase::Under(r) = phase {
+        if going_on::goes_on(opening, r, t) {
+            if refusal(rest, m, buffer.len(), t.len()) == 0 {
+                return keep(rest, r, m, buffer, t);
+            }
+        }
+    }
+    settle(rest, m, buffer, t)
 }
 
 // Inner: the same with the buffer's length as a number: it writes nothing.

@@ -1,79 +1,51 @@
-use mathlib.Core.Path.{_∙_}
-use denote.Ref.{now}
-use lib.ListN.{take, drop}
-use native.Mathlib.Omega.{arith}
-use Prim.Native.Nat.{_+_, _-_}
-use Rattle.copier.proofs.Laws.{laid}
-use Rattle.session.specs.Inner.{wholeOf}
-use Rattle.session.proofs.Calls.{part-fits, take-put}
+use mathlib.Core.Path.{sym, _∙_}
 use borrow.Author.Needs.{needs}
 use Rattle.session.proofs.take.Statement.{statement}
 use Rattle.session.proofs.take.Tie as tie
 
-post-requires : tie.Need-post-requires
-post-requires c κs = search needs
+enum-known-phase : tie.Need-enum-known-phase
+enum-known-phase c = search needs
 
-add-end : tie.Need-add-end
-add-end c =
-    let g = c .before .post .ensures .1 in
-    omega (arith, g .enough)
+goes-on-requires : tie.Need-goes-on-requires
+goes-on-requires c κs = search needs
 
-sub-lay : tie.Need-sub-lay
-sub-lay c =
-    let g = c .before .post .ensures .1 in
-    omega (arith, g .inside)
+refusal-requires : tie.Need-refusal-requires
+refusal-requires c κs = search needs
 
-part-lay-start : tie.Need-part-lay-start
-part-lay-start c =
-    let g = c .before .post .ensures .1 in
-    omega (arith, g .inside)
-
-part-lay-end : tie.Need-part-lay-end
-part-lay-end c = search needs
-
-sub-lay-2 : tie.Need-sub-lay-2
-sub-lay-2 c = search needs
-
-part-lay-start-2 : tie.Need-part-lay-start-2
-part-lay-start-2 c = search needs
-
-part-lay-end-2 : tie.Need-part-lay-end-2
-part-lay-end-2 c =
-    let g = c .before .before .post .ensures .1 in
-    omega (arith, g .enough)
-
-lay-requires : tie.Need-lay-requires
-lay-requires c κs =
-    let s = c .before .before .before .before .before .before .before in
-    let x = c .before .before .before .post in
-    part-fits (now (s .args .buffer)) (now (s .args .t)) (x .result .at) (x .result .from) (x .result .len) (x .ensures .1 .inside) (x .ensures .1 .enough) .1
+keep-requires : tie.Need-keep-requires
+keep-requires c κs =
+    record {
+      places = search needs;
+      free = sym (c .before .before .before .refusal .ensures) ∙ c .before .before .if2 .taken;
+      under = c .before .before .before .before .before .before .before .before .phase .given .1;
+      on = sym (c .before .before .before .before .before .before .goes-on .ensures) ∙ c .before .before .before .before .before .if1 .taken;
+    }
 
 same-length : tie.Need-same-length
 same-length c = search needs
 
 returns : tie.Need-returns
-returns c =
-    let s = c .before .before .before .before .before .before .before .before .before .before .before in
-    let x = c .before .before .before .before .before .before .before .post in
-    let y = x .result in
-    let f = part-fits (now (s .args .buffer)) (now (s .args .t)) (y .at) (y .from) (y .len) (x .ensures .1 .inside) (x .ensures .1 .enough) in (
-      x .ensures .0,
-      laid (now (s .args .buffer)) (take (y .from + y .len - y .from) (drop (y .from) (now (s .args .t)))) _ (y .at) (f .0) (c .before .before .before .lay .ensures)
-          ∙ take-put (wholeOf (s .args .rest) (now (s .args .m))) (now (s .args .buffer)) (now (s .args .t)) y (x .ensures .1),
-    )
+returns c = search needs
+
+settle-requires : tie.Need-settle-requires
+settle-requires c κs = search needs
+
+same-length-2 : tie.Need-same-length-2
+same-length-2 c = search needs
+
+returns-2 : tie.Need-returns-2
+returns-2 c = search needs
 
 pub take-spec : {M : Type 1} → statement M
 take-spec =
     tie.close
     (tie.spec
-    post-requires
-    add-end
-    sub-lay
-    part-lay-start
-    part-lay-end
-    sub-lay-2
-    part-lay-start-2
-    part-lay-end-2
-    lay-requires
+    enum-known-phase
+    goes-on-requires
+    refusal-requires
+    keep-requires
     same-length
-    returns)
+    returns
+    settle-requires
+    same-length-2
+    returns-2)
