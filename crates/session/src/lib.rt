@@ -283,13 +283,13 @@ fn keep(rest: Rest, r: Run, m: &mut Numbers, buffer: &mut [u8], t: &[u8]) -> Res
     ensures { λ x. ⌜ takenWith x (now (m .exit)) ≡ takeOf (wholeOf rest (now (m .entry))) (length (now (buffer .entry))) (now (t .entry)) ⌝ }
     ensures { λ _. ⌜ now (buffer .exit) ≡ bufferOf (wholeOf rest (now (m .entry))) (now (buffer .entry)) (now (t .entry)) ⌝ }
 {
-    let from = le::wide(t[0]);
+    let len = le::wide(t[0]);
     let at = r.fill;
     let opening = rest.opening;
     let run = going_on::went_on(opening, r, t);
     let last = rest.last;
-    ledger::entered(m, Account::Headers, from as u64);
-    copier::lay(&mut buffer[at..], at, &t[from..]);
+    ledger::entered(m, Account::Headers, len as u64);
+    copier::lay(&mut buffer[at..], at, &t[len..]);
     RestTaken {
         rest: counted(
             rest,
