@@ -277,19 +277,16 @@ fn refusal(rest: Rest, m: &Numbers, room: usize, n: usize) -> u8
     refusals::take_refusal(posted, opening, phase, rest.closed, rest.taken, room, n)
 }
 
-// The short way: a transfer that nothing refuses and that goes on with the frame under way is kept.
-fn keep(rest: Rest, r: Run, m: &mut Numbers, buffer: &mut [u8], t: &[u8]) -> RestTaken
-    requires { ⌜ GoesOn (wholeOf rest (now m)) r (length (now buffer)) (now t) ⌝ }
-    ensures { λ x. ⌜ takenWith x (now (m .exit)) ≡ takeOf (wholeOf rest (now (m .entry))) (length (now (buffer .entry))) (now (t .entry)) ⌝ }
-    ensures { λ _. ⌜ now (buffer .exit) ≡ bufferOf (wholeOf rest (now (m .entry))) (now (buffer .entry)) (now (t .entry)) ⌝ }
+// The short way but for the writing: a transfer that nothing refuses and that goes on with the frame under way is kept.
+fn gone_on(rest: Rest, r: Run, m: &mut Numbers, room: usize, t: &[u8]) -> RestTaken
+    requires { ⌜ GoesOn (wholeOf rest (now m)) r room (now t) ⌝ }
+    ensures { λ x. ⌜ takenWith x (now (m .exit)) ≡ takeOf (wholeOf rest (now (m .entry))) room (now (t .entry)) ⌝ }
 {
     let len = le::wide(t[0]);
-    let at = r.fill;
     let opening = rest.opening;
     let run = going_on::went_on(opening, r, t);
     let last = rest.last;
     ledger::entered(m, Account::Headers, len as u64);
-    copier::lay(&mut buffer[at..], at, &t[len..]);
     RestTaken {
         rest: counted(
             rest,
@@ -304,6 +301,19 @@ fn keep(rest: Rest, r: Run, m: &mut Numbers, buffer: &mut [u8], t: &[u8]) -> Res
             fate: Fate::Kept,
         }),
     }
+}
+
+// The short way, with the data written straight after the frame's earlier data.
+fn keep(rest: Rest, r: Run, m: &mut Numbers, buffer: &mut [u8], t: &[u8]) -> RestTaken
+    requires { ⌜ GoesOn (wholeOf rest (now m)) r (length (now buffer)) (now t) ⌝ }
+    ensures { λ x. ⌜ takenWith x (now (m .exit)) ≡ takeOf (wholeOf rest (now (m .entry))) (length (now (buffer .entry))) (now (t .entry)) ⌝ }
+    ensures { λ _. ⌜ now (buffer .exit) ≡ bufferOf (wholeOf rest (now (m .entry))) (now (buffer .entry)) (now (t .entry)) ⌝ }
+{
+    let len = le::wide(t[0]);
+    let at = r.fill;
+    let taken = gone_on(rest, r, m, buffer.len(), t);
+    copier::lay(&mut buffer[at..], at, &t[len..]);
+    taken
 }
 
 // The long way, of any transfer.
@@ -345,6 +355,16 @@ pub fn count(rest: Rest, m: &mut Numbers, room: usize, t: &[u8]) -> RestTaken
     requires { ⌜ length (now m) ≡ numberCount ⌝ }
     ensures { λ r. ⌜ takenWith r (now (m .exit)) ≡ takeOf (wholeOf rest (now (m .entry))) room (now (t .entry)) ⌝ }
 {
+    let opening = rest.opening;
+    let track = rest.track;
+    let phase = track.phase;
+    if let Phase::Under(r) = phase {
+        if going_on::goes_on(opening, r, t) {
+            if refusal(rest, m, room, t.len()) == 0 {
+                return gone_on(rest, r, m, room, t);
+            }
+        }
+    }
     let posted = post(rest, m, room, t);
     posted.taken
 }

@@ -1,14 +1,11 @@
-use Prim.Native.Nat.{ℕ, _-_}
-use mathlib.Core.Path.{refl, ap, _∙_}
+use Prim.Native.Nat.{_-_}
+use mathlib.Core.Path.{refl, _∙_}
 use denote.Ref.{now}
 use lib.ListN.{length, take, drop}
 use native.Mathlib.Omega.{arith}
-use Rattle.session_rules.specs.declared.Account.{Account}
 use Rattle.copier.proofs.Laws.{laid}
-use Rattle.ledger.specs.Inner.{enteredIn}
-use Rattle.ledger.proofs.Rooms.{room-up, entering}
 use Rattle.session.specs.Inner.{wholeOf}
-use Rattle.session.proofs.Kept.{fits, kept, data-fits, written}
+use Rattle.session.proofs.Kept.{fits, data-fits, written}
 use borrow.Author.Needs.{needs}
 use Rattle.session.proofs.keep.Statement.{statement}
 use Rattle.session.proofs.keep.Tie as tie
@@ -22,27 +19,18 @@ shared-slice-read-wide c =
 wide-requires : tie.Need-wide-requires
 wide-requires c κs = search needs
 
-went-on-requires : tie.Need-went-on-requires
-went-on-requires c κs =
-    let s = c .before .before .before .before .before in
-    let f = fits (wholeOf (s .args .rest) (now (s .args .m))) (s .args .r) _ (now (s .args .t)) (s .pre) (search needs) in
-    (s .pre .on, f .bytes)
-
-entered-requires : tie.Need-entered-requires
-entered-requires c κs =
-    let s = c .before .before .before .before .before .before .before in
-    let f = fits (wholeOf (s .args .rest) (now (s .args .m))) (s .args .r) _ (now (s .args .t)) (s .pre) (search needs) in
-    entering _ _ _ Account.Headers _ (room-up _ _ _ (f .spare) (omega arith)) (λ e. omega arith) (omega (arith, c .before .before .before .wide .ensures .1))
+gone-on-requires : tie.Need-gone-on-requires
+gone-on-requires c κs = let s = c .before .before .before .before .before in s .pre
 
 sub-lay : tie.Need-sub-lay
 sub-lay c =
-    let s = c .before .before .before .before .before .before .before .before in
+    let s = c .before .before .before .before .before .before in
     let f = fits (wholeOf (s .args .rest) (now (s .args .m))) (s .args .r) _ (now (s .args .t)) (s .pre) (search needs) in
     omega (arith, f .inside)
 
 part-lay-start : tie.Need-part-lay-start
 part-lay-start c =
-    let s = c .before .before .before .before .before .before .before .before in
+    let s = c .before .before .before .before .before .before in
     let f = fits (wholeOf (s .args .rest) (now (s .args .m))) (s .args .r) _ (now (s .args .t)) (s .pre) (search needs) in
     omega (arith, f .inside)
 
@@ -51,40 +39,35 @@ part-lay-end c = search needs
 
 sub-lay-2 : tie.Need-sub-lay-2
 sub-lay-2 c =
-    let s = c .before .before .before .before .before .before .before .before .before in
+    let s = c .before .before .before .before .before .before .before in
     let f = fits (wholeOf (s .args .rest) (now (s .args .m))) (s .args .r) _ (now (s .args .t)) (s .pre) (search needs) in
-    omega (arith, f .header, c .before .before .before .before .before .wide .ensures .0)
+    omega (arith, f .header, c .before .before .before .wide .ensures .0)
 
 part-lay-start-2 : tie.Need-part-lay-start-2
 part-lay-start-2 c =
-    let s = c .before .before .before .before .before .before .before .before .before in
+    let s = c .before .before .before .before .before .before .before in
     let f = fits (wholeOf (s .args .rest) (now (s .args .m))) (s .args .r) _ (now (s .args .t)) (s .pre) (search needs) in
-    omega (arith, f .header, c .before .before .before .before .before .wide .ensures .0)
+    omega (arith, f .header, c .before .before .before .wide .ensures .0)
 
 part-lay-end-2 : tie.Need-part-lay-end-2
 part-lay-end-2 c = search needs
 
 lay-requires : tie.Need-lay-requires
 lay-requires c κs =
-    let s = c .before .before .before .before .before .before .before .before .before .before in
-    data-fits (wholeOf (s .args .rest) (now (s .args .m))) (s .args .r) _ (now (s .args .t)) (s .pre) (search needs) _ (c .before .before .before .before .before .before .wide .ensures .0) (now (s .args .buffer)) refl .1
-
-counted-requires : tie.Need-counted-requires
-counted-requires c κs =
-    let s = c .before .before .before .before .before .before .before .before .before .before .before .before .before in
-    let f = fits (wholeOf (s .args .rest) (now (s .args .m))) (s .args .r) _ (now (s .args .t)) (s .pre) (search needs) in
-    f .more
+    let wide = c .before .before .before .before in
+    let s = wide .before .before .before .before in
+    data-fits (wholeOf (s .args .rest) (now (s .args .m))) (s .args .r) _ (now (s .args .t)) (s .pre) (search needs) _ (wide .wide .ensures .0) (now (s .args .buffer)) refl .1
 
 same-length : tie.Need-same-length
 same-length c = search needs
 
 returns : tie.Need-returns
 returns c =
-    let s = c .before .before .before .before .before .before .before .before .before .before .before .before .before .before in
-    let w = c .before .before .before .before .before .before .before .before .before .before .wide in (
-      kept (wholeOf (s .args .rest) (now (s .args .m))) (s .args .r) _ (now (s .args .t)) (s .pre) (search needs) _ _ _ (c .before .before .before .before .before .before .before .before .went-on .ensures) (c .before .before .before .before .before .before .entered .ensures ∙ ap (λ (n : ℕ). enteredIn (now (s .args .m)) Account.Headers n) (w .ensures .0)) (c .counted .ensures),
+    let s = c .before .before .before .before .before .before .before .before .before .before .before in
+    let w = c .before .before .before .before .before .before .before .wide in (
+      c .before .before .before .before .before .gone-on .ensures,
       laid (now (s .args .buffer)) (take (length (now (s .args .t)) - w .result) (drop (w .result) (now (s .args .t)))) _ (s .args .r .fill)
-          (data-fits (wholeOf (s .args .rest) (now (s .args .m))) (s .args .r) _ (now (s .args .t)) (s .pre) (search needs) _ (w .ensures .0) (now (s .args .buffer)) refl .0) (c .before .before .before .lay .ensures)
+          (data-fits (wholeOf (s .args .rest) (now (s .args .m))) (s .args .r) _ (now (s .args .t)) (s .pre) (search needs) _ (w .ensures .0) (now (s .args .buffer)) refl .0) (c .before .before .lay .ensures)
           ∙ written (wholeOf (s .args .rest) (now (s .args .m))) (s .args .r) _ (now (s .args .t)) (s .pre) (search needs) _ (w .ensures .0) (now (s .args .buffer)) refl,
     )
 
@@ -94,8 +77,7 @@ keep-spec =
     (tie.spec
     shared-slice-read-wide
     wide-requires
-    went-on-requires
-    entered-requires
+    gone-on-requires
     sub-lay
     part-lay-start
     part-lay-end
@@ -103,6 +85,5 @@ keep-spec =
     part-lay-start-2
     part-lay-end-2
     lay-requires
-    counted-requires
     same-length
     returns)
