@@ -52,7 +52,7 @@ fn no_word() -> Call
 
 // The call of the arguments from `first` on. Options stand in any order, before or behind the file; a later one takes an earlier one's place.
 pub fn read(first: usize) -> Call {
-    let mut text = io::buffer();
+    let mut text = [0u8; 512];
     let mut call = no_word();
     let count = os::arg_count();
     let mut i = first;

@@ -6,14 +6,10 @@ use Rattle.trace_arguments.proofs.reading.read.Statement.{statement}
 use Rattle.trace_arguments.proofs.reading.read.Tie as tie
 
 abbrev Inv-loop : tie.InvT-loop
-Inv-loop first text₀ call₀ count i₀ text call i = length text ≡ 4096
+Inv-loop first text₀ call₀ count i₀ text call i = length text ≡ 512
 
 abbrev μ-loop : tie.MeasureT-loop
 μ-loop first text₀ call₀ count i₀ text call i = count - i
-
--- src/reading.rt:53:20
-buffer-requires : tie.Need-buffer-requires Inv-loop μ-loop
-buffer-requires c κs = search needs
 
 -- src/reading.rt:54:9
 no-word-requires : tie.Need-no-word-requires Inv-loop μ-loop
@@ -69,7 +65,6 @@ read-spec =
     (tie.spec
     Inv-loop
     μ-loop
-    buffer-requires
     no-word-requires
     arg-count-requires
     loop-holds
