@@ -255,7 +255,7 @@ fn set(w: &mut Words, rest: Rest, outcome: Outcome)
     ];
 }
 
-// Takes one transfer.
+// Inner: for measuring. Takes one transfer; what is required the type of the numbers says.
 #[no_mangle]
 pub extern "C" fn palkodhen_call(w: &mut [u64; 16], m: &mut [u64; 31], buffer: &mut [u8], t: &[u8])
     requires { ⌜ length (now m) ≡ numberCount ⌝ }
