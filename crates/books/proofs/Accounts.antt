@@ -35,8 +35,7 @@ use Rattle.books.proofs.Posts.{posts-sized, since, stampIn, gain, place
 use Rattle.books.proofs.Taken.{Proper}
 use Rattle.books.proofs.History.{itemsBy, callItems, dataNext, items, dataRun, afoot, items-right, posted, run-posts, posted-total, posted-stamps, map-append, stamps-append}
 use Rattle.session_rules.specs.Accounts.{accountCount, numberCount, underAt, accountFor, placeOf, countAt, bytesAt, lostAt, idleAt, ticksAt, backwardAt, untimedAt}
-use Rattle.session_rules.proofs.Places.{at, Sized, place-lt, shown-other, shown-single, shown-count, shown-bytes}
-use Rattle.session_rules.proofs.Places.{not-under-way}
+use Rattle.session_rules.proofs.Places.{at, Sized, place-lt, shown-other, shown-single, shown-count, shown-bytes, not-under-way}
 use Rattle.session_rules.specs.Turns.{turnOf, outBy, closedOf}
 use Rattle.session_rules.specs.Call.{Call}
 use Rattle.session_rules.specs.Calls.{nextCall, run}

@@ -1,65 +1,50 @@
 -- What specs/Statement states, proved.
 use Prim.Native.Nat.{ℕ, zero, suc, _≤_}
 use mathlib.Core.Path.{_≡_, refl, _∙_, ap, subst}
-use mathlib.Core.Bool.{Bool, true, false, not}
-use mathlib.Core.List.{List, [], _∷_, _++_, map}
+use mathlib.Core.Bool.{true, false}
+use mathlib.Core.List.{List, [], _∷_, _++_}
 use mathlib.Core.Logic.{_↔_}
 use native.Mathlib.Omega.{arith}
-use lib.ListN.{length, getD, replicate}
+use lib.ListN.{length}
 use lib.Dec.{eqb}
 use borrow.Author.Tests.{le-ltb}
 use Rattle.rules.specs.Numbered.{firstRow, orElse}
 use Rattle.sizes.specs.declared.Opening.{Opening}
-use Rattle.sizes.specs.declared.HeaderKind.the-variants.{Old, Vp8}
-use Rattle.sizes.specs.Framing.{byEof}
-use Rattle.session_rules.specs.OldKind.{OldKind}
-use Rattle.session_rules.specs.Vp8Kind.{Vp8Kind}
 use Rattle.session_rules.proofs.OldKind as old
 use Rattle.session_rules.proofs.Vp8Kind as vp8
-use Rattle.session_rules.specs.declared.Answer.{Answer}
-use Rattle.session_rules.specs.declared.Delivery.{Delivery}
-use Rattle.session_rules.specs.declared.Ended.{Ended}
-use Rattle.session_rules.specs.declared.HandOut.{HandOut}
 use Rattle.session_rules.specs.Track.{handing}
 use Rattle.session_rules.specs.declared.Session.{Session}
 use Rattle.session_rules.specs.declared.Start.{Start}
 use Rattle.session_rules.specs.declared.Outcome.{Outcome}
-use Rattle.session_rules.specs.declared.Report.{Report}
-use Rattle.session_rules.specs.declared.Closing.{Closing}
-use Rattle.session_rules.specs.Refusals.{takenMost, openingRows}
-use Rattle.session_rules.specs.Refusals.{recordBroken, ledgerOf}
+use Rattle.session_rules.specs.Refusals.{takenMost, openingRows, ledgerOf}
 use Rattle.rules.proofs.Rows.{none-row}
 use Rattle.session_rules.proofs.Refused.{open-open-exactly}
 use Rattle.session_rules.proofs.Readings.{idle-exactly, unreadable-exactly, readable-exactly}
 use Rattle.session_rules.proofs.WhenRefused as when
-use Rattle.session_rules.specs.Session.{fresh, openBy, openOf, takeOf, bufferBy, bufferOf, lostOf, closeOf}
-use Rattle.books.specs.Rule.{events, isOpen, entries, numbersOf, stamps, lastStamped, forward, between, received}
-use Rattle.books.specs.Demands.{Right, allBytes, endedItems, fateItems, Gains, Says, Whole, Film, WithoutStills}
-use Rattle.books.specs.HandedOut.{HandsOut, HandedWhole, MarkedBefore, EofFraming}
-use Rattle.books.specs.HeaderKinds.{NoLayers, AllTimed, ReportsNone, ClosesNoStill, AnswersNoStill}
-use Rattle.books.specs.Answer.{answerOf, outcomeOf, endingOf, writtenOf}
-use Rattle.books.specs.Offers.{takenIn, refusedBy, listedAs, listOf, refusedOr, takeSays, lostSays, closeSays, takeLeaves}
-use Rattle.books.specs.Alike.{At, NoneRefused, heard, Same}
+use Rattle.session_rules.specs.Session.{fresh, openBy, openOf, takeOf, bufferBy, bufferOf}
+use Rattle.books.specs.Rule.{events, isOpen, entries, numbersOf, stamps, lastStamped, received}
+use Rattle.books.specs.Demands.{Right, endedItems, fateItems, Gains, Says, Whole, Film, WithoutStills}
+use Rattle.books.specs.HandedOut.{HandedWhole, MarkedBefore, EofFraming}
+use Rattle.books.specs.Answer.{answerOf}
+use Rattle.books.specs.Offers.{takenIn, listOf}
 use Rattle.books.proofs.Taken.{next-refused, after-run, Proper, taken-proper, close-last}
-use Rattle.books.proofs.Sound.{after-opening}
 use Rattle.books.proofs.Histories.{accounts-taken, numbers-taken, last-taken, bytes-taken, sound-taken}
 use Rattle.books.proofs.Offers.{none-taken, list-is, closed-listed, taken-listed, broken-is, refused-listed}
 use Rattle.books.proofs.Every.{take-says, take-leaves, session-after, handed-where}
 use Rattle.books.proofs.Every as every
 use Rattle.books.proofs.Answers.{transfer-says, handed-says, lost-says, close-says}
-use Rattle.books.proofs.ByList.{transfer-answers, transfer-writes, lost-answers, close-answers, all-marked}
-use Rattle.books.proofs.HandedOut.{handed-out, by-eof-alone, again}
+use Rattle.books.proofs.ByList.{all-marked}
+use Rattle.books.proofs.HandedOut.{by-eof-alone, again}
 use Rattle.books.proofs.HandedOut as out
 use Rattle.books.proofs.Whole.{delivered-whole}
 use Rattle.books.proofs.Whole as buffers
 use Rattle.books.proofs.Stills.{without-stills}
 use Rattle.books.proofs.HeaderKinds.{no-layers, reports-none, all-timed, all-film, answers-no-still, closes-no-still}
 use Rattle.books.proofs.Alongside.{heard-alike}
-use Rattle.session_rules.specs.Accounts.{ticksAt}
 use Rattle.sizes.specs.Sizes.{sizesBroken}
 use Rattle.session_rules.specs.Rule50.{transferMost}
-use Rattle.session_rules.specs.Call.{Ask, Call}
-use Rattle.session_rules.specs.Calls.{Offer, refusal, next, after, taken, nextCall, run, offers, bufferAfter}
+use Rattle.session_rules.specs.Call.{Call}
+use Rattle.session_rules.specs.Calls.{Offer, refusal, after, taken, run, offers, bufferAfter}
 use Rattle.books.specs.Statement.{reached, NoInputStops, FramesAreWhole, NothingGoesMissing, CamerasWithoutEof, StillsAndKinds, Statement}
 
 -- ---- openings

@@ -1,4 +1,4 @@
--- What is demanded of a session after any calls: the statements that proofs/Theorems.antt proves.
+-- What is demanded of a session after any calls: the words of specs/Statement.antt.
 use Prim.Native.Nat.{ℕ, _+_}
 use mathlib.Core.Path.{_≡_}
 use mathlib.Core.Bool.{Bool, true, false}

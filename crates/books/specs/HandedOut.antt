@@ -1,4 +1,4 @@
--- Document 02, Two: what is demanded of hand-outs, the statements that proofs/Theorems.antt proves.
+-- Document 02, Two: what is demanded of hand-outs, the words of specs/Statement.antt.
 use Prim.Native.Nat.{ℕ}
 use mathlib.Core.Path.{_≡_}
 use mathlib.Core.Bool.{Bool, true, false, not, _&&_, _||_}

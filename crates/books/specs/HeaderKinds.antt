@@ -1,4 +1,4 @@
--- Document 02, Twelve: what is demanded of each kind of header, the statements that proofs/Theorems.antt proves. The frame rule itself names no kind.
+-- Document 02, Twelve: what is demanded of each kind of header, the words of specs/Statement.antt. The frame rule itself names no kind.
 use mathlib.Core.Path.{_≡_}
 use mathlib.Core.Bool.{false}
 use mathlib.Core.List.{List, map}

@@ -4,25 +4,19 @@ use mathlib.Core.Path.{_≡_, refl, sym, _∙_}
 use mathlib.Core.Bool.{Bool, true, false, true≢false}
 use mathlib.Core.List.{List, [], _∷_, map}
 use mathlib.Core.Logic.{_↔_, inl, inr}
-use native.Mathlib.Omega.{arith}
 use lib.ListN.{length}
 use lib.Dec.{eqb, ltb}
 use borrow.Author.Tests.{eq-eqb, ne-eqb, lt-ltb, le-ltb, eqb-true, eqb-false, ltb-true, ltb-false}
-use Rattle.rules.specs.Numbered.{Row, firstRow, Given, here, later, NoneOf, rowsBefore, isBroken}
+use Rattle.rules.specs.Numbered.{Row, Given, here, later, NoneOf, rowsBefore, isBroken}
 use Rattle.rules.specs.IfElse.{ifElse}
-use Rattle.rules.proofs.Rows.{isElsewhere, onceEach, Once, once-after, given-by}
+use Rattle.rules.proofs.Rows.{isElsewhere, onceEach, once-after, given-by}
 use Rattle.sizes.specs.declared.Opening.{Opening}
 use Rattle.sizes.specs.Sizes.{Between, frameSizeBroken, payloadSizeBroken}
 use Rattle.sizes.proofs.Limits.{frame-sound, payload-sound}
 use Rattle.session_rules.specs.declared.Session.{Session}
-use Rattle.session_rules.specs.declared.Start.{Start}
-use Rattle.session_rules.specs.declared.Outcome.{Outcome}
-use Rattle.session_rules.specs.declared.Report.{Report}
-use Rattle.session_rules.specs.declared.Closing.{Closing}
 use Rattle.session_rules.specs.Refusals.{takenMost, openingRows, recordBroken, Keeps50, closeRows, lostRows, takeRows}
 use Rattle.session_rules.specs.Rule50.{transferMost}
-use Rattle.session_rules.specs.Session.{openOf, takeOf, lostOf, closeOf}
-use Rattle.session_rules.specs.WhenRefused.{Among, OpenWhen, Closes, Notes, Takes, TakeWhen, LostWhen, CloseWhen}
+use Rattle.session_rules.specs.WhenRefused.{Among, OpenWhen, Closes, Notes, TakeWhen, LostWhen, CloseWhen}
 use Rattle.session_rules.proofs.Row50.{frame-clear, payload-clear}
 use Rattle.session_rules.proofs.Record50.{row-50, row-50-given}
 use Rattle.session_rules.proofs.Refused as refused

@@ -2,7 +2,7 @@
 use Prim.Native.Nat.{ℕ, _+_, _*_}
 use mathlib.Core.Path.{_≡_}
 use mathlib.Core.List.{List, [], _∷_}
-use mathlib.Core.Bool.{Bool, false, not}
+use mathlib.Core.Bool.{false, not}
 use lib.ListN.{length, getD}
 use lib.Dec.{ltb}
 use Rattle.le.specs.Le.{le16At, le32At}
