@@ -17,7 +17,7 @@ use Rattle.control.specs.Answer.{refusedBy, ControlIs}
 use Rattle.control.specs.Broken.{FirstBroken, FirstBroken.by-block, FirstBroken.by-descriptor, FirstBroken.by-13, FirstBroken.by-14, FirstBroken.by-15}
 use Rattle.rules.proofs.Verdicts as verdicts
 use Rattle.control.proofs.ExactlyWhen.{refused, from-first, head-few, rows-few}
-use Rattle.control_map.specs.Answer.{HasControls, AcceptedWith, Mapped, controlsAt, refusedMap, MapIs, MapIs.own, MapIs.given, MapIs.sixteen, Unmapped, MappedAt}
+use Rattle.control_map.specs.Answer.{HasControls, AcceptedWith, controlsAt, refusedMap, MapIs, MapIs.own, MapIs.given, MapIs.sixteen, Unmapped, MappedAt}
 use Rattle.control_map.specs.declared.Map.{Map}
 use Rattle.control_map.proofs.Mapping.{entities-listed, mapped-once, place-else, place-is, apart}
 use Rattle.control_map.proofs.Unique.{controls-unique}

@@ -6,8 +6,6 @@ use native.Mathlib.Omega.{arith}
 use native.Mathlib.Decide.{ℕ-discrete, decLt}
 use lib.ListN.{length, getD}
 use lib.Seq.{set-out, getD-set-same, getD-set-other}
-use Rattle.session_rules.specs.declared.Reason.{Reason}
-use Rattle.session_rules.specs.declared.Reason.the-variants.{Gap, Error, Clock, Mixed, Long, Cut, Empty}
 use Rattle.session_rules.specs.declared.Ended.{Ended}
 use Rattle.session_rules.specs.declared.Ended.the-variants.{Nothing, Frame}
 use Rattle.session_rules.specs.declared.Account.{Account}

@@ -2,7 +2,7 @@
 use mathlib.Core.Path.{_≡_, refl, sym, ap, subst, _∙_}
 use mathlib.Core.Bool.{Bool, true, false, _&&_}
 use mathlib.Core.List.{List, [], _∷_, _++_, append-assoc, append-nil}
-use Prim.Native.Nat.{ℕ, suc, _+_, _-_, _*_, _≤_, _<_}
+use Prim.Native.Nat.{ℕ, _+_, _-_, _*_, _≤_, _<_}
 use native.Mathlib.Nat.{sub-zero}
 use native.Mathlib.Numerals.{add-one}
 use native.Mathlib.Omega.{arith}
@@ -13,7 +13,7 @@ use Rattle.text.specs.Put.{Put}
 use Rattle.text.specs.Text.{line, lines}
 use Rattle.text.proofs.Puts.{then}
 use Rattle.text.proofs.Texts.{none}
-use Rattle.name_tables.specs.Tables.{nameLength, first, rest, rowsOf, isEnough, Enough}
+use Rattle.name_tables.specs.Tables.{nameLength, rest, rowsOf, isEnough, Enough}
 use Rattle.name_tables.proofs.Names.{drop-all, rest-from, first-from}
 use Rattle.name_tables.specs.Inner.{Ends}
 

@@ -5,7 +5,7 @@ use mathlib.Core.List.{List, [], _∷_}
 use Prim.Native.Nat.{ℕ, _+_, _-_, _*_, _≤_, _<_}
 use native.Mathlib.Omega.{arith}
 use borrow.Author.Tests.{ne-eqb, ltb-true, ltb-false}
-use lib.Dec.{T, eqb, ltb, ltb→lt, leb, leb→le}
+use lib.Dec.{T, ltb, ltb→lt, leb, leb→le}
 use lib.ListN.{length, length-append}
 use Rattle.text.specs.Put.{Put}
 use Rattle.text.specs.Text.{line}

@@ -42,11 +42,8 @@ use Rattle.session_rules.specs.declared.Taken.{Taken}
 use Rattle.session.specs.declared.RestTaken.{RestTaken}
 use Rattle.session.specs.declared.Posted.{Posted}
 use Rattle.session_rules.specs.declared.Report.{Report}
-use Rattle.session_rules.specs.declared.Reported.{Reported}
-use Rattle.session.specs.declared.RestReported.{RestReported}
 use Rattle.session_rules.specs.declared.Closing.{Closing}
 use Rattle.session_rules.specs.declared.Closed.{Closed}
-use Rattle.session.specs.declared.RestClosed.{RestClosed}
 use Rattle.session_rules.specs.Refusals.{takenMost, openingRows, closeRowsBy, lostRowsBy, takeRowsBy}
 use Rattle.session_rules.specs.Refusals.{recordBroken, closeRows, lostRows, takeRows}
 use Rattle.session_rules.specs.Session.{fresh, noSession, openBy, openOf, countedOf, takenBy, readOf, readBuffer, plainly, tookOf, tookBuffer, handsOut, passedOf, handedOf, metOf, metBuffer, takeBy, takeOf, bufferBy, bufferOf, lostBy, lostOf, closeBy, closeOf}

@@ -1,4 +1,3 @@
-use native.Mathlib.Omega.{arith}
 use borrow.Author.Needs.{needs}
 use Rattle.name_tables.proofs.Names.{name-fits, name-put}
 use Rattle.name_tables.proofs.line.Statement.{statement}
