@@ -1,11 +1,12 @@
 // The alternate settings of a streaming interface: the k-th, its bytes per microframe, and the one with the fewest that holds a payload.
+#![tactic(auto)]
 ghost use Rattle.std.specs.Prelude.{◌≡◌, ◌<◌, length};
 ghost use Rattle.alternate_settings.specs.Inner.{bytes_at, setting_at, settings_of, kth_of, is_better, better_of, fewest_of};
 
 use configuration_rules::{ENDPOINT, Sought};
 
 // A setting's number, and its bytes per microframe.
-#[derive(Drop)]
+#[derive(Clone, Copy)]
 pub struct Setting {
     pub number: u8,
     pub bytes: u32,

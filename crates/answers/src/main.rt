@@ -30,6 +30,7 @@
 //                byte 1 read: part control block, byte interface, part bytes
 //                byte 2 nearest: byte setting, two bytes each minimum, maximum, step and wanted
 // A case that is cut short, a part that is too long and an unknown kind end the run with one line.
+#![tactic(auto)]
 use block_cases::{descriptors, probes};
 use call_cases::{calls, forged, recorded, rooms};
 use cases::{input, print};

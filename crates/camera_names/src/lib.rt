@@ -1,4 +1,5 @@
 // The class's names: of terminal types, and of the controls that a camera terminal and a processing unit have.
+#![tactic(auto)]
 ghost use Rattle.std.specs.Prelude.{◌≡◌, ◌+◌, ◌≤◌, ◌<◌, length};
 ghost use Rattle.text.specs.Put.{Put};
 ghost use Rattle.camera_names.specs.Names.{terminal_place, terminal_text, is_set, control_text, controls_text, camera_names, processing_names};

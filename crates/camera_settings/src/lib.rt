@@ -1,4 +1,5 @@
 // The settings of a processing unit that are turned by hand, and the requests that ask for them and set them, with the class's numbers.
+#![tactic(auto)]
 ghost use Rattle.std.specs.Prelude.{◌≡◌, ◌<◌};
 ghost use Rattle.camera_settings.specs.Numbers.{selector_of, bit_of, is_signed, code_of, type_of, SettingIs, RequestIs};
 
@@ -30,7 +31,7 @@ const SET: u8 = 0x21;
 const GET: u8 = 0xA1;
 
 // A setting: a control of a processing unit with a number of 16 bits.
-#[derive(Drop)]
+#[derive(Clone, Copy)]
 pub enum Setting {
     Brightness,
     Contrast,
@@ -38,7 +39,7 @@ pub enum Setting {
     Saturation,
 }
 
-#[derive(Drop)]
+#[derive(Clone, Copy)]
 pub enum Request {
     GetCur,
     GetMin,

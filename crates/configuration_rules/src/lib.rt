@@ -1,4 +1,5 @@
 // One descriptor of a configuration: 70, which descriptor follows it, what a search looks for, and the bytes per microframe of an endpoint.
+#![tactic(auto)]
 ghost use Rattle.std.specs.Prelude.{◌≡◌, ◌+◌, ◌≤◌, ◌<◌, length, get_or};
 ghost use Rattle.configuration_rules.specs.Descriptors.{least_of, broken_at, after_at, subclass_of, is_video, is_endpoint, is_sought, packet_bytes};
 
@@ -19,7 +20,7 @@ const CONTROL: u8 = 1;
 const STREAMING: u8 = 2;
 
 // What a search looks for.
-#[derive(Drop)]
+#[derive(Clone, Copy)]
 pub enum Sought {
     // a descriptor that breaks 70
     Broken,

@@ -1,4 +1,5 @@
 // Converts a trace of short records to one of long records, from the named file or from standard input.
+#![tactic(auto)]
 mod input;
 
 use console::{print, status};

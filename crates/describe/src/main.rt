@@ -1,5 +1,6 @@
 // Describes what a camera's descriptors say: `describe control FILE` and `describe map FILE ID`.
 // Each way to describe is a file of its own, and a line in `main`.
+#![tactic(auto)]
 mod control_block;
 mod control_bytes;
 

@@ -1,4 +1,5 @@
 // Describes a camera for a person: `camera FILE`, a configuration or the file `descriptors` that Linux keeps of a device.
+#![tactic(auto)]
 mod page;
 
 fn main() {

@@ -1,4 +1,5 @@
 // Describes a whole configuration, or picks a setting: `configuration FILE` and `setting FILE INTERFACE PAYLOAD`.
+#![tactic(auto)]
 mod setting;
 mod whole;
 

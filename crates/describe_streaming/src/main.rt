@@ -1,5 +1,6 @@
 // Describes a streaming block or a probe block, with the control block that it belongs to:
 // `streaming CONTROL STREAMING` and `probe CONTROL STREAMING PROBE`.
+#![tactic(auto)]
 mod probe_block;
 mod streaming_block;
 

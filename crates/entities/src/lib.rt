@@ -1,4 +1,5 @@
 // The entity table of a control block: terminals and units in block order, unused places zero.
+#![tactic(auto)]
 ghost use Rattle.std.specs.Prelude.{◌≡◌, [], leb, take, set};
 ghost use Rattle.rules.specs.IfElse.{if_else};
 ghost use Rattle.rules.specs.Pad.{pad};
@@ -16,7 +17,7 @@ pub const PROCESSING_UNIT: u8 = 5;
 pub const ENCODING_UNIT: u8 = 7;
 
 // A terminal or a unit: its ID, its subtype number, its terminal type or 0, and where its descriptor stands.
-#[derive(Drop)]
+#[derive(Clone, Copy)]
 pub struct Entity {
     pub id: u8,
     pub kind: u8,
@@ -25,7 +26,7 @@ pub struct Entity {
 }
 
 // The revision of the class that a camera keeps to, 1.0, 1.1 or 1.5: there is no fourth.
-#[derive(Drop)]
+#[derive(Clone, Copy)]
 pub enum Revision {
     R10,
     R11,
@@ -48,7 +49,7 @@ pub struct Says {
 }
 
 // The first `count` places are used. A table is input too: it may hold anything, but for a fourth revision.
-#[derive(Drop)]
+#[derive(Clone, Copy)]
 pub struct Table {
     pub count: usize,
     pub entities: [Entity; ENTITIES_MOST],
@@ -56,7 +57,7 @@ pub struct Table {
     pub revision: Revision,
 }
 
-#[derive(Drop)]
+#[derive(Clone, Copy)]
 pub enum Found {
     At(usize),
     Nothing,

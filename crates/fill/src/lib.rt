@@ -1,4 +1,5 @@
 // Zero fill: the bytes behind what a record holds.
+#![tactic(auto)]
 ghost use Rattle.std.specs.Prelude.{◌≡◌, ◌≤◌, length, drop};
 ghost use Rattle.fill.specs.Fill.{any_set};
 

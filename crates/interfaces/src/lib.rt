@@ -1,4 +1,5 @@
 // The descriptors of a configuration one after the other: searching them, the block behind an interface descriptor, the streaming interfaces, and 75.
+#![tactic(auto)]
 ghost use Rattle.std.specs.Prelude.{◌≡◌, ◌≤◌, ◌<◌, Bool, length, leb};
 ghost use Rattle.rules.specs.IfElse.{if_else};
 ghost use Rattle.interfaces.specs.Inner.{next_of, block_at, stream_at, streams_of, place_of, one_too_many, no_counts, too_many};
@@ -20,7 +21,7 @@ pub struct Block {
 }
 
 // The same of a streaming interface, with its header's endpoint.
-#[derive(Drop)]
+#[derive(Clone, Copy)]
 pub struct Stream {
     pub interface: u8,
     pub endpoint: u8,

@@ -1,4 +1,5 @@
 // The ledger that a polling loop keeps: a struct of 320 bytes, lent by exclusive reference. Each thin call takes it apart and hands it to the operation by value.
+#![tactic(auto)]
 ghost use Rattle.std.specs.Prelude.{◌≡◌, length};
 ghost use Rattle.ledger_record.specs.Recorded.{take_buffer};
 ghost use Rattle.ledger_lent.specs.Lent.{taken_of, reported_of, closed_of, taken_with, reported_with, closed_with};

@@ -1,4 +1,5 @@
 // Prints the ledger of a trace, from the named file or from standard input.
+#![tactic(auto)]
 use console::status;
 use frame_lines::Show;
 use libc::{STDERR_FILENO, STDIN_FILENO};

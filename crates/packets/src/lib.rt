@@ -1,4 +1,5 @@
 // The 8-byte setup packets of a setting: their bytes, and what given bytes ask for.
+#![tactic(auto)]
 ghost use Rattle.std.specs.Prelude.{◌≡◌};
 ghost use Rattle.packets.specs.Packets.{packet_of, room_verdict, leaves, SpeltIs};
 ghost use Rattle.packets.specs.Inner.{SpeltWith, SpeltBy};
@@ -60,7 +61,7 @@ pub fn write(
         };
     }
     let packet = packet_of(interface, unit, setting, request);
-    bytes::copy(&packet, room);
+    room[..SIZE].copy_from_slice(&packet);
     Verdict::Accepted
 }
 

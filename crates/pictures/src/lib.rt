@@ -1,4 +1,5 @@
 // Whether the sizes of a frame can be true, by its format's GUID sort and bits per pixel (39).
+#![tactic(auto)]
 ghost use Rattle.std.specs.Prelude.{◌≡◌, ◌*◌, leb};
 ghost use Rattle.pictures.specs.Pictures.{bits_of, in_bytes, untrue as untrueBy};
 

@@ -1,4 +1,5 @@
 // The probe and commit block of 26, 34 or 48 bytes, by the revision: reading and writing it (41).
+#![tactic(auto)]
 ghost use Rattle.std.specs.Prelude.{◌≡◌, ◌+◌, ◌/◌, ◌%◌, ◌≤◌, ◌<◌, length};
 ghost use Rattle.probe.specs.Fields.{probe_size, bytes_at, fields_of, bytes_of, no_fields, probe_of, room_verdict, written, WritesBack, ReadsBack};
 ghost use Rattle.le.specs.Le.{le16_at, le32_at};
@@ -10,7 +11,7 @@ use rules::Verdict;
 pub const LENGTH: usize = 48;
 
 // The fields as they come. preferred, minimum and maximum are versions.
-#[derive(Drop)]
+#[derive(Clone, Copy)]
 pub struct Probe {
     pub hint: u16,
     pub format: u8,
@@ -280,6 +281,6 @@ pub fn write(p: Probe, room: &mut [u8], revision: Revision) -> Verdict
         };
     }
     let block = bytes_of(p);
-    bytes::copy(&block[..size], room);
+    room[..size].copy_from_slice(&block[..size]);
     Verdict::Accepted
 }

@@ -1,9 +1,10 @@
 // One record of a trace, short or long: kind, length, the bytes, zero fill.
+#![tactic(auto)]
 ghost use Rattle.std.specs.Prelude.{◌≡◌, ◌≤◌, ◌<◌, length as List·length};
 ghost use Rattle.records.specs.Form.{size_of, head_of, most_of};
 ghost use Rattle.records.specs.Record.{length_at, second_set, record_bad};
 
-#[derive(Drop)]
+#[derive(Clone, Copy)]
 pub enum Form {
     // Document 01: kind, a byte of length.
     Short,

@@ -1,4 +1,5 @@
 // `replay` or `frames`, options and a file: what the frames of a trace came to, from the named file or from standard input.
+#![tactic(auto)]
 use console::{print, status};
 use frame_lines::Show;
 use libc::STDIN_FILENO;

@@ -1,5 +1,6 @@
 // What every reader answers with. The definitions and laws that the readers share stand in specs/ and proofs/.
-#[derive(Drop)]
+#![tactic(auto)]
+#[derive(Clone, Copy)]
 pub enum Verdict {
     Accepted,
     // The number of the first broken rule, and the place that breaks it.

@@ -1,4 +1,5 @@
 // `PAYLOAD [--stamp TICKS] FILE ..`: a long trace of the files' bytes as frames, cut into transfers of this size by one sender, then close.
+#![tactic(auto)]
 mod sending;
 
 use arguments::Number;

@@ -1,4 +1,5 @@
 // A camera of our own: cuts frames into payload transfers, one a call, into a buffer that the caller lends.
+#![tactic(auto)]
 ghost use Rattle.std.specs.Prelude.{◌≡◌, ◌++◌, ◌%◌, ◌<◌, ◌≤◌, min, length, drop};
 ghost use Rattle.rules.specs.Numbered.{first_row};
 ghost use Rattle.sizes.specs.Sizes.{payload_most};
@@ -161,11 +162,11 @@ fn write_header(fid: bool, eof: bool, stamp: Stamp, room: &mut [u8])
     match stamp {
         Stamp::Absent => {
             let header = short_header(fid, eof);
-            bytes::copy(&header, room);
+            room[..SHORT].copy_from_slice(&header);
         }
         Stamp::At(ticks) => {
             let header = long_header(fid, eof, ticks);
-            bytes::copy(&header, room);
+            room[..LONG].copy_from_slice(&header);
         }
     }
 }

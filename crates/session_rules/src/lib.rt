@@ -1,5 +1,6 @@
 // The types of a session: a transfer as it is read, the frame under way, the ledger and the session record. What each call makes of them stands in specs/;
 // the code stands in the crates above.
+#![tactic(auto)]
 ghost use Rattle.std.specs.Prelude.{◌≡◌};
 ghost use Rattle.session_rules.specs.Ledger.{no_ledger};
 
@@ -7,7 +8,7 @@ use sizes::Opening;
 
 // What differs between the kinds of header: the bytes of one with no field, the bit that says end of header, whether D5 marks a still, whether D7 announces a
 // layer, and whether a PTS has to be there.
-#[derive(Drop)]
+#[derive(Clone, Copy)]
 pub struct Layout {
     pub least: usize,
     pub ends: u8,
@@ -17,14 +18,14 @@ pub struct Layout {
 }
 
 // A presentation time, or none.
-#[derive(Drop)]
+#[derive(Clone, Copy)]
 pub enum Stamp {
     Absent,
     At(u32),
 }
 
 // A layer field, or none.
-#[derive(Drop)]
+#[derive(Clone, Copy)]
 pub enum Layer {
     Absent,
     At(u16),
@@ -51,7 +52,7 @@ pub enum Reading {
 }
 
 // Why a frame was not delivered. The first five are faults.
-#[derive(Drop)]
+#[derive(Clone, Copy)]
 pub enum Reason {
     Gap,
     Error,
@@ -62,7 +63,7 @@ pub enum Reason {
     Empty,
 }
 
-#[derive(Drop)]
+#[derive(Clone, Copy)]
 pub enum Fault {
     Sound,
     Bad(Reason),
@@ -70,7 +71,7 @@ pub enum Fault {
 
 // A frame under way: its data so far, how much of it is written, its first stamp, its run's FID, its first transfer's still
 // bit, its earliest fault, and its last layer.
-#[derive(Drop)]
+#[derive(Clone, Copy)]
 pub struct Run {
     pub bytes: u64,
     pub fill: usize,
@@ -81,7 +82,7 @@ pub struct Run {
     pub layer: Layer,
 }
 
-#[derive(Drop)]
+#[derive(Clone, Copy)]
 pub enum Phase {
     // No readable transfer yet.
     Fresh,
@@ -91,7 +92,7 @@ pub enum Phase {
     Past(bool),
 }
 
-#[derive(Drop)]
+#[derive(Clone, Copy)]
 pub struct Track {
     pub phase: Phase,
     // An unreadable or lost transfer came since the last readable one.
@@ -255,7 +256,7 @@ pub struct Session {
 }
 
 // All but the ledger's numbers.
-#[derive(Drop)]
+#[derive(Clone, Copy)]
 pub struct Rest {
     pub opening: Opening,
     pub closed: bool,

@@ -1,5 +1,6 @@
 // Camera settings: `build CONTROL_FILE INTERFACE UNIT CONTROL REQUEST`, `read CONTROL_FILE INTERFACE PACKET_FILE` and
 // `nearest CONTROL MIN MAX STEP WANTED`. Each is a file of its own.
+#![tactic(auto)]
 mod building;
 mod moving;
 mod reading;

@@ -1,4 +1,5 @@
 // The sizes that a probe block may ask for and a session may be opened with (45 and 46), named once, and what an opening is.
+#![tactic(auto)]
 ghost use Rattle.std.specs.Prelude.{◌≡◌};
 ghost use Rattle.sizes.specs.Sizes.{frame_size_broken, payload_size_broken};
 ghost use Rattle.sizes.specs.Framing.{by_eof};
@@ -13,14 +14,14 @@ pub const PAYLOAD_MOST: usize = 65_536;
 const EOF_PRESENT: u8 = 1;
 
 // How a camera's payload headers are laid out: as USB Video Class 1.5 has them, or as its VP8 payload has.
-#[derive(Drop)]
+#[derive(Clone, Copy)]
 pub enum HeaderKind {
     Old,
     Vp8,
 }
 
 // What a session is opened with, passed whole: the negotiated frame size and payload size, the probe block's framing byte, and the header kind.
-#[derive(Drop)]
+#[derive(Clone, Copy)]
 pub struct Opening {
     pub frame: usize,
     pub payload: usize,

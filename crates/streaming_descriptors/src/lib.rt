@@ -1,4 +1,5 @@
 // The descriptors of a streaming block: their kinds and lengths, and what a format and a frame give.
+#![tactic(auto)]
 ghost use Rattle.std.specs.Prelude.{◌≡◌, true, ◌+◌, ◌^◌, ◌≤◌, ◌<◌, length, eqb};
 ghost use Rattle.le.specs.Le.{byte, le32_at};
 ghost use Rattle.rules.specs.IfElse.{if_else};
@@ -9,7 +10,7 @@ const YUY2: [u8; 16] = *b"YUY2\x00\x00\x10\x00\x80\x00\x00\xAA\x00\x38\x9B\x71";
 const NV12: [u8; 16] = *b"NV12\x00\x00\x10\x00\x80\x00\x00\xAA\x00\x38\x9B\x71";
 
 // What a subtype number says. Formats and frames go by the format's subtype.
-#[derive(Drop)]
+#[derive(Clone, Copy)]
 pub enum Kind {
     Header,
     Formats(u8),
@@ -31,7 +32,7 @@ pub struct Layout {
 }
 
 // A format: its subtype (4, 6 or 0x10), its GUID (1 YUY2, 2 NV12, 3 other, 0 for MJPEG), and where its descriptor stands.
-#[derive(Drop)]
+#[derive(Clone, Copy)]
 pub struct Format {
     pub kind: u8,
     pub guid: u8,
@@ -42,7 +43,7 @@ pub struct Format {
 }
 
 // A frame: the number of its format, from 1, and where its descriptor stands.
-#[derive(Drop)]
+#[derive(Clone, Copy)]
 pub struct Frame {
     pub format: u8,
     pub k: u8,

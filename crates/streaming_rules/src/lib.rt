@@ -1,4 +1,5 @@
 // The rules of a streaming block's descriptors: 20 to 35, 39 and 40.
+#![tactic(auto)]
 ghost use Rattle.std.specs.Prelude.{◌≡◌, true, ◌+◌, ◌≤◌, ◌<◌, length};
 ghost use Rattle.rules.specs.Numbered.{first_row};
 ghost use Rattle.streaming_descriptors.specs.Descriptors.{kind_at, len_at, shape, format_layout, frame_length_at, format_of};
@@ -27,7 +28,7 @@ const FRAME_BASED: u8 = 0x10;
 
 // What the descriptors before one leave to its rules: whether the header's link is good, how many formats and frames came,
 // the last format, and how many frames stand under it.
-#[derive(Drop)]
+#[derive(Clone, Copy)]
 pub struct Sofar {
     pub linked: bool,
     pub formats: usize,

@@ -1,4 +1,5 @@
 // The words of `convert`, `replay` and `frames`, and of `send`.
+#![tactic(auto)]
 pub mod reading;
 
 ghost use Rattle.std.specs.Prelude.{◌≡◌, true};

@@ -1,4 +1,5 @@
 // What the programs that read a trace share: it is read in constant memory, and the lines of each read are printed behind it. No contract can say what is read or written.
+#![tactic(auto)]
 ghost use Rattle.std.specs.Prelude.{◌≡◌, ◌≤◌, ◌<◌, length};
 ghost use Rattle.records.specs.Form.{size_of};
 ghost use Rattle.replay.specs.Inner.{read_room};
