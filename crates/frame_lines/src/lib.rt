@@ -14,7 +14,7 @@ use endings::{Ending, Endings, How, Told};
 use session_rules::{Reason, Stamp, Step};
 
 // What is printed of the frames: nothing by the ledger program, those that were delivered by a replay, all of them by the list.
-#[derive(Drop)]
+#[derive(Clone, Copy)]
 pub enum Show {
     Nothing,
     Replay,
@@ -22,7 +22,7 @@ pub enum Show {
 }
 
 // The number of the next line, and the stamp of the last delivered frame of film that has one.
-#[derive(Drop)]
+#[derive(Clone, Copy)]
 pub struct Counted {
     pub number: u64,
     pub last: Stamp,

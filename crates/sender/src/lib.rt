@@ -22,7 +22,7 @@ pub struct Sender {
     pub at: usize,
 }
 
-#[derive(Drop)]
+#[derive(Clone, Copy)]
 pub enum Sending {
     // 80, 81 or 82: the sender and the room are as they were.
     Refused(u8),

@@ -32,7 +32,7 @@ pub enum Layer {
 }
 
 // A readable header: its length, D0, D1, D5, D6, its stamp and its layer.
-#[derive(Drop)]
+#[derive(Clone, Copy)]
 pub struct Header {
     pub len: usize,
     pub fid: bool,
@@ -100,14 +100,14 @@ pub struct Track {
 }
 
 // What became of a frame that a transfer's FID, or close, ended.
-#[derive(Drop)]
+#[derive(Clone, Copy)]
 pub enum Ended {
     Nothing,
     Frame(Reason),
 }
 
 // The length, stamp and layer of a delivered frame or still.
-#[derive(Drop)]
+#[derive(Clone, Copy)]
 pub struct Delivery {
     pub len: u64,
     pub stamp: Stamp,
@@ -115,7 +115,7 @@ pub struct Delivery {
 }
 
 // What became of the transfer itself. Kept: the frame is still under way, faulted or not.
-#[derive(Drop)]
+#[derive(Clone, Copy)]
 pub enum Fate {
     Idle,
     Kept,
@@ -127,7 +127,7 @@ pub enum Fate {
     Unreadable(u8),
 }
 
-#[derive(Drop)]
+#[derive(Clone, Copy)]
 pub struct Answer {
     pub ended: Ended,
     pub fate: Fate,
@@ -147,7 +147,7 @@ pub struct Turn {
 }
 
 // A frame that is handed out before a transfer of the other FID is taken: whether it is a still, and its length, stamp and layer.
-#[derive(Drop)]
+#[derive(Clone, Copy)]
 pub struct HandOut {
     pub still: bool,
     pub delivery: Delivery,
@@ -248,7 +248,7 @@ impl Ledger {
 }
 
 // A session record, in two parts: taking it apart is access to a field.
-#[derive(Drop)]
+#[derive(Clone, Copy)]
 pub struct Session {
     pub rest: Rest,
     // What is posted so far; the frame under way is in the track.
@@ -280,7 +280,7 @@ pub struct Opened {
     pub start: Start,
 }
 
-#[derive(Drop)]
+#[derive(Clone, Copy)]
 pub enum Outcome {
     // 50, 53, 52, 51 or 55.
     Refused(u8),
@@ -295,7 +295,7 @@ pub struct Taken {
     pub outcome: Outcome,
 }
 
-#[derive(Drop)]
+#[derive(Clone, Copy)]
 pub enum Report {
     // 50, 53 or 52.
     Refused(u8),
@@ -308,7 +308,7 @@ pub struct Reported {
     pub report: Report,
 }
 
-#[derive(Drop)]
+#[derive(Clone, Copy)]
 pub enum Closing {
     // 50 or 53.
     Refused(u8),

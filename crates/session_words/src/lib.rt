@@ -18,7 +18,7 @@ pub enum Read {
 // What C is told: a refusal's number; or the reason of a frame that the call ended, the transfer's fate and its own reason or number; flags; a frame's layer,
 // length and stamp.
 #[repr(C)]
-#[derive(Drop)]
+#[derive(Clone, Copy)]
 pub struct Told {
     pub refused: u8,
     pub ended: u8,

@@ -31,7 +31,7 @@ pub const REPLAY: Opening = Opening {
 };
 
 // How a trace stands.
-#[derive(Drop)]
+#[derive(Clone, Copy)]
 pub enum State {
     Good,
     // The number, from 1, of the first bad record.
@@ -40,7 +40,7 @@ pub enum State {
     Refused(u8, u64),
 }
 
-#[derive(Drop)]
+#[derive(Clone, Copy)]
 pub struct Trace {
     pub session: Session,
     pub state: State,
