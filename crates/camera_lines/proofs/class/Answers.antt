@@ -1,0 +1,18 @@
+use Rattle.text.proofs.Texts.{none}
+use native.Mathlib.Omega.{arith}
+use Rattle.camera_lines.proofs.class.Goals as goal
+
+pub returns-in-Other : goal.returns-in-Other
+returns-in-Other c = rw c.in-Other.is (none _ _ (omega arith))
+
+pub returns-in-Control : goal.returns-in-Control
+returns-in-Control c = rw (c.in-Control.is, ← c.byte_of.ensures) c.control.ensures
+
+pub returns-in-Newest : goal.returns-in-Newest
+returns-in-Newest c = rw (c.in-Newest.is, ← c.byte_of-in-Newest.ensures) c.control-in-Newest.ensures
+
+pub returns-in-Streaming : goal.returns-in-Streaming
+returns-in-Streaming c = rw (c.in-Streaming.is, ← c.byte_of-in-Streaming.ensures) c.streaming.ensures
+
+pub returns-in-Setting : goal.returns-in-Setting
+returns-in-Setting c = rw c.in-Setting.is (none _ _ (omega arith))

@@ -1,0 +1,5 @@
+use Rattle.text.proofs.Puts.{then}
+use Rattle.camera_lines.proofs.output.Goals as goal
+
+pub returns : goal.returns
+returns c = then c.render-at.ensures.put c.type_line.ensures.put

@@ -1,0 +1,16 @@
+use native.Mathlib.Omega.{arith}
+use Rattle.entities.proofs.Finding.{length-of}
+use Rattle.control_map.proofs.Mapping.{in_table, map-nothing, map_at}
+use Rattle.control_map.proofs.find_controls.Goals as goal
+
+pub offset_bounds-table-i : goal.offset_bounds-table-i
+offset_bounds-table-i c = omega (arith, in_table c.args.t2 _ _ _ (search length-of) c.place_among.ensures c.in-At.is)
+
+pub bounds-table-i : goal.bounds-table-i
+bounds-table-i c = in_table c.args.t2 _ _ _ (search length-of) c.place_among.ensures c.in-At.is
+
+pub returns-in-Nothing : goal.returns-in-Nothing
+returns-in-Nothing c = map-nothing _ _ c.requires _ _ c.place_among.ensures _ c.in-Nothing.is c.refused.ensures
+
+pub returns-in-At : goal.returns-in-At
+returns-in-At c = map_at _ _ c.requires _ _ c.place_among.ensures _ c.in-At.is _ c.controls_of.ensures

@@ -1,0 +1,9 @@
+use Rattle.endings.specs.Inner.{told_in}
+use Rattle.frame_lines.proofs.Branches.{both}
+use Rattle.frame_lines.proofs.tell.Goals as goal
+
+-- src/lib.rt:218:1
+pub returns : goal.returns
+returns c =
+    let a = c.args in
+    let both = both a.show a.c _ _ (told_in a.e.first) (told_in a.e.second) _ _ _ _ _ _ c.told-one.ensures c.told.ensures in record { put = both.0; counted_value = both.1 }

@@ -1,0 +1,7 @@
+use Rattle.frames.proofs.fate_for.Goals as goal
+
+pub returns-then-x : goal.returns-then-x
+returns-then-x c = simp c.if-x.true
+
+pub returns-else-x : goal.returns-else-x
+returns-else-x c = simp c.if-x.false

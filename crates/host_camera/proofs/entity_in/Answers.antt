@@ -1,0 +1,12 @@
+use Rattle.host_told.proofs.Kth.{past-count, past_end, is-there}
+use borrow.Author.Rules.{rules}
+use Rattle.host_camera.proofs.entity_in.Goals as goal
+
+pub returns-then-count-k : goal.returns-then-count-k
+returns-then-count-k c = search (past-count, rules)
+
+pub returns-then-k-ge-ENTITIES_MOST : goal.returns-then-k-ge-ENTITIES_MOST
+returns-then-k-ge-ENTITIES_MOST c = search (past_end, rules)
+
+pub returns : goal.returns
+returns c = search (is-there, rules)

@@ -1,0 +1,8 @@
+use Rattle.host_setup.proofs.Found.{no-setting, this-setting}
+use Rattle.host_setup.proofs.palkodhen_setup.Goals as goal
+
+pub returns-in-None : goal.returns-in-None
+returns-in-None c = search no-setting
+
+pub returns-in-Is : goal.returns-in-Is
+returns-in-Is c = search this-setting

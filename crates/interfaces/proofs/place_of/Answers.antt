@@ -1,0 +1,19 @@
+use borrow.Author.Tests.{eq-eqb, ne_eqb}
+use native.Mathlib.Omega.{arith}
+use Rattle.rules.proofs.Places.{seek, found_here, not-here, none_here}
+use Rattle.interfaces.proofs.place_of.Goals as goal
+
+pub loop-i-init : goal.loop-i-init
+loop-i-init c = seek _ _
+
+pub returns-then-e-number : goal.returns-then-e-number
+returns-then-e-number c = found_here _ _ _ c.loop-i.invariant c.loop-i-test.true (eq-eqb _ _ c.if-e-number.true)
+
+pub loop-i-smaller : goal.loop-i-smaller
+loop-i-smaller c = omega arith
+
+pub loop-i-preserved : goal.loop-i-preserved
+loop-i-preserved c = not-here _ _ _ c.loop-i.invariant c.loop-i-test.true (ne_eqb _ _ c.if-e-number.false)
+
+pub returns : goal.returns
+returns c = none_here _ _ _ c.loop-i.invariant c.loop-i-test.false

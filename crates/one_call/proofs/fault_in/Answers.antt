@@ -1,0 +1,36 @@
+use borrow.Author.Tests.{ne_eqb}
+use Rattle.rules.specs.IfElse.{if_else}
+use Rattle.one_call.specs.Words.{fault_in}
+use Rattle.one_call.proofs.fault_in.Goals as goal
+
+pub returns-in-0 : goal.returns-in-0
+unfolding fault_in if_else
+returns-in-0 c = rw c.in-0.is
+
+pub returns-in-1 : goal.returns-in-1
+unfolding fault_in if_else
+returns-in-1 c = rw c.in-1.is
+
+pub returns-in-2 : goal.returns-in-2
+unfolding fault_in if_else
+returns-in-2 c = rw c.in-2.is
+
+pub returns-in-3 : goal.returns-in-3
+unfolding fault_in if_else
+returns-in-3 c = rw c.in-3.is
+
+pub returns-in-4 : goal.returns-in-4
+unfolding fault_in if_else
+returns-in-4 c = rw c.in-4.is
+
+pub returns-in-5 : goal.returns-in-5
+unfolding fault_in if_else
+returns-in-5 c = rw c.in-5.is
+
+pub returns-in-6 : goal.returns-in-6
+unfolding fault_in if_else
+returns-in-6 c = rw c.in-6.is
+
+pub returns-in_default : goal.returns-in_default
+unfolding fault_in if_else
+returns-in_default c = let r = c.in_default.rest in rw (ne_eqb _ 0 r.0.0.0.0.0.0.1, ne_eqb _ 1 r.0.0.0.0.0.1, ne_eqb _ 2 r.0.0.0.0.1, ne_eqb _ 3 r.0.0.0.1, ne_eqb _ 4 r.0.0.1, ne_eqb _ 5 r.0.1, ne_eqb _ 6 r.1)

@@ -1,0 +1,16 @@
+use borrow.Author.Tests.{ne_eqb}
+use Rattle.rules.specs.IfElse.{if_else}
+use Rattle.one_call.specs.Words.{phase_in}
+use Rattle.one_call.proofs.phase_in.Goals as goal
+
+pub returns-in-0 : goal.returns-in-0
+unfolding phase_in if_else
+returns-in-0 c = rw c.in-0.is
+
+pub returns-in-1 : goal.returns-in-1
+unfolding phase_in if_else
+returns-in-1 c = rw c.in-1.is
+
+pub returns-in_default : goal.returns-in_default
+unfolding phase_in if_else
+returns-in_default c = let r = c.in_default.rest in rw (ne_eqb _ 0 r.0.1, ne_eqb _ 1 r.1)

@@ -1,0 +1,8 @@
+use Rattle.packets.proofs.Spelling.{no-request, this-request}
+use Rattle.packets.proofs.spelt.Goals as goal
+
+pub returns-in-None : goal.returns-in-None
+returns-in-None c = no-request _ _ _ _ c.byte_at.ensures c.request_of.ensures _ c.in-None.is c.no_packet.ensures
+
+pub returns-in-Is : goal.returns-in-Is
+returns-in-Is c = this-request _ _ _ _ c.byte_at.ensures c.request_of.ensures _ c.in-Is.is c.spelt_with.ensures

@@ -1,0 +1,11 @@
+use Rattle.rules.specs.IfElse.{if_elses}
+use Rattle.session_words.specs.Reading.{kind_in}
+use Rattle.session_words.proofs.words.kind_in.Goals as goal
+
+pub returns-then-x-eq0 : goal.returns-then-x-eq0
+unfolding kind_in
+returns-then-x-eq0 c = search if_elses
+
+pub returns : goal.returns
+unfolding kind_in
+returns c = search if_elses
