@@ -1,5 +1,6 @@
 // The bits of a word, from 0. A narrower number is a word too.
 #![tactic(auto)]
+
 ghost use Rattle.std.specs.Prelude.{◌≡◌, ◌<◌};
 ghost use Rattle.bits.specs.Bits.{width, has_bit, with_bit};
 

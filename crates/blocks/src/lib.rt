@@ -1,5 +1,6 @@
 // What a control block and a streaming block are both held to: 1 to 4 and 21 to 24 of the block as a whole, 5, 6 and 25, 26 of each descriptor.
 #![tactic(auto)]
+
 ghost use Rattle.std.specs.Prelude.{◌≡◌, ◌+◌, ◌<◌, length};
 ghost use Rattle.rules.specs.Numbered.{first_row};
 ghost use Rattle.blocks.specs.Blocks.{whole_rows, length_broken, type_broken};

@@ -1,5 +1,6 @@
 // Zero fill: the bytes behind what a record holds.
 #![tactic(auto)]
+
 ghost use Rattle.std.specs.Prelude.{◌≡◌, ◌≤◌, length, drop};
 ghost use Rattle.fill.specs.Fill.{any_set};
 

@@ -1,5 +1,6 @@
 // Little-endian numbers at an offset of a slice.
 #![tactic(auto)]
+
 ghost use Rattle.std.specs.Prelude.{◌≡◌, ◌+◌, ◌*◌, ◌<◌, length, get_or};
 ghost use Rattle.le.specs.Le.{le16_at, le32_at};
 

@@ -1,5 +1,6 @@
 // What every reader answers with. The definitions and laws that the readers share stand in specs/ and proofs/.
 #![tactic(auto)]
+
 #[derive(Clone, Copy)]
 pub enum Verdict {
     Accepted,

@@ -1,8 +1,8 @@
 -- When each call is refused, in words: the rows of specs/Refusals say what specs/WhenRefused says.
 use Prim.Native.Nat.{ℕ, ◌≤◌, ◌<◌}
-use mathlib.Core.Path.{◌≡◌, refl, sym, ◌∙◌}
+use mathlib.Core.Path.{◌≡◌, refl, sym}
 use mathlib.Core.Bool.{Bool, true, false, true≢false}
-use mathlib.Core.List.{List, [], ◌∷◌, map}
+use mathlib.Core.List.{List, map}
 use mathlib.Core.Logic.{◌↔◌, inl, inr}
 use lib.ListN.{length}
 use lib.Dec.{eqb, ltb}

@@ -1,6 +1,7 @@
 // The types of a session: a transfer as it is read, the frame under way, the ledger and the session record. What each call makes of them stands in specs/;
 // the code stands in the crates above.
 #![tactic(auto)]
+
 ghost use Rattle.std.specs.Prelude.{◌≡◌};
 ghost use Rattle.session_rules.specs.Ledger.{no_ledger};
 

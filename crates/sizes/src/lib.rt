@@ -1,5 +1,6 @@
 // The sizes that a probe block may ask for and a session may be opened with (45 and 46), named once, and what an opening is.
 #![tactic(auto)]
+
 ghost use Rattle.std.specs.Prelude.{◌≡◌};
 ghost use Rattle.sizes.specs.Sizes.{frame_size_broken, payload_size_broken};
 ghost use Rattle.sizes.specs.Framing.{by_eof};

@@ -1,5 +1,6 @@
 // Lines of text in a lent buffer: names, decimal numbers and line ends, one piece after the other. Each function answers the index after what it put.
 #![tactic(auto)]
+
 ghost use Rattle.std.specs.Prelude.{◌+◌, ◌*◌, ◌≤◌, length};
 ghost use Rattle.text.specs.Decimal.{decimal};
 ghost use Rattle.text.specs.Put.{Put};

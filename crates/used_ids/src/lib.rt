@@ -1,5 +1,6 @@
 // The marks of the repeated-ID test: a set of IDs, kept as the bits of four words. Nothing outside this crate knows how.
 #![tactic(auto)]
+
 ghost use Rattle.std.specs.Prelude.{◌≡◌};
 ghost use Rattle.used_ids.specs.Marks.{no_marks, marked, with_mark};
 
