@@ -5,31 +5,33 @@ rt=$(command -v rt) || {
     echo "$who: the Rattle kit (rt), which proves and builds the programs, is not installed" >&2
     exit 2
 }
-kit=${RATTLE_HOME:-$(dirname "$(dirname "$(readlink -f "$rt")")")}
-toolchain=$kit/on/$(uname -m)/toolchain
-# Programs are for x86-64: elsewhere the kit has an emulator beside its compiler.
-emulator=$toolchain/bin/qemu-x86_64
-[ -x "$emulator" ] || emulator=
+kit=$(dirname "$("$rt" doc)")
+toolchain=$kit/toolchain
 
 # run PROGRAM ARGUMENT ..: any program for x86-64, on this machine
-run() { ${emulator:+"$emulator"} "$@"; }
+run() { "$@"; }
+
+# made NAME: where a program is built
+made() { echo "$here/crates/$1/out/$1"; }
 
 # run_built NAME ARGUMENT ..: a program of this repository, built before
 run_built() {
-    built=$here/target/bin/$1
+    built=$(made "$1")
     shift
-    run "$toolchain/lib/ld-linux-x86-64.so.2" --library-path "$toolchain/lib" "$built" "$@"
+    "$built" "$@"
 }
 
-# whether the program is there and no source is newer
-is_current() {
-    [ -x "$here/target/bin/$1" ] && [ -z "$(find "$here/crates" "$here/crates.txt" -newer "$here/target/bin/$1" -print 2>/dev/null | head -n 1)" ]
+# whether the file is there and no source is newer
+is_newest() {
+    [ -f "$1" ] && [ -z "$(find "$here/crates" "$here/crates.txt" -name out -prune -o -type f -newer "$1" -print 2>/dev/null | head -n 1)" ]
 }
+
+is_current() { is_newest "$(made "$1")"; }
 
 # crates_under NAME: how many crates of this repository it stands on, with itself
 crates_under() {
     awk -v top="$1" '
-        { sub(/#.*/, "") }
+        { sub(/#.*/, ""); sub(/ staticlib:/, ":") }
         /^[a-z0-9_]+:/ { name = $1; sub(/:.*/, "", name); $1 = ""; deps[name] = $0 }
         END {
             todo[n = 1] = top
@@ -48,7 +50,7 @@ told() {
     all=$(crates_under "$1")
     echo "$who: proving and building $1, $all crates; later runs start at once" >&2
     while kill -0 "$job" 2>/dev/null; do
-        printf '\r%s: %d of %d proved' "$who" "$(grep -c '^rt: .* proved' "$2")" "$all" >&2
+        printf '\r%s: %d of %d proved' "$who" "$(grep -c '^logic=proved' "$2")" "$all" >&2
         sleep 1
     done
     printf '\r\033[K' >&2
@@ -69,21 +71,20 @@ build() {
         }
         is_current "$1" && exit 0
         log=$(mktemp) || exit 1
-        trap 'rm -f "$log"' EXIT
-        # the build and what it starts are one group, ended together
+        begun=$(mktemp) || exit 1
+        trap 'rm -f "$log" "$begun"' EXIT
+        # the build and what it starts are one group, ended together. `rt run` builds, and runs what it built once, on nothing
         set -m
-        (cd "$here" && exec "$rt" check "$1") >"$log" 2>&1 9>&- &
+        (cd "$here/crates/$1" && exec "$rt" run) >"$log" 2>&1 9>&- </dev/null &
         job=$!
         trap 'kill -- "-$job" 2>/dev/null; exit 130' INT TERM HUP
         if [ -t 2 ]; then told "$1" "$log"; fi
-        if ! wait "$job"; then
-            grep -vE ' proved \(unchanged|^(library|logic|crate|fn|struct|enum|linked)[ =]' "$log" | tail -n 20 >&2
-            echo "$who: $1 is not proved and was not built" >&2
-            exit 1
-        fi
-        touch "$here/target/bin/$1" 2>/dev/null
+        wait "$job" || :
+        # a source that is changed while this is built is newer than it
+        if [ "$(made "$1")" -nt "$begun" ]; then touch -r "$begun" "$(made "$1")" 2>/dev/null; fi
         is_current "$1" || {
-            echo "$who: $1 is out of date and was not built" >&2
+            grep -vE '^(rt: chose|statements|library|logic|crate|fn|struct|enum|checked)' "$log" | tail -n 20 >&2
+            echo "$who: $1 is not proved and was not built" >&2
             exit 1
         }
     ) 9>>"$here/target/lock"
