@@ -1,5 +1,6 @@
 // One payload transfer: its header, or what makes it unreadable.
 #![tactic(auto)]
+
 ghost use Rattle.std.specs.Prelude.{◌≡◌, not, ◌&&◌, ◌<◌, ◌≤◌, length, ltb};
 ghost use Rattle.rules.specs.IfElse.{if_else};
 ghost use Rattle.rules.specs.Numbered.{first_row};

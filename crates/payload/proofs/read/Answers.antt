@@ -18,7 +18,7 @@ read_by-requires-in-Vp8 c = laid Vp8
 
 pub returns-in-Old : goal.returns-in-Old
 unfolding header_layout
-returns-in-Old c = read-kind c.args.o _ Old _ (omega (arith, c.if-t-eq0.false)) c.in-Old.is c.read_by_lem.ensures
+returns-in-Old c = read-kind c.args.o _ Old _ (omega (arith, c.if-t-eq0.false)) c.in-Old.is c.read_by.ensures
 
 pub returns-in-Vp8 : goal.returns-in-Vp8
 unfolding header_layout

@@ -13,7 +13,7 @@ unfolding rows_by
 returns-then-payload-n c = search rungs depth 24
 
 pub overflow_cast-len : goal.overflow_cast-len
-overflow_cast-len c = omega (arith, c.shared_slice_known-2-1.given 0)
+overflow_cast-len c = omega (arith, c.type_inv.t 0)
 
 pub returns-then-len-l : goal.returns-then-len-l
 unfolding rows_by
