@@ -1,5 +1,6 @@
 // The frame under way: turns a readable transfer into an answer. It never sees the ledger.
 #![tactic(auto)]
+
 ghost use Rattle.std.specs.Prelude.{◌≡◌, ◌+◌, ◌<◌, ◌^◌};
 ghost use Rattle.session_rules.specs.Track.{handing};
 ghost use Rattle.session_rules.specs.Turns.{first_of, clash_of, earlier_of, later_of, why_of, same_of, begun_of, joined_of, filled_of, written_of, complete_of, ends_of, turned_why, fate_of, phase_of, join_turn, stray_turn, turn_of, ready_of, hands_of, out_of, spoilt_of, closed_of, Roomy};

@@ -1,5 +1,6 @@
 // The ledger: for each account a count of frames or transfers and its bytes, the counts beside them, and the clock.
 #![tactic(auto)]
+
 ghost use Rattle.std.specs.Prelude.{◌≡◌, ◌+◌, ◌<◌, ◌≤◌, ◌^◌, get_or};
 ghost use Rattle.session_rules.specs.Ledger.{no_ledger, timed_of, fated_of, answered_of, shown_of, count_of, bytes_of};
 ghost use Rattle.session_rules.specs.Track.{under_count, under_bytes};

@@ -1,5 +1,6 @@
 // Rule 50: what makes a session record unsound.
 #![tactic(auto)]
+
 ghost use Rattle.std.specs.Prelude.{◌≡◌, ◌<◌, ◌^◌};
 ghost use Rattle.session_rules.specs.declared.Stamp.TheVariants.{Absent};
 ghost use Rattle.rules.specs.Numbered.{any_below};
