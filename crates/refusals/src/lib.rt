@@ -1,5 +1,6 @@
 // What refuses a call: 45 to 47 of an opening, rule 50 of a session record, and 53, 52, 51, 55 in this order.
 #![tactic(auto)]
+
 ghost use Rattle.std.specs.Prelude.{◌≡◌, ◌||◌};
 ghost use Rattle.rules.specs.Numbered.{first_row};
 ghost use Rattle.rule_50.specs.Inner.{rest_broken};
