@@ -1,5 +1,6 @@
 // A transfer that goes on with the frame under way: the common case of take, found by few tests on the bytes of the old kind of header.
 #![tactic(auto)]
+
 ghost use Rattle.std.specs.Prelude.{◌≡◌, true, not, ◌+◌, ◌≤◌, ◌<◌, ◌^◌, length};
 ghost use Rattle.sizes.specs.declared.HeaderKind.TheVariants.{Old};
 ghost use Rattle.session_rules.specs.Layouts.{header_layout};

@@ -19,7 +19,7 @@ returns-then-n-from c = past_end _ _ _ _ (omega arith) (omega arith) _ c.marks.e
     c.wide-from.ensures.0 c.if-n-from.true
 
 pub overflow_cast-flags : goal.overflow_cast-flags
-overflow_cast-flags c = omega (arith, c.shared_slice_known-2-1.given 1)
+overflow_cast-flags c = omega (arith, c.type_inv.t 1)
 
 pub returns : goal.returns
 returns c = within-transfer _ _ _ _ (omega arith) (omega arith) _ c.marks.ensures c.if-flags-marks.false _

@@ -14,14 +14,14 @@ pub bounds-t-1 : goal.bounds-t-1
 bounds-t-1 c = let h = (asked _ _ _ c.requires.0).header in omega (arith, h.two)
 
 pub overflow_cast-t : goal.overflow_cast-t
-overflow_cast-t c = omega (arith, c.shared_slice_known-3-1.given 1)
+overflow_cast-t c = omega (arith, c.type_inv.t 1)
 
 pub first_stamp-stamp-requires : goal.first_stamp-stamp-requires
 first_stamp-stamp-requires c = let h = (asked _ _ _ c.requires.0).header in omega (arith, h.holds, h.inside)
 
 pub overflow_add-result-2 : goal.overflow_add-result-2
 overflow_add-result-2 c = let a = asked _ _ _ c.requires.0 in
-    omega (arith, a.fits, c.wide.ensures.0, c.well-formed.0)
+    omega (arith, a.fits, c.wide.ensures.0)
 
 pub returns : goal.returns
 unfolding stamp_of header_layout
