@@ -1,5 +1,6 @@
 // The short way of take: what refuses the call, and a transfer that goes on with the frame under way, which is kept.
 #![tactic(auto)]
+
 ghost use Rattle.std.specs.Prelude.{◌≡◌, ◌<◌, length};
 ghost use Rattle.rules.specs.Numbered.{first_row};
 ghost use Rattle.session_rules.specs.Accounts.{number_count};

@@ -37,6 +37,9 @@ lay-requires c = (data-fits (whole_of c.args.rest c.args.m.now) c.args.r _ c.arg
 pub returns : goal.returns
 returns c =
     let w = c.wide-len in
-    record { m_after = c.gone_on-next.ensures; buffer_after = laid c.args.buffer.now (take (length c.args.t.now - w.result) (drop w.result c.args.t.now)) _ c.args.r.fill
+    record {
+      m_after = c.gone_on-next.ensures;
+      buffer_after = laid c.args.buffer.now (take (length c.args.t.now - w.result) (drop w.result c.args.t.now)) _ c.args.r.fill
           (data-fits (whole_of c.args.rest c.args.m.now) c.args.r _ c.args.t.now c.requires (search rules) _ w.ensures.0 c.args.buffer.now refl).0 c.lay.ensures
-          ∙ written (whole_of c.args.rest c.args.m.now) c.args.r _ c.args.t.now c.requires (search rules) _ w.ensures.0 c.args.buffer.now refl }
+          ∙ written (whole_of c.args.rest c.args.m.now) c.args.r _ c.args.t.now c.requires (search rules) _ w.ensures.0 c.args.buffer.now refl;
+    }
