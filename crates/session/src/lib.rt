@@ -1,6 +1,7 @@
 // A session: takes transfers in turn, hands out whole frames and keeps the ledger. Every call takes the rest of the record by value, with the ledger's numbers
 // lent, and gives the new rest back: who makes many calls in a row copies no number.
 #![tactic(auto)]
+
 ghost use Rattle.std.specs.Prelude.{◌≡◌, ◌-◌, ◌≤◌, length};
 ghost use Rattle.session_rules.specs.Accounts.{number_count};
 ghost use Rattle.session_rules.specs.Rule50.{transfer_most};

@@ -10,8 +10,11 @@ keep-requires c = subst (λ (k : ℕ). GoesOn (whole_of c.args.rest c.args.m.now
 pub returns-then-buffer-room : goal.returns-then-buffer-room
 returns-then-buffer-room c =
     let x = c.keep in
-    record { m_after = subst (λ (k : ℕ). kept_with x.result x.new.1.1.0 ≡ take_of (whole_of c.args.rest c.args.m.now) k c.args.t.now)
-          c.if-buffer-room.true x.ensures.0; written = λ e. x.ensures.1 }
+    record {
+      m_after = subst (λ (k : ℕ). kept_with x.result x.new.m ≡ take_of (whole_of c.args.rest c.args.m.now) k c.args.t.now)
+          c.if-buffer-room.true x.ensures.m_after;
+      written = λ e. x.ensures.buffer_after;
+    }
 
 pub returns : goal.returns
 returns c = record { m_after = c.gone_on.ensures; written = λ e. absurd (c.if-buffer-room.false e) }

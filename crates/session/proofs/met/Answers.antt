@@ -20,10 +20,10 @@ returns-then-hands c = let both = handed_out c.args.rest c.args.m.now c.args.t.n
 
 pub read-requires : goal.read-requires
 read-requires c = (
-      c.requires.0,
-      c.requires.1,
-      header-within c.args.rest [] c.args.t.now _ _ c.read-reading.ensures c.in-Readable.is,
-    )
+  c.requires.0,
+  c.requires.1,
+  header-within c.args.rest [] c.args.t.now _ _ c.read-reading.ensures c.in-Readable.is,
+)
 
 pub returns-in-Idle : goal.returns-in-Idle
 returns-in-Idle c = let both = took-idle c.args.rest c.args.m.now c.args.t.now _ _ _ _ _ c.read-reading.ensures

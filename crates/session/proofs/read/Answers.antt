@@ -30,6 +30,9 @@ pub returns : goal.returns
 returns c =
     let r = whole_of c.args.rest c.args.m.now in
     let x = c.turn-turn in
-    record { m_after = read_done c.args.rest c.args.m.now _ _ c.args.h _ x.result _ _ x.ensures c.entered.ensures
-          c.answered-last.ensures c.counted.ensures; goes = read_goes r c.args.h c.args.t.now x.result _ x.ensures
-          (sits r (ready-able r c.requires.0) c.args.h _ x.result x.ensures) c.requires.2 }
+    record {
+      m_after = read_done c.args.rest c.args.m.now _ _ c.args.h _ x.result _ _ x.ensures c.entered.ensures
+          c.answered-last.ensures c.counted.ensures;
+      goes = read_goes r c.args.h c.args.t.now x.result _ x.ensures
+          (sits r (ready-able r c.requires.0) c.args.h _ x.result x.ensures) c.requires.2;
+    }

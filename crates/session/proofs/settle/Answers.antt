@@ -27,5 +27,8 @@ pub returns : goal.returns
 returns c =
     let x = c.met-posted.result in
     let f = part-fits c.args.buffer.now c.args.t.now x.at x.from x.len (omega (arith, c.met-posted.ensures.goes.inside, c.requires.2 c.if-buffer-eq0.false)) c.met-posted.ensures.goes.enough in
-    record { m_after = c.met-posted.ensures.m_after; buffer_after = λ h. laid c.args.buffer.now (take (x.from + x.len - x.from) (drop x.from c.args.t.now)) _ x.at f.0 c.lay.ensures
-          ∙ put-met (whole_of c.args.rest c.args.m.now) c.args.buffer.now c.args.t.now x c.met-posted.ensures.goes }
+    record {
+      m_after = c.met-posted.ensures.m_after;
+      buffer_after = λ h. laid c.args.buffer.now (take (x.from + x.len - x.from) (drop x.from c.args.t.now)) _ x.at f.0 c.lay.ensures
+          ∙ put-met (whole_of c.args.rest c.args.m.now) c.args.buffer.now c.args.t.now x c.met-posted.ensures.goes;
+    }

@@ -1,5 +1,6 @@
 use lib.ListN.{length}
 use native.Mathlib.Omega.{arith}
+use borrow.Author.Rules.{rules}
 use Rattle.short_way.proofs.Found.{take_found}
 use Rattle.short_way.proofs.Ready.{take-ready}
 use Rattle.session.specs.Inner.{whole_of}
@@ -13,13 +14,16 @@ returns-then-number-ne0 c =
 
 pub settle-requires : goal.settle-requires
 settle-requires c = let e = take_found c.args.rest c.args.m.now c.requires.0 _ c.posted_broken-posted.ensures _ c.args.room (length c.args.t.now) c.take_refusal-number.ensures in
-    let f = take-ready (whole_of c.args.rest c.args.m.now) c.requires.0 (omega (arith, c.well-formed.0)) c.args.room (length c.args.t.now) _ e (omega (arith, c.if-number-ne0.false)) in
+    let f = take-ready (whole_of c.args.rest c.args.m.now) c.requires.0 (search rules) c.args.room (length c.args.t.now) _ e (omega (arith, c.if-number-ne0.false)) in
     (f.ready, f.short, λ h. omega (arith, f.whole, c.requires.1 h))
 
 pub returns : goal.returns
 returns c =
     let x = c.settle in
     let e = take_found c.args.rest c.args.m.now c.requires.0 _ c.posted_broken-posted.ensures _ c.args.room (length c.args.t.now) c.take_refusal-number.ensures in
-    let f = take-ready (whole_of c.args.rest c.args.m.now) c.requires.0 (omega (arith, c.well-formed.0)) c.args.room (length c.args.t.now) _ e (omega (arith, c.if-number-ne0.false)) in
-    record { m_after = take-met c.args.rest c.args.m.now c.args.t.now c.args.room _ e _ _ (omega (arith, c.if-number-ne0.false)) x.ensures.0; written = λ q. buffer-met c.args.rest c.args.m.now c.args.t.now c.args.room _ e c.args.buffer.now _ (omega (arith, c.if-number-ne0.false)) q
-          (x.ensures.1 (omega (arith, q, f.whole))) }
+    let f = take-ready (whole_of c.args.rest c.args.m.now) c.requires.0 (search rules) c.args.room (length c.args.t.now) _ e (omega (arith, c.if-number-ne0.false)) in
+    record {
+      m_after = take-met c.args.rest c.args.m.now c.args.t.now c.args.room _ e _ _ (omega (arith, c.if-number-ne0.false)) x.ensures.m_after;
+      written = λ q. buffer-met c.args.rest c.args.m.now c.args.t.now c.args.room _ e c.args.buffer.now _ (omega (arith, c.if-number-ne0.false)) q
+          (x.ensures.buffer_after (omega (arith, q, f.whole)));
+    }

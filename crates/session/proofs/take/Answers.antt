@@ -8,4 +8,4 @@ take_for-requires c = (search rules, λ h. refl)
 pub returns : goal.returns
 returns c =
     let x = c.take_for.ensures in
-    record { m_after = x.0; buffer_after = x.1 refl }
+    record { m_after = x.m_after; buffer_after = x.written refl }

@@ -6,13 +6,13 @@ use Rattle.session.proofs.take_for.Goals as goal
 
 pub go_on-requires : goal.go_on-requires
 go_on-requires c = record {
-      places = search rules;
-      free = sym c.refusal.ensures ∙ c.if-refusal-eq0.true;
-      under = c.phase-1.given.1;
-      on = sym c.goes_on.ensures ∙ c.if-goes_on.true;
-    }
+  places = search rules;
+  free = sym c.refusal.ensures ∙ c.if-refusal-eq0.true;
+  under = c.in-Under.is;
+  on = sym c.goes_on.ensures ∙ c.if-goes_on.true;
+}
 
 pub returns-then-refusal-eq0 : goal.returns-then-refusal-eq0
 returns-then-refusal-eq0 c =
     let x = c.go_on in
-    record { m_after = ap (λ (z : RestTaken). taken_with z x.new.1.1.0) c.kept.ensures ∙ x.ensures.0; written = x.ensures.1 }
+    record { m_after = ap (λ (z : RestTaken). taken_with z x.new.m) c.kept.ensures ∙ x.ensures.m_after; written = x.ensures.written }
