@@ -1,5 +1,6 @@
 // A ledger's numbers in fixed places: one record of 320 bytes, eight bytes a number, the low one first, in the order of print. The rest is zero.
 #![tactic(auto)]
+
 ghost use Rattle.std.specs.Prelude.{◌≡◌, ◌+◌, ◌≤◌, length, get_or};
 ghost use Rattle.places.specs.Places.{record_size, little_of, word_at, record_of, numbers_in, broken54, held_of, write_verdict, written};
 
