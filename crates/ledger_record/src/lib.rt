@@ -1,6 +1,7 @@
 // The calls of a session whose ledger is a record of 320 bytes, lent by the host. What is not printed stays in the rest of the session, which goes by value beside it.
 // 54 comes before the numbers that a session's calls meet. A refused call changes no byte of the record and none of the buffer.
 #![tactic(auto)]
+
 ghost use Rattle.std.specs.Prelude.{◌≡◌, length};
 ghost use Rattle.places.specs.Places.{record_size};
 ghost use Rattle.session.specs.Inner.{whole_of};

@@ -1,5 +1,6 @@
 // A session by value: every call takes it in and gives the new one back with the answer.
 #![tactic(auto)]
+
 ghost use Rattle.std.specs.Prelude.{◌≡◌, length};
 ghost use Rattle.session_rules.specs.Refusals.{ledger_of};
 ghost use Rattle.session_rules.specs.Session.{open_of, take_of, buffer_of, lost_of, close_of};

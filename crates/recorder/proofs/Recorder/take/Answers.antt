@@ -5,4 +5,4 @@ use Rattle.recorder.proofs.Recorder.take.Goals as goal
 pub returns : goal.returns
 returns c =
     let x = c.take_for-taken in
-    record { value = search whole-taken; buffer_after = x.ensures.1 refl }
+    record { value = search whole-taken; buffer_after = x.ensures.written refl }
