@@ -1,4 +1,3 @@
 -- Laws of the thin calls.
 pub mod Branches
-pub mod Walk
 pub mod Unique

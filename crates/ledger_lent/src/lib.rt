@@ -1,5 +1,6 @@
 // The ledger that a polling loop keeps: a struct of 320 bytes, lent by exclusive reference. Each thin call takes it apart and hands it to the operation by value.
 #![tactic(auto)]
+
 ghost use Rattle.std.specs.Prelude.{◌≡◌, length};
 ghost use Rattle.ledger_record.specs.Recorded.{take_buffer};
 ghost use Rattle.ledger_lent.specs.Lent.{taken_of, reported_of, closed_of, taken_with, reported_with, closed_with};
@@ -71,7 +72,8 @@ pub fn take_lent(l: &mut Record, rest: Rest, buffer: &mut [u8], t: &[u8]) -> Res
 {
     let bytes = l.bytes;
     let next = take(bytes, rest, buffer, t);
-    l.bytes = next.bytes;
+    let left = next.bytes;
+    l.bytes = left;
     next.taken
 }
 
@@ -81,7 +83,8 @@ pub fn lost_lent(l: &mut Record, rest: Rest) -> RestReported
 {
     let bytes = l.bytes;
     let next = lost(bytes, rest);
-    l.bytes = next.bytes;
+    let left = next.bytes;
+    l.bytes = left;
     next.reported
 }
 
@@ -91,6 +94,7 @@ pub fn close_lent(l: &mut Record, rest: Rest) -> RestClosed
 {
     let bytes = l.bytes;
     let next = close(bytes, rest);
-    l.bytes = next.bytes;
+    let left = next.bytes;
+    l.bytes = left;
     next.closed
 }
