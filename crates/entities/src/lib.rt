@@ -1,5 +1,6 @@
 // The entity table of a control block: terminals and units in block order, unused places zero.
 #![tactic(auto)]
+
 ghost use Rattle.std.specs.Prelude.{◌≡◌, [], leb, take, set};
 ghost use Rattle.rules.specs.IfElse.{if_else};
 ghost use Rattle.rules.specs.Pad.{pad};
@@ -164,7 +165,8 @@ fn taken_apart(entities: &[Entity]) -> [Entity; ENTITIES_MOST]
     let mut all = no_places();
     let mut i: usize = 0;
     while i < entities.len() {
-        all = with_place(all, i, entities[i]);
+        let next = with_place(all, i, entities[i]);
+        all = next;
         i += 1;
     }
     all
