@@ -1,5 +1,6 @@
 // The descriptors of a VideoControl block: rules 1 to 4 of the block, rules 5 to 12 of one descriptor, and the entity that it is.
 #![tactic(auto)]
+
 mod shape;
 
 ghost use Rattle.std.specs.Prelude.{◌≡◌, ◌+◌, ◌<◌, ◌≤◌, length, true};

@@ -14,4 +14,4 @@ unfolding kind_of revision_right
 returns-in-1 c = rw (c.in-1.is, ← c.le16.ensures) c.is_revision.ensures
 
 pub returns-in_default : goal.returns-in_default
-returns-in_default c = revision-else _ _ _ c.in_default.rest.1
+returns-in_default c = revision-else _ _ _ (λ e. omega arith)

@@ -24,4 +24,4 @@ kind_rule-requires c = search (placed-long, placed-inside, rules)
 
 pub returns : goal.returns
 unfolding rows_in
-returns c = rw (← c.Known-as.ensures) (search rungs depth 9)
+returns c = rw (← c.known_as-sub.ensures) (search rungs depth 9)

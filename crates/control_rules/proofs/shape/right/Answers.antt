@@ -1,6 +1,7 @@
 use Rattle.control_rules.specs.Descriptors.{kind_of, shape}
 use Rattle.control_rules.proofs.Shapes.{kind-unknown, unit-long}
 use borrow.Author.Rules.{rules}
+use native.Mathlib.Omega.{arith}
 use Rattle.control_rules.proofs.shape.right.Goals as goal
 
 pub sized-requires : goal.sized-requires
@@ -36,4 +37,4 @@ returns-in-7 c = rw c.in-7.is c.fixed.ensures
 
 pub returns-in_default : goal.returns-in_default
 unfolding kind_of shape
-returns-in_default c = let r = c.in_default.rest in rw (kind-unknown _ r.0.0.0.0.0.0.1 r.0.0.0.0.0.1 r.0.0.0.0.1 r.0.0.0.1 r.0.0.1 r.0.1 r.1)
+returns-in_default c = rw (kind-unknown c.args.sub (λ e. omega arith) (λ e. omega arith) (λ e. omega arith) (λ e. omega arith) (λ e. omega arith) (λ e. omega arith) (λ e. omega arith))
