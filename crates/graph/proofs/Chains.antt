@@ -24,9 +24,12 @@ module _ (E : ℕ → ℕ → Type 0) where
   via-more (straight e) = straight e
   via-more (over e l v) = over e (omega arith) (via-more v)
 
+  via-join-at : {k i n j : ℕ} → Via E k i n → n ≡ k → Via E k n j → Via E (k + 1) i j
+  via-join-at (straight e) q w = over e (omega arith) (via-more w)
+  via-join-at (over e l v) q w = over e (omega arith) (via-join-at v q w)
+
   pub via-join : {k i j : ℕ} → Via E k i k → Via E k k j → Via E (k + 1) i j
-  via-join (straight e) w = over e (omega arith) (via-more w)
-  via-join (over e l v) w = over e (omega arith) (via-join v w)
+  via-join v w = via-join-at v refl w
 
   -- the split at k
   pub via-split : {k i j : ℕ} → Via E (k + 1) i j → Via E k i j ⊎ (Via E k i k × Via E k k j)

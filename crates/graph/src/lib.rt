@@ -1,5 +1,6 @@
 // Chains in a graph of `PLACES` places, whose edges are drawn as rows of bits: bit j of row i is the edge from i to j.
 #![tactic(auto)]
+
 ghost use Rattle.std.specs.Prelude.{◌≡◌, ◌↔◌, ℕ, ◌<◌, length};
 ghost use Rattle.rules.specs.Chain.{Chain, FirstLoop};
 ghost use Rattle.bits.specs.Bits.{has_bit};

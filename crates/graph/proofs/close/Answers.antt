@@ -1,10 +1,10 @@
 use mathlib.Core.Path.{◌≡◌}
-use mathlib.Core.Logic.{⊎_elim}
 use native.Mathlib.Omega.{arith}
 use borrow.Author.Rules.{rules}
 use Rattle.graph.specs.Rows.{places, Edge}
-use Rattle.graph.proofs.Chains.{via-zero, via-chain, chain-via, edge-from, empty-adds-nothing, round-stands}
+use Rattle.graph.proofs.Chains.{Via.straight, via-zero, via-chain, chain-via, edge-from, empty-adds-nothing, round-stands}
 use Rattle.graph.proofs.close.Goals as goal
+use Rattle.graph.proofs.close.Goals.{then-m-k-ne0, else-m-k-ne0}
 
 pub loop-k-init : goal.loop-k-init
 loop-k-init c = (search rules, c.requires, λ i j. (λ e. straight e, λ v. via-zero (Edge c.args.m.now) v))
@@ -12,17 +12,20 @@ loop-k-init c = (search rules, c.requires, λ i j. (λ e. straight e, λ v. via-
 pub loop-k-preserved : goal.loop-k-preserved
 loop-k-preserved c = let m = c.args.m.now in
     let l = c.loop-k in
-    ⊎_elim
-    (λ w. rw w.3 (omega arith, w.2.ensures.0, round-stands (Edge m) l.k l.m w.2.last.0 l.invariant.2 w.2.ensures.1))
-    (λ w. rw w.1 (omega arith, l.invariant.1, round-stands (Edge m) l.k l.m l.m l.invariant.2 (empty-adds-nothing l.m l.k w.0.left)))
-    c.if-m-k-ne0.branch
+    elim c.if-m-k-ne0.branch [
+      | then-m-k-ne0 w ↦ rw w.m-is (omega arith, w.round.ensures.m_len, round-stands (Edge m) l.k l.m w.round.new.m l.invariant.2 w.round.ensures.by_index)
+      | else-m-k-ne0 w ↦ rw w.m-is (omega arith, l.invariant.1, round-stands (Edge m) l.k l.m l.m l.invariant.2 (empty-adds-nothing l.m l.k w.if-m-k-ne0.false))
+    ]
 
 pub returns : goal.returns
 returns c =
     let m = c.args.m.now in
     let l = c.loop-k in
     let full : l.k ≡ places = omega arith in
-    record { m_len = l.invariant.1; by_index = λ i j. (
+    record {
+      m_len = l.invariant.1;
+      by_index = λ i j. (
         (λ e. via-chain (Edge m) ((l.invariant.2 i j).0 e)),
         (λ ch. (l.invariant.2 i j).1 (rw full (chain-via (Edge m) places (λ a b e. edge-from m a b e places c.requires) ch))),
-      ) }
+      );
+    }

@@ -15,7 +15,7 @@ loop-i-init c = (search rules, λ a l. absurd (omega arith))
 pub returns-then-bit : goal.returns-then-bit
 returns-then-bit c = let l = c.loop-i in
     let closed = c.close.ensures.by_index in
-    let m = c.close.new.0 in
+    let m = c.close.new.m in
     record {
       within = omega arith;
       before = λ a h ch. l.invariant.1 a h ((closed a a).1 ch);
@@ -24,7 +24,7 @@ returns-then-bit c = let l = c.loop-i in
 
 pub loop-i-preserved : goal.loop-i-preserved
 loop-i-preserved c = let l = c.loop-i in
-    let m = c.close.new.0 in (
+    let m = c.close.new.m in (
       omega arith,
       below_more (λ (a : ℕ). Edge m a a → ⊥) l.i l.invariant.1
           (eqb-false (bit_of (get_or m l.i 0) l.i) 1 (sym c.bit.ensures ∙ c.if-bit.false)),
