@@ -1,5 +1,6 @@
 // Rules 13 to 15: what the sources of a block's entities name.
 #![tactic(auto)]
+
 mod links;
 
 ghost use Rattle.std.specs.Prelude.{◌≡◌, ◌&&◌, not, ◌+◌, ◌≤◌, eqb};

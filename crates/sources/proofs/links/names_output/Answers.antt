@@ -9,7 +9,7 @@ pub bounds-t-j : goal.bounds-t-j
 bounds-t-j c = omega (arith, c.requires.0 _ c.in-At.is)
 
 pub returns-in-Nothing : goal.returns-in-Nothing
-returns-in-Nothing c = no_output _ c.args.t1 c.in-Nothing.is
+returns-in-Nothing c = no_output _ c.args.t c.in-Nothing.is
 
 pub returns-in-At : goal.returns-in-At
-returns-in-At c = output-at _ c.args.t1 _ c.in-At.is (c.requires.0 _ c.in-At.is)
+returns-in-At c = output-at _ c.args.t _ c.in-At.is (c.requires.0 _ c.in-At.is)

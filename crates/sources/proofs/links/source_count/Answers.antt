@@ -1,3 +1,4 @@
+use native.Mathlib.Omega.{arith}
 use Rattle.sources.proofs.Places.{count-else}
 use Rattle.control_rules.specs.Descriptors.{kind_of, source_count}
 use mathlib.Core.Path.{◌∙◌}
@@ -25,4 +26,4 @@ unfolding kind_of source_count
 returns-in-7 c = (rw c.in-7.is, search rules)
 
 pub returns-in_default : goal.returns-in_default
-returns-in_default c = let r = c.in_default.rest in (count-else _ _ _ r.0.0.0.0.1 r.0.0.0.1 r.0.0.1 r.0.1 r.1, search rules)
+returns-in_default c = (count-else _ _ c.args.kind (λ e. omega arith) (λ e. omega arith) (λ e. omega arith) (λ e. omega arith) (λ e. omega arith), search rules)

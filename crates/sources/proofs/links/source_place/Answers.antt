@@ -1,3 +1,4 @@
+use native.Mathlib.Omega.{arith}
 use Rattle.sources.proofs.Places.{place-else}
 use Rattle.control_rules.specs.Descriptors.{kind_of, source_place}
 use borrow.Author.Rules.{rules}
@@ -24,4 +25,4 @@ unfolding kind_of source_place
 returns-in-7 c = (rw c.in-7.is, search rules)
 
 pub returns-in_default : goal.returns-in_default
-returns-in_default c = let r = c.in_default.rest in (place-else _ r.0.0.0.0.1 r.0.0.0.1 r.0.0.1 r.0.1 r.1, search rules)
+returns-in_default c = (place-else c.args.kind (λ e. omega arith) (λ e. omega arith) (λ e. omega arith) (λ e. omega arith) (λ e. omega arith), search rules)
