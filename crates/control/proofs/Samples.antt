@@ -7,7 +7,6 @@ use lib.ListN.{length}
 use native.Mathlib.Omega.{arith}
 use Rattle.rules.specs.IfElse.{if_else}
 use Rattle.rules.specs.First.{First}
-use Rattle.rules.specs.Chain.{Chain.one}
 use Rattle.rules.specs.Walk.{walk_from, walk}
 use Rattle.rules.specs.declared.Verdict.TheVariants.{Accepted}
 use Rattle.entities.specs.Table.{no_table, find_from}

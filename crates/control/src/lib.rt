@@ -1,5 +1,6 @@
 // Reads the class-specific descriptors of a VideoControl interface: rules 1 to 15, and the entity table.
 #![tactic(auto)]
+
 ghost use Rattle.std.specs.Prelude.{◌≡◌, ◌<◌};
 ghost use Rattle.rules.specs.Numbered.{NoneOf};
 ghost use Rattle.control_rules.specs.Rules.{head_rows};

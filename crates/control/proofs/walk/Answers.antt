@@ -1,28 +1,26 @@
+use Rattle.std.proofs.Common.{ℕ, ◌<◌, List, length, get_or, Fits, w8}
 use lib.ListN.{set}
 use Prim.Native.Nat.{◌+◌}
 use native.Mathlib.Omega.{arith}
 use mathlib.Core.Path.{◌≡◌, refl, sym, ap, ◌∙◌}
-use mathlib.Core.Logic.{⊎_elim}
 use Rattle.le.specs.Le.{byte}
 use Rattle.used_ids.specs.Marks.{marked}
-use Rattle.control.proofs.Walking.{Turn, Fine, begins, rule_here, refuses, fine-here, has_sub, has-id, has-place, stays, gains, said-entity, head-sizes, few-entities, accepts, rejects}
+use Rattle.rules.specs.Numbered.{first_row}
+use Rattle.control_rules.specs.Rules.{rows_in}
+use Rattle.control_rules.specs.Descriptors.{revision_of}
+use Rattle.entities.specs.declared.Table.{Table}
+use Rattle.entities.specs.declared.Revision.{Revision}
+use Rattle.control.proofs.Walking.{Reading, Turn, begins, rule_here, refuses, fine-here, has_sub, has-id, has-place, stays, gains, said-entity, head-sizes, few-entities, accepts, rejects}
 use Rattle.control.proofs.walk.Goals as goal
+use Rattle.control.proofs.walk.Goals.{then-is_entity, else-is_entity}
 
--- what is known after the call of `rule_at`, and where it found nothing
-abbrev Ruled : Type 0
-Ruled = tie.After-rule-at invariant-loop decreases-loop
+-- a turn of the walk, from the loop's invariant and its test
+turn : (s : List ℕ) (t : Table) (m : List ℕ) (at : ℕ) → Reading s t m at → ((i : ℕ) → Fits w8 (get_or s i 0)) → at < length s → Turn s t m at
+turn s t m at r f h = record { reading = r; small = omega (arith, f (at + 3)); inside = h }
 
-abbrev Passed : Type 0
-Passed = tie.Else1 invariant-loop decreases-loop
-
-turn : (a : Ruled) → Turn a.before.before.before.before.before.before.before.before.args.s.now a.before.before.before.loop.table a.before.before.before.loop.marks a.before.before.before.loop.at
-turn a = record { reading = a.before.before.before.loop.inv; small = omega (arith, a.before.before.before.before.before.before.before.shared-slice-known.given (a.before.before.before.loop.at + 3)); inside = a.before.before.loop-test.taken }
-
-none : (c : Passed) → rule_here c.before.before.before.before.before.before.before.before.before.args.s.now c.before.before.before.before.loop.table c.before.before.before.before.loop.marks c.before.before.before.before.loop.at ≡ 0
-none c = sym (rw c.before.before.before.before.before.before.before.revision-of.ensures at c.before.rule-at.ensures) ∙ c.if1.false
-
-fits : (c : Passed) → Fine c.before.before.before.before.before.before.before.before.before.args.s.now c.before.before.before.before.loop.at (marked c.before.before.before.before.loop.marks (byte c.before.before.before.before.before.before.before.before.before.args.s.now c.before.before.before.before.loop.at 3)) c.before.before.before.before.loop.table.count
-fits c = fine-here _ _ _ _ (turn c.before) (none c)
+-- where the descriptor breaks no rule
+none : (s : List ℕ) (t : Table) (m : List ℕ) (at : ℕ) (v : Revision) (r : ℕ) → v ≡ revision_of s → r ≡ first_row (rows_in v s at (marked m (byte s at 3)) t.count) → r ≡ 0 → rule_here s t m at ≡ 0
+none s t m at v r e q z = sym (rw e at q) ∙ z
 
 pub revision_of-revision-requires : goal.revision_of-revision-requires
 revision_of-revision-requires c = let h = head-sizes _ c.requires in omega arith
@@ -31,36 +29,42 @@ pub loop-at-init : goal.loop-at-init
 loop-at-init c = rw (c.no_table-table.ensures, c.none-marks.ensures) (begins _)
 
 pub returns-then-broken-ne0 : goal.returns-then-broken-ne0
-returns-then-broken-ne0 c = refuses _ c.loop-at.table _ _ (turn c) _ _ c.requires
+returns-then-broken-ne0 c = refuses _ c.loop-at.table _ _ (turn c.args.s.now c.loop-at.table c.loop-at.marks c.loop-at.at c.loop-at.invariant c.type_inv.s c.loop-at-test.true) _ _ c.requires
     (rw c.revision_of-revision.ensures at c.rule_at-broken.ensures) c.if-broken-ne0.true c.refused.ensures
 
 pub bounds-s-at : goal.bounds-s-at
-bounds-s-at c = has_sub _ c.loop-at.table _ _ (turn c) (none c)
+bounds-s-at c = has_sub _ c.loop-at.table _ _ (turn c.args.s.now c.loop-at.table c.loop-at.marks c.loop-at.at c.loop-at.invariant c.type_inv.s c.loop-at-test.true) (none c.args.s.now c.loop-at.table c.loop-at.marks c.loop-at.at _ _ c.revision_of-revision.ensures c.rule_at-broken.ensures c.if-broken-ne0.false)
 
 pub bounds-s-at-then-is_entity : goal.bounds-s-at-then-is_entity
-bounds-s-at-then-is_entity c = has-id _ c.loop-at.table _ _ (turn c) (none c)
-    (said-entity c.args.s.now c.loop-at.at _ _ _ _ c.revision_of-revision.ensures c.Known-as.ensures c.is_entity.ensures c.if-is_entity.true)
+bounds-s-at-then-is_entity c = has-id _ c.loop-at.table _ _ (turn c.args.s.now c.loop-at.table c.loop-at.marks c.loop-at.at c.loop-at.invariant c.type_inv.s c.loop-at-test.true) (none c.args.s.now c.loop-at.table c.loop-at.marks c.loop-at.at _ _ c.revision_of-revision.ensures c.rule_at-broken.ensures c.if-broken-ne0.false)
+    (said-entity c.args.s.now c.loop-at.at _ _ _ _ c.revision_of-revision.ensures c.known_as.ensures c.is_entity.ensures c.if-is_entity.true)
 
 pub entity_at-requires : goal.entity_at-requires
-entity_at-requires c = record { at_le_most = (let h = head-sizes _ c.requires in omega arith, (fits c).shaped); at_value = (said-entity c.args.s.now c.loop-at.at _ _ _ _ c.revision_of-revision.ensures c.Known-as.ensures c.is_entity.ensures c.if-is_entity.true) }
+entity_at-requires c = record { at_le_most = (let h = head-sizes _ c.requires in omega arith, (fine-here _ c.loop-at.table _ _ (turn c.args.s.now c.loop-at.table c.loop-at.marks c.loop-at.at c.loop-at.invariant c.type_inv.s c.loop-at-test.true) (none c.args.s.now c.loop-at.table c.loop-at.marks c.loop-at.at _ _ c.revision_of-revision.ensures c.rule_at-broken.ensures c.if-broken-ne0.false)).shaped); at_value = (said-entity c.args.s.now c.loop-at.at _ _ _ _ c.revision_of-revision.ensures c.known_as.ensures c.is_entity.ensures c.if-is_entity.true) }
 
 pub bounds-table-count : goal.bounds-table-count
-bounds-table-count c = has-place _ c.loop-at.table _ _ (turn c) (none c)
-    (said-entity c.args.s.now c.loop-at.at _ _ _ _ c.revision_of-revision.ensures c.Known-as.ensures c.is_entity.ensures c.if-is_entity.true)
+bounds-table-count c = has-place _ c.loop-at.table _ _ (turn c.args.s.now c.loop-at.table c.loop-at.marks c.loop-at.at c.loop-at.invariant c.type_inv.s c.loop-at-test.true) (none c.args.s.now c.loop-at.table c.loop-at.marks c.loop-at.at _ _ c.revision_of-revision.ensures c.rule_at-broken.ensures c.if-broken-ne0.false)
+    (said-entity c.args.s.now c.loop-at.at _ _ _ _ c.revision_of-revision.ensures c.known_as.ensures c.is_entity.ensures c.if-is_entity.true)
 
 pub overflow_add-at-in-loop-at : goal.overflow_add-at-in-loop-at
-overflow_add-at-in-loop-at c = let f = (fits c).shaped in omega arith
+overflow_add-at-in-loop-at c = let f = (fine-here _ c.loop-at.table _ _ (turn c.args.s.now c.loop-at.table c.loop-at.marks c.loop-at.at c.loop-at.invariant c.type_inv.s c.loop-at-test.true) (none c.args.s.now c.loop-at.table c.loop-at.marks c.loop-at.at _ _ c.revision_of-revision.ensures c.rule_at-broken.ensures c.if-broken-ne0.false)).shaped in omega arith
 
 pub loop-at-smaller : goal.loop-at-smaller
-loop-at-smaller c = let f = (fits c).shaped in omega arith
+loop-at-smaller c = let f = (fine-here _ c.loop-at.table _ _ (turn c.args.s.now c.loop-at.table c.loop-at.marks c.loop-at.at c.loop-at.invariant c.type_inv.s c.loop-at-test.true) (none c.args.s.now c.loop-at.table c.loop-at.marks c.loop-at.at _ _ c.revision_of-revision.ensures c.rule_at-broken.ensures c.if-broken-ne0.false)).shaped in omega arith
 
 pub loop-at-preserved : goal.loop-at-preserved
-loop-at-preserved c = let t = c.loop-at.table in
+loop-at-preserved c =
+    let s = c.args.s.now in
+    let t = c.loop-at.table in
+    let m = c.loop-at.marks in
+    let o = c.loop-at.at in
+    let w : Turn s t m o = turn s t m o c.loop-at.invariant c.type_inv.s c.loop-at-test.true in
+    let n : rule_here s t m o ≡ 0 = none s t m o _ _ c.revision_of-revision.ensures c.rule_at-broken.ensures c.if-broken-ne0.false in
     rw c.wide-at.ensures.0
-    (⊎_elim
-    (λ w. rw (w.5, w.6) (gains _ t _ _ (turn c) (none c) (said-entity c.args.s.now c.loop-at.at _ _ _ _ c.revision_of-revision.ensures c.Known-as.ensures c.is_entity.ensures w.0.taken) _ _ refl (ap (set t.entities t.count) w.4.ensures) w.3.ensures))
-    (λ w. rw (w.1, w.2) (stays _ t _ _ (turn c) (none c) (said-entity c.args.s.now c.loop-at.at _ _ _ _ c.revision_of-revision.ensures c.Known-as.ensures c.is_entity.ensures w.0.left)))
-    c.if-is_entity.branch)
+    (elim c.if-is_entity.branch [
+      | then-is_entity b ↦ rw (b.table-is, b.marks-is) (gains s t m o w n (said-entity s o _ _ _ _ c.revision_of-revision.ensures c.known_as.ensures c.is_entity.ensures b.if-is_entity.true) _ _ refl (ap (set t.entities t.count) b.entity_at.ensures) b.with.ensures)
+      | else-is_entity b ↦ rw (b.table-is, b.marks-is) (stays s t m o w n (said-entity s o _ _ _ _ c.revision_of-revision.ensures c.known_as.ensures c.is_entity.ensures b.if-is_entity.false))
+    ])
 
 pub judge-requires : goal.judge-requires
 judge-requires c = few-entities _ _ _ _ c.loop-at.invariant
