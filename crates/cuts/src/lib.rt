@@ -1,5 +1,6 @@
 // A stream that comes in reads of any size, cut into records of one size. What is left over waits at the front of a lent piece.
 #![tactic(auto)]
+
 ghost use Rattle.std.specs.Prelude.{◌≡◌, ◌-◌, ◌%◌, ◌≤◌, ◌<◌, length, take};
 ghost use Rattle.std.proofs.Math.Seq.{paste};
 ghost use Rattle.cuts.specs.Cuts.{least_of, next_of};

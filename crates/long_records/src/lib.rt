@@ -1,5 +1,6 @@
 // Writes a record of 3,076 bytes: kind, a zero, a two-byte length, the bytes, zero fill.
 #![tactic(auto)]
+
 ghost use Rattle.std.specs.Prelude.{◌≡◌, ◌+◌, ◌≤◌, length, replicate};
 ghost use Rattle.std.proofs.Math.Seq.{paste};
 ghost use Rattle.text.specs.Put.{Put};

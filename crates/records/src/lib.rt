@@ -1,5 +1,6 @@
 // One record of a trace, short or long: kind, length, the bytes, zero fill.
 #![tactic(auto)]
+
 ghost use Rattle.std.specs.Prelude.{◌≡◌, ◌≤◌, ◌<◌, length as List·length};
 ghost use Rattle.records.specs.Form.{size_of, head_of, most_of};
 ghost use Rattle.records.specs.Record.{length_at, second_set, record_bad};

@@ -1,5 +1,6 @@
 // A camera of our own: cuts frames into payload transfers, one a call, into a buffer that the caller lends.
 #![tactic(auto)]
+
 ghost use Rattle.std.specs.Prelude.{◌≡◌, ◌++◌, ◌%◌, ◌<◌, ◌≤◌, min, length, drop};
 ghost use Rattle.rules.specs.Numbered.{first_row};
 ghost use Rattle.sizes.specs.Sizes.{payload_most};

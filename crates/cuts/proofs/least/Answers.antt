@@ -1,10 +1,8 @@
 use Rattle.cuts.proofs.Branches.{first-least, second-least}
 use Rattle.cuts.proofs.least.Goals as goal
 
--- src/lib.rt:14:9
 pub returns-then-a-b : goal.returns-then-a-b
-returns-then-a-b c = search first-least
+returns-then-a-b c = let both = first-least c.args.a c.args.b c.if-a-b.true in record { value = both.0; upper_bound = both.1 }
 
--- src/lib.rt:9:1
 pub returns : goal.returns
-returns c = search second-least
+returns c = let both = second-least c.args.a c.args.b c.if-a-b.false in record { value = both.0; upper_bound = both.1 }

@@ -3,14 +3,14 @@ use Rattle.session_rules.specs.declared.Stamp.TheVariants.{Absent}
 use Rattle.sender.proofs.write_header.Goals as goal
 
 -- TODO unknown goal copy-requires
--- 
+--
 -- copy-requires c κs =
 --     let start = c.before.before.before.before.before.before in
 --     header-room start.args.fid start.args.eof start.args.stamp Absent c.before.before.before.enum_told.given.1 _
 --     start.args.room.now c.before.before.short-header.ensures start.requires
 
 -- TODO unknown goal copy-requires-2
--- 
+--
 -- copy-requires-2 c κs =
 --     let at-stamp = c.before.before.before.before in
 --     let start = at-stamp.before.before.before in
