@@ -1,5 +1,6 @@
 // The records of a camera of our own: a frame's next transfer as a long record.
 #![tactic(auto)]
+
 ghost use Rattle.std.specs.Prelude.{◌≡◌, ◌≤◌, length, take};
 ghost use Rattle.long_records.specs.Long.{long_size, data_most};
 ghost use Rattle.sender.specs.Send.{send_of, transfer_at};
