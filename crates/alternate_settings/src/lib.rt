@@ -1,5 +1,6 @@
 // The alternate settings of a streaming interface: the k-th, its bytes per microframe, and the one with the fewest that holds a payload.
 #![tactic(auto)]
+
 ghost use Rattle.std.specs.Prelude.{◌≡◌, ◌<◌, length};
 ghost use Rattle.alternate_settings.specs.Inner.{bytes_at, setting_at, settings_of, kth_of, is_better, better_of, fewest_of};
 

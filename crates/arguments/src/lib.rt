@@ -1,5 +1,6 @@
 // Numbers as arguments: decimal digits.
 #![tactic(auto)]
+
 ghost use Rattle.std.specs.Prelude.{◌≡◌, ◌≤◌};
 ghost use Rattle.arguments.specs.Digits.{number_of, number_or, byte_of};
 

@@ -1,5 +1,6 @@
 // The settings of a processing unit that are turned by hand, and the requests that ask for them and set them, with the class's numbers.
 #![tactic(auto)]
+
 ghost use Rattle.std.specs.Prelude.{◌≡◌, ◌<◌};
 ghost use Rattle.camera_settings.specs.Numbers.{selector_of, bit_of, is_signed, code_of, type_of, SettingIs, RequestIs};
 

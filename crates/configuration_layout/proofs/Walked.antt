@@ -145,7 +145,7 @@ module _ (s : List ℕ) where
     reached-at {a} {o} r (suc i) b =
         let h = some r (suc i) b in
         let c : i < length (line s (after_at s o)) = omega (arith, ap length (line-more s o h)) in
-        rw (line-more s o h) (rw append_snoc at (reached-at (steps r h) i c))
+        rw (line-more s o h) (rw append_snoc at (reached-at {a = a ++ (o ∷ [])} {o = after_at s o} (steps r h) i c))
 
     starts-at : {a : List ℕ} {o : ℕ} → Reached (course s) a o → (i : ℕ) → i < length (line s o) → Starts s (get_or (line s o) i 0)
     starts-at {a} {o} r i b = let p = reached-at r i b in record { seen = a ++ take i (line s o); there = p.0; inside = p.1 }

@@ -1,5 +1,6 @@
 // How a configuration is laid out: 70, 71, 72 and 75, number by number over the whole.
 #![tactic(auto)]
+
 ghost use Rattle.std.specs.Prelude.{◌≡◌};
 ghost use Rattle.configuration_layout.specs.Inner.{verdict70, verdict71, verdict72, verdict75, layout_verdict};
 

@@ -1,5 +1,6 @@
 // One descriptor of a configuration: 70, which descriptor follows it, what a search looks for, and the bytes per microframe of an endpoint.
 #![tactic(auto)]
+
 ghost use Rattle.std.specs.Prelude.{◌≡◌, ◌+◌, ◌≤◌, ◌<◌, length, get_or};
 ghost use Rattle.configuration_rules.specs.Descriptors.{least_of, broken_at, after_at, subclass_of, is_video, is_endpoint, is_sought, packet_bytes};
 

@@ -1,5 +1,6 @@
 // The descriptors of a configuration one after the other: searching them, the block behind an interface descriptor, the streaming interfaces, and 75.
 #![tactic(auto)]
+
 ghost use Rattle.std.specs.Prelude.{◌≡◌, ◌≤◌, ◌<◌, Bool, length, leb};
 ghost use Rattle.rules.specs.IfElse.{if_else};
 ghost use Rattle.interfaces.specs.Inner.{next_of, block_at, stream_at, streams_of, place_of, one_too_many, no_counts, too_many};

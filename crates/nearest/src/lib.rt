@@ -1,5 +1,6 @@
 // Moves a wanted number to the nearest that a camera allows (92, 93). Numbers are words as they stand in the data stage.
 #![tactic(auto)]
+
 ghost use Rattle.std.specs.Prelude.{◌≡◌, ◌≤◌, ◌<◌};
 ghost use Rattle.nearest.specs.Answer.{NearestIs, refused_by};
 ghost use Rattle.nearest.specs.Inner.{shifted, turned, Closest};

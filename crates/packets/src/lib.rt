@@ -1,5 +1,6 @@
 // The 8-byte setup packets of a setting: their bytes, and what given bytes ask for.
 #![tactic(auto)]
+
 ghost use Rattle.std.specs.Prelude.{◌≡◌};
 ghost use Rattle.packets.specs.Packets.{packet_of, room_verdict, leaves, SpeltIs};
 ghost use Rattle.packets.specs.Inner.{SpeltWith, SpeltBy};

@@ -1,4 +1,6 @@
+use Rattle.std.proofs.Common.{arith}
 use Rattle.camera_settings.specs.declared.Request.TheVariants.{GetCur, GetMin, GetMax, GetRes, GetDef, SetCur}
+use Rattle.camera_settings.specs.Numbers.{RequestIs.has_code}
 use Rattle.camera_settings.proofs.Known.{no-request}
 use Rattle.camera_settings.proofs.request_of.Goals as goal
 
@@ -21,4 +23,4 @@ pub returns-in-1 : goal.returns-in-1
 returns-in-1 c = has_code SetCur c.in-1.is
 
 pub returns-in_default : goal.returns-in_default
-returns-in_default c = no-request _ c.in_default.rest.0.0.0.0.0.1 c.in_default.rest.0.0.0.0.1 c.in_default.rest.0.0.0.1 c.in_default.rest.0.0.1 c.in_default.rest.0.1 c.in_default.rest.1
+returns-in_default c = no-request _ (λ e. omega arith) (λ e. omega arith) (λ e. omega arith) (λ e. omega arith) (λ e. omega arith) (λ e. omega arith)

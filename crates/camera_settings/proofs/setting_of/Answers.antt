@@ -1,4 +1,6 @@
+use Rattle.std.proofs.Common.{arith}
 use Rattle.camera_settings.specs.declared.Setting.TheVariants.{Brightness, Contrast, Hue, Saturation}
+use Rattle.camera_settings.specs.Numbers.{SettingIs.has-selector}
 use Rattle.camera_settings.proofs.Known.{no-setting}
 use Rattle.camera_settings.proofs.setting_of.Goals as goal
 
@@ -15,4 +17,4 @@ pub returns-in-7 : goal.returns-in-7
 returns-in-7 c = has-selector Saturation c.in-7.is
 
 pub returns-in_default : goal.returns-in_default
-returns-in_default c = no-setting _ c.in_default.rest.0.0.0.1 c.in_default.rest.0.0.1 c.in_default.rest.0.1 c.in_default.rest.1
+returns-in_default c = no-setting _ (λ e. omega arith) (λ e. omega arith) (λ e. omega arith) (λ e. omega arith)
