@@ -5,7 +5,7 @@ use mathlib.Core.Bool.{Bool, true, false}
 use native.Mathlib.Omega.{arith}
 use lib.Dec.{ltb}
 use borrow.Author.Tests.{ltb-true, ltb-false, lt-ltb}
-use lib.IntN.{ℤ, pos, neg_ℤ}
+use lib.IntN.{pos, neg_ℤ}
 use lib.Signed.{◌≤ℤ◌}
 use Rattle.integers.proofs.Integers.{Is, is-neg, at_most, below, differ-alike}
 use Rattle.rules.specs.IfElse.{if_else}
