@@ -1,5 +1,6 @@
 // Tables of names: one byte string, each name on a line of its own. One loop finds a name, and one prints a line for each.
 #![tactic(auto)]
+
 ghost use Rattle.std.specs.Prelude.{◌+◌, ◌*◌, ◌≤◌, length};
 ghost use Rattle.text.specs.Put.{Put};
 ghost use Rattle.text.specs.Text.{line as Text·line, lines as Text·lines};

@@ -9,7 +9,7 @@ use lib.Dec.{T, ltb}
 use lib.ListN.{length}
 use Rattle.rules.specs.IfElse.{if_else}
 use Rattle.text.specs.Put.{Put}
-use Rattle.templates.specs.Template.{is_field, length_at, piece_at, field_at, render_from, rendered, listed}
+use Rattle.templates.specs.Template.{is_field, length_at, piece_at, render_from, rendered, listed}
 use Rattle.templates.proofs.Going.{Going, begin, more, over}
 
 -- ---- a piece of a template lies in it

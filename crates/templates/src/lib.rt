@@ -1,5 +1,6 @@
 // Text with fields: `%`, a form and two digits stand for what the bytes hold at that offset, and every other byte for itself.
 #![tactic(auto)]
+
 ghost use Rattle.std.specs.Prelude.{◌≡◌, ◌+◌, ◌-◌, ◌*◌, ◌≤◌, ◌<◌, length, get_or};
 ghost use Rattle.text.specs.Put.{Put};
 ghost use Rattle.templates.specs.Values.{word_at, long_at, hex_digit, hex_text, shown, letter_text, hundredths, rate_text, form_of, value_of};
