@@ -1,5 +1,6 @@
 // The class's names: of terminal types, and of the controls that a camera terminal and a processing unit have.
 #![tactic(auto)]
+
 ghost use Rattle.std.specs.Prelude.{◌≡◌, ◌+◌, ◌≤◌, ◌<◌, length};
 ghost use Rattle.text.specs.Put.{Put};
 ghost use Rattle.camera_names.specs.Names.{terminal_place, terminal_text, is_set, control_text, controls_text, camera_names, processing_names};
@@ -39,7 +40,7 @@ not named by the class\n\
 
 // The place of a terminal type in the class's list; its end where it is not there.
 fn terminal_place(number: u16) -> usize
-    ensures { result ≡ terminalPlace number }
+    ensures { result ≡ terminal_place number }
 {
     let types: [u16; TYPES] = [
         0x0100, 0x0101, 0x0200, 0x0201, 0x0202, 0x0300, 0x0301, 0x0302, 0x0400, 0x0401, 0x0402,
@@ -58,7 +59,7 @@ fn terminal_place(number: u16) -> usize
 // Inner: a line for each control that a camera terminal has. Its map is the n bytes at k of what stands at o.
 pub fn camera(buf: &mut [u8], at: usize, s: &[u8], o: usize, k: usize, n: u8) -> usize
     requires { (o ≤ length s.now) × (k < 256) × (at + 1536 ≤ length buf.old) }
-    ensures put { Put buf.old at (controlsText s.now o k n cameraNames 24 0) result buf.new }
+    ensures put { Put buf.old at (controls_text s.now o k n camera_names 24 0) result buf.new }
     ensures upper_bound { result ≤ at + 1536 }
 {
     let names: &[u8] = b"\
@@ -93,7 +94,7 @@ reserved (D23)\n\
 // Inner: the same of a processing unit.
 pub fn processing(buf: &mut [u8], at: usize, s: &[u8], o: usize, k: usize, n: u8) -> usize
     requires { (o ≤ length s.now) × (k < 256) × (at + 1536 ≤ length buf.old) }
-    ensures put { Put buf.old at (controlsText s.now o k n processingNames 24 0) result buf.new }
+    ensures put { Put buf.old at (controls_text s.now o k n processing_names 24 0) result buf.new }
     ensures upper_bound { result ≤ at + 1536 }
 {
     let names: &[u8] = b"\
@@ -136,7 +137,7 @@ fn controls(
     names: &[u8],
 ) -> usize
     requires { (o ≤ length s.now) × (k < 256) × (start + 1536 ≤ length buf.old) × Short names.now }
-    ensures put { Put buf.old start (controlsText s.now o k n names.now 24 0) result buf.new }
+    ensures put { Put buf.old start (controls_text s.now o k n names.now 24 0) result buf.new }
     ensures upper_bound { result ≤ start + 1536 }
 {
     let mut at = start;
@@ -151,7 +152,7 @@ fn controls(
 // The line of one bit; nothing where it is clear.
 fn control(buf: &mut [u8], at: usize, names: &[u8], i: usize, set: bool) -> usize
     requires { (i < 24) × (at + 64 ≤ length buf.old) × Short names.now }
-    ensures put { Put buf.old at (controlText names.now i set) result buf.new }
+    ensures put { Put buf.old at (control_text names.now i set) result buf.new }
     ensures upper_bound { result ≤ at + 64 }
 {
     if set {

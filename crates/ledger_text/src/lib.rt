@@ -67,7 +67,7 @@ fn refused(buf: &mut [u8], k: u8, n: u64) -> usize
 }
 
 fn report(buf: &mut [u8], state: State, ns: &[u64]) -> usize
-    requires { (length ns.now ≡ numberCount) × (room ≤ length buf.old) }
+    requires { (length ns.now ≡ number_count) × (room ≤ length buf.old) }
     ensures { Put buf.old 0 (text_of state ns.now) result buf.new }
 {
     match state {
@@ -80,7 +80,7 @@ fn report(buf: &mut [u8], state: State, ns: &[u64]) -> usize
 // The whole text at the front of buf, and its length; 0, and buf as it was, where buf has fewer than ROOM bytes.
 pub fn write(buf: &mut [u8], printed: Printed) -> usize
     ensures value { result ≡ answer_of room (text_of printed.state printed.ledger.numbers) buf.old }
-    ensures buf_after { buf.new ≡ bufferOf room (text_of printed.state printed.ledger.numbers) buf.old }
+    ensures buf_after { buf.new ≡ buffer_of room (text_of printed.state printed.ledger.numbers) buf.old }
     ensures prefix_len { IsPrefixLen result buf.new }
 {
     if buf.len() < ROOM {
@@ -94,7 +94,7 @@ pub fn write(buf: &mut [u8], printed: Printed) -> usize
 
 // A list of frames has nothing after its lines where the trace is good.
 fn is_unsaid(show: Show, state: State) -> bool
-    ensures { result ≡ isUnsaid show state }
+    ensures { result ≡ is_unsaid show state }
 {
     match show {
         Show::Nothing => false,
@@ -109,8 +109,8 @@ fn is_unsaid(show: Show, state: State) -> bool
 
 // What stands after the lines of the frames, as `write` writes it.
 pub fn end(buf: &mut [u8], show: Show, printed: Printed) -> usize
-    ensures value { result ≡ answer_of room (endText show printed.state printed.ledger.numbers) buf.old }
-    ensures buf_after { buf.new ≡ bufferOf room (endText show printed.state printed.ledger.numbers) buf.old }
+    ensures value { result ≡ answer_of room (end_text show printed.state printed.ledger.numbers) buf.old }
+    ensures buf_after { buf.new ≡ buffer_of room (end_text show printed.state printed.ledger.numbers) buf.old }
     ensures prefix_len { IsPrefixLen result buf.new }
 {
     let state = printed.state;
@@ -122,7 +122,7 @@ pub fn end(buf: &mut [u8], show: Show, printed: Printed) -> usize
 
 fn shut_text(buf: &mut [u8], number: u8) -> usize
     requires { room ≤ length buf.old }
-    ensures { Put buf.old 0 (shutText number) result buf.new }
+    ensures { Put buf.old 0 (shut_text number) result buf.new }
 {
     let one = [number as u64];
     let at = text::line(buf, 0, b"refused", &one);

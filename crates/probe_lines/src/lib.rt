@@ -48,7 +48,7 @@ rate modes\n\
 
 // The numbers of those fields, in the block's order.
 fn numbers(p: Probe) -> [u64; SINGLES]
-    ensures { result ≡ numbersOf p }
+    ensures { result ≡ numbers_of p }
 {
     [
         p.hint as u64,
@@ -77,9 +77,9 @@ fn numbers(p: Probe) -> [u64; SINGLES]
 
 // The layout's line.
 fn layout(buf: &mut [u8], at: usize, l: [u8; 8]) -> usize
-    requires { at + lineMost ≤ length buf.old }
-    ensures put { Put buf.old at (layoutText l) result buf.new }
-    ensures upper_bound { result ≤ at + lineMost }
+    requires { at + line_most ≤ length buf.old }
+    ensures put { Put buf.old at (layout_text l) result buf.new }
+    ensures upper_bound { result ≤ at + line_most }
 {
     let ns = [
         l[0] as u64,

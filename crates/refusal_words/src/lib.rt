@@ -1,5 +1,6 @@
 // A refusal's number in plain words.
 #![tactic(auto)]
+
 ghost use Rattle.std.specs.Prelude.{◌+◌, ◌≤◌, length};
 ghost use Rattle.text.specs.Put.{Put};
 ghost use Rattle.refusal_words.specs.Words.{words_of};
