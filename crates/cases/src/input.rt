@@ -2,7 +2,8 @@
 ghost use Rattle.io.specs.Counts.{IsPrefixLen};
 
 use crate::print;
-use libc::STDIN_FILENO;
+
+const STDIN_FILENO: i32 = 0;
 
 #[derive(Drop)]
 pub struct OneByte {

@@ -1,7 +1,7 @@
 // The lines that are printed.
 ghost use Rattle.std.specs.Prelude.{◌≤◌, length};
 
-use libc::STDOUT_FILENO;
+const STDOUT_FILENO: i32 = 1;
 
 pub fn text(bytes: &[u8]) {
     io::write_all(STDOUT_FILENO, bytes);
@@ -58,10 +58,8 @@ pub fn rest(zero: bool) {
 pub fn hex(name: &[u8], bytes: &[u8]) {
     text(name);
     text(b" ");
-    let mut i: usize = 0;
-    while i < bytes.len() {
-        io::print_hex(STDOUT_FILENO, le::wide(bytes[i]) as u64, 2);
-        i += 1;
+    for b in bytes {
+        io::print_hex(STDOUT_FILENO, *b as u64, 2);
     }
     end();
 }
@@ -77,10 +75,8 @@ pub fn hash(bytes: &[u8]) {
 // The hash of some bytes, from that of all before them: times 16,777,619 plus the byte, modulo 2^32. That of none is 2,166,136,261.
 pub fn hashed(from: u64, bytes: &[u8]) -> u64 {
     let mut h: u64 = from % 4294967296;
-    let mut i: usize = 0;
-    while i < bytes.len() {
-        h = (h * 16777619 + le::wide(bytes[i]) as u64) % 4294967296;
-        i += 1;
+    for b in bytes {
+        h = (h * 16777619 + *b as u64) % 4294967296;
     }
     h
 }

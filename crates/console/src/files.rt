@@ -1,7 +1,18 @@
 // The files that the arguments name.
+ghost use Rattle.std.specs.Prelude.{IfSome};
 ghost use Rattle.io.specs.Counts.{IsPrefixLen};
+ghost use Rattle.std.specs.Io.{ReadsAtMost};
 
-use crate::status;
+use crate::print;
+use std::env::{Env, FillError};
+use std::fs::Files;
+use std::io::{Error, ErrorKind, Read, Result};
+use std::{fs, str};
+
+// The numbers that the system gives the errors of an argument that is missing, and of one that is too long.
+const MISSING: i32 = 22;
+
+const TOO_LONG: i32 = 36;
 
 // Whether the file was read, and how many of its bytes stand at the start of the buffer.
 #[derive(Drop)]
@@ -10,42 +21,79 @@ pub struct Loaded {
     pub count: usize,
 }
 
-// Reads the file that argument `which` names into the lent buffer, as far as it goes. Where that fails, a line says why.
-pub fn load(which: usize, buf: &mut [u8]) -> Loaded
-    ensures { IsPrefixLen result.count buf.new }
+// Opens the file that argument `which` names. The name is put at the start of the lent buffer, and its length is given beside the file. Where
+// that fails, a line says why.
+pub fn open<R: Files + Env>(rt: &R, which: usize, name: &mut [u8]) -> Option<(R::File, usize)>
+    ensures { IfSome result (λ opened. IsPrefixLen opened.1 name.new) }
 {
-    let mut path = io::buffer();
-    let n = os::arg(which, &mut path);
-    if os::errno() != 0 {
-        os::fail(b"file name");
-        status::failed();
-        return Loaded {
-            fine: false,
-            count: 0,
-        };
+    let n = match rt.arg(which, name) {
+        Ok(n) => n,
+        Err(error) => {
+            print::failure(b"file name", &refusal(error));
+            return None;
+        }
+    };
+    match opened(rt, &name[..n]) {
+        Ok(file) => Some((file, n)),
+        Err(error) => {
+            print::failure(&name[..n], &error);
+            None
+        }
     }
-    let fd = os::open_read(&path[..n]);
-    if fd < 0 {
-        os::fail(&path[..n]);
-        status::failed();
-        return Loaded {
-            fine: false,
-            count: 0,
-        };
-    }
-    let count = io::read_full(fd, buf);
-    let fine = readable(fd);
-    if !fine {
-        os::fail(&path[..n]);
-        status::failed();
-    }
-    libc::close(fd);
-    Loaded { fine, count }
 }
 
-// A read that stops early has come to the end or has failed: one more tells the two apart.
-fn readable(fd: i32) -> bool {
+// Why an argument is not in the buffer.
+fn refusal(error: FillError) -> Error {
+    match error {
+        FillError::NotPresent => Error::from_raw_os_error(MISSING),
+        FillError::TooLong => Error::from_raw_os_error(TOO_LONG),
+    }
+}
+
+// The file of a name. The library takes text alone for one.
+fn opened<R: Files>(rt: &R, name: &[u8]) -> Result<R::File> {
+    match str::from_utf8(name) {
+        Ok(path) => fs::open(rt, path),
+        Err(_) => Err(Error::new(ErrorKind::InvalidFilename, "not a name in UTF-8")),
+    }
+}
+
+// Reads the file that argument `which` names into the lent buffer, as far as it goes. Where that fails, a line says why.
+pub fn load<R: Files + Env>(rt: &R, which: usize, buf: &mut [u8]) -> Loaded
+    ensures { IsPrefixLen result.count buf.new }
+{
+    let mut name = io::buffer();
+    let Some((mut file, n)) = open(rt, which, &mut name) else {
+        return Loaded {
+            fine: false,
+            count: 0,
+        };
+    };
+    match filled(&mut file, buf) {
+        Ok(count) => Loaded { fine: true, count },
+        Err(error) => {
+            print::failure(&name[..n], &error);
+            Loaded {
+                fine: false,
+                count: 0,
+            }
+        }
+    }
+}
+
+// Reads until the buffer is full or the input ends. Behind a full buffer one read more shows whether the input can still be read.
+fn filled<R: Read>(from: &mut R, buf: &mut [u8]) -> Result<usize>
+    ensures { ReadsAtMost result buf.new }
+{
+    let mut done = 0;
+    while done < buf.len() {
+        let n = from.read(&mut buf[done..])?;
+        if n == 0 {
+            return Ok(done);
+        }
+        done += n;
+    }
     let mut one = [0u8; 1];
-    let got = libc::read(fd, &mut one);
-    got >= 0
+    from.read(&mut one)?;
+    Ok(done)
 }
