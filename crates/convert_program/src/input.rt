@@ -1,9 +1,11 @@
 // Reads short records and writes long ones in constant memory.
 ghost use Rattle.std.specs.Prelude.{◌≡◌, ◌+◌, ◌*◌, ◌≤◌, ◌<◌, length};
 
-use console::status;
+use console::{print, status};
 use convert::Reader;
-use libc::{STDERR_FILENO, STDOUT_FILENO};
+use std::io::{Error, ErrorKind, Print, Read};
+
+const STDERR_FILENO: i32 = 2;
 
 // Enough for the long records of 4,096 bytes and of those that wait.
 const ROOM: usize = 203_840;
@@ -12,8 +14,8 @@ const ROOM: usize = 203_840;
 enum Went {
     // To the end of the input, or to the record at which it stopped.
     Well,
-    NotRead,
-    NotWritten,
+    NotRead(Error),
+    NotWritten(Error),
 }
 
 #[derive(Drop)]
@@ -26,10 +28,10 @@ struct Input {
 #[derive(Drop)]
 struct Turn {
     reader: Reader,
-    written: bool,
+    written: std::io::Result<()>,
 }
 
-fn turned(reader: Reader, piece: &mut [u8], input: &[u8], out: &mut [u8]) -> Turn
+fn turned<R: Print>(rt: &R, reader: Reader, piece: &mut [u8], input: &[u8], out: &mut [u8]) -> Turn
     requires { ((reader.have < 64) × (length piece.old ≡ 64)) × (49 * (64 + length input.now) ≤ length out.old) }
     ensures { result.reader.have < 64 }
 {
@@ -37,54 +39,58 @@ fn turned(reader: Reader, piece: &mut [u8], input: &[u8], out: &mut [u8]) -> Tur
     let next = progress.reader;
     let wrote = progress.wrote;
     Turn {
-        written: io::write_all(STDOUT_FILENO, &out[0..wrote]),
+        written: rt.write_all(&out[..wrote]),
         reader: next,
     }
 }
 
 // Reads to the end of the input, or to the record at which the converter stops.
-fn read_all(fd: i32, piece: &mut [u8], input: &mut [u8], out: &mut [u8]) -> Input
+fn read_all<R: Print, F: Read>(
+    rt: &R,
+    from: &mut F,
+    piece: &mut [u8],
+    input: &mut [u8],
+    out: &mut [u8],
+) -> Input
     requires { (length piece.old ≡ 64) × (49 * (64 + length input.old) ≤ length out.old) }
     ensures { result.reader.have < 64 }
 {
     let mut reader = convert::new();
     // A proved loop has to end, and nothing says that a file does: no run uses this number up.
-    let mut turns = u64::MAX;
-    while 0 < turns {
-        let got = libc::read(fd, input);
-        if got < 0 {
-            return Input {
-                reader,
-                went: Went::NotRead,
-            };
-        }
-        let n = io::count(got, input);
+    for _ in 0..u64::MAX {
+        let n = match from.read(input) {
+            Ok(n) => n,
+            Err(error) => {
+                return Input {
+                    reader,
+                    went: Went::NotRead(error),
+                };
+            }
+        };
         if n == 0 {
             return Input {
                 reader,
                 went: Went::Well,
             };
         }
-        let turn = turned(reader, piece, &input[..n], out);
+        let turn = turned(rt, reader, piece, &input[..n], out);
         reader = turn.reader;
-        if !turn.written {
+        if let Err(error) = turn.written {
             return Input {
                 reader,
-                went: Went::NotWritten,
+                went: Went::NotWritten(error),
             };
         }
-        let c = reader.converter;
-        if c.stopped {
+        if reader.converter.stopped {
             return Input {
                 reader,
                 went: Went::Well,
             };
         }
-        turns -= 1;
     }
     Input {
         reader,
-        went: Went::NotRead,
+        went: Went::NotRead(Error::from(ErrorKind::FileTooLarge)),
     }
 }
 
@@ -97,19 +103,14 @@ fn bad(number: u64) {
     status::refused();
 }
 
-fn not_written() {
-    os::fail(b"standard output");
-    status::failed();
-}
-
 // What waits at the end, and the status.
-fn finish(reader: Reader, piece: &[u8], out: &mut [u8])
+fn finish<R: Print>(rt: &R, reader: Reader, piece: &[u8], out: &mut [u8])
     requires { (reader.have < 64) × (length piece.now ≡ 64) × (49 * 64 ≤ length out.old) }
 {
     let progress = convert::last(reader, piece, out);
     let wrote = progress.wrote;
-    if !io::write_all(STDOUT_FILENO, &out[0..wrote]) {
-        not_written();
+    if let Err(error) = rt.write_all(&out[..wrote]) {
+        print::not_written(&error);
         return;
     }
     let r = progress.reader;
@@ -127,20 +128,16 @@ fn no_out() -> [u8; ROOM]
     [0; ROOM]
 }
 
-// Converts all of a descriptor; a read that fails gets one line.
-pub fn run(fd: i32, name: &[u8]) {
+// Converts all of a file or of standard input; a read that fails gets one line.
+pub fn run<R: Print, F: Read>(rt: &R, from: &mut F, name: &[u8]) {
     let mut piece = [0u8; 64];
     let mut input = io::buffer();
     let mut out = no_out();
-    let read = read_all(fd, &mut piece, &mut input, &mut out);
+    let read = read_all(rt, from, &mut piece, &mut input, &mut out);
     let reader = read.reader;
-    let went = read.went;
-    match went {
-        Went::Well => finish(reader, &piece, &mut out),
-        Went::NotRead => {
-            os::fail(name);
-            status::failed();
-        }
-        Went::NotWritten => not_written(),
+    match read.went {
+        Went::Well => finish(rt, reader, &piece, &mut out),
+        Went::NotRead(error) => print::failure(name, &error),
+        Went::NotWritten(error) => print::not_written(&error),
     }
 }

@@ -1,50 +1,41 @@
 // Converts a trace of short records to one of long records, from the named file or from standard input.
 #![tactic(auto)]
+
 mod input;
 
-use console::{print, status};
-use libc::STDIN_FILENO;
+use console::{files, print};
 use session_rules::Start;
+use std::rt::Runtime;
 use trace::Trace;
 use trace_arguments::reading;
 
 // A file that cannot be opened gets one line, and nothing else is done.
-fn from_file(which: usize) {
-    let mut path = io::buffer();
-    let n = os::arg(which, &mut path);
-    if os::errno() != 0 {
-        os::fail(b"file name");
-        status::failed();
+fn from_file(rt: &impl Runtime, which: usize) {
+    let mut name = io::buffer();
+    let Some((mut file, n)) = files::open(rt, which, &mut name) else {
         return;
-    }
-    let fd = os::open_read(&path[..n]);
-    if fd < 0 {
-        os::fail(&path[..n]);
-        status::failed();
-        return;
-    }
-    input::run(fd, &path[..n]);
-    libc::close(fd);
+    };
+    input::run(rt, &mut file, &name[..n]);
 }
 
 // 45 or 46, before anything is read.
-fn shut(number: u8) {
+fn shut(rt: &impl Runtime, number: u8) {
     let mut text = io::buffer();
     let n = ledger_text::shut(&mut text, number);
-    print::answer(&text[..n], false);
+    print::answer(rt, &text[..n], false);
 }
 
-fn read(which: usize) {
+fn read(rt: &impl Runtime, which: usize) {
     if which == 0 {
-        input::run(STDIN_FILENO, b"standard input");
+        input::run(rt, &mut rt.reader(), b"standard input");
     } else {
-        from_file(which);
+        from_file(rt, which);
     }
 }
 
 // The options are those of a replay: they are checked, and change nothing of what is written.
-fn main() {
-    let call = reading::read(1);
+fn main(rt: HostRuntime) {
+    let call = reading::read(&rt, 1);
     if !reading::is_right(call) {
         print::problem(b"wrong arguments: see palkodhen --help\n");
         return;
@@ -52,7 +43,7 @@ fn main() {
     let begun = Trace::new(trace_arguments::opening(call.frame, call.payload));
     let start = begun.start;
     match start {
-        Start::Open => read(call.file),
-        Start::Refused(number) => shut(number),
+        Start::Open => read(&rt, call.file),
+        Start::Refused(number) => shut(&rt, number),
     }
 }

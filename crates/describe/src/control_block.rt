@@ -1,10 +1,11 @@
 // `describe control FILE`: the clock frequency and the entities of a control block, or its refusal.
 use console::{files, print};
+use std::rt::Runtime;
 
 // One byte more than a block may have shows a file that is too long.
-pub fn describe(which: usize) {
+pub fn describe(rt: &impl Runtime, which: usize) {
     let mut buf = [0u8; 4097];
-    let file = files::load(which, &mut buf);
+    let file = files::load(rt, which, &mut buf);
     let n = file.count;
     if !file.fine {
         return;
@@ -13,5 +14,5 @@ pub fn describe(which: usize) {
     let c = control::read(&buf[..n]);
     let verdict = c.verdict;
     let k = block_text::control(&mut text, c);
-    print::answer(&text[..k], block_text::is_accepted(verdict));
+    print::answer(rt, &text[..k], block_text::is_accepted(verdict));
 }

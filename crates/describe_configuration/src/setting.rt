@@ -1,29 +1,31 @@
 // `describe setting FILE INTERFACE PAYLOAD`: the setting that is picked, or a refusal.
 use crate::whole::FILE_MOST;
 use arguments::Number;
-use console::{files, print};
+use console::{files, print, words};
 use interfaces::{INTERFACES_MOST, Stream};
-use libc::STDERR_FILENO;
+use std::rt::Runtime;
+
+const STDERR_FILENO: i32 = 2;
 
 // The largest payload size.
 const PAYLOAD: u32 = 4294967295;
 
-pub fn describe(which: usize, first: usize, second: usize) {
+pub fn describe(rt: &impl Runtime, which: usize, first: usize, second: usize) {
     let mut text = [0u8; 16];
-    let k = os::arg(first, &mut text);
+    let k = words::word(rt, first, &mut text);
     let interface = arguments::byte_of(&text[..k]);
     if 255 < interface {
         print::problem(b"INTERFACE: not a decimal number from 0 to 255\n");
         return;
     }
     let mut word = [0u8; 16];
-    let m = os::arg(second, &mut word);
+    let m = words::word(rt, second, &mut word);
     let Number::Is(payload) = arguments::read(&word[..m], PAYLOAD) else {
         print::problem(b"PAYLOAD: not a decimal number from 0 to 4,294,967,295\n");
         return;
     };
     let mut buf = [0u8; FILE_MOST];
-    let file = files::load(which, &mut buf);
+    let file = files::load(rt, which, &mut buf);
     let n = file.count;
     if !file.fine {
         return;
@@ -31,10 +33,10 @@ pub fn describe(which: usize, first: usize, second: usize) {
     let place = device_file::find(&buf[..n]);
     let from = place.offset;
     let to = from + place.length;
-    show(&buf[from..to], interface as u8, payload);
+    show(rt, &buf[from..to], interface as u8, payload);
 }
 
-fn show(s: &[u8], interface: u8, payload: u32) {
+fn show(rt: &impl Runtime, s: &[u8], interface: u8, payload: u32) {
     let mut lines = [0u8; configuration_text::ROOM];
     let p = picking::pick(s, interface, payload);
     let verdict = p.verdict;
@@ -45,7 +47,7 @@ fn show(s: &[u8], interface: u8, payload: u32) {
             b"INTERFACE: the configuration has no streaming interface of this number\n",
         );
     }
-    print::answer(&lines[..j], block_text::is_accepted(verdict));
+    print::answer(rt, &lines[..j], block_text::is_accepted(verdict));
 }
 
 // Whether the configuration is accepted, and lists no streaming interface of this number.
@@ -60,15 +62,10 @@ fn is_missing(s: &[u8], interface: u8) -> bool {
 }
 
 fn is_listed(streams: [Stream; INTERFACES_MOST], count: usize, interface: u8) -> bool {
-    let mut i: usize = 0;
-    while i < INTERFACES_MOST {
-        let e = streams[i];
-        if i < count {
-            if e.interface == interface {
-                return true;
-            }
+    for i in 0..INTERFACES_MOST {
+        if i < count && streams[i].interface == interface {
+            return true;
         }
-        i += 1;
     }
     false
 }

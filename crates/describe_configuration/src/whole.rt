@@ -1,12 +1,13 @@
 // `describe configuration FILE`: the control interface, the streaming interfaces and their settings, or a refusal.
 use console::{files, print};
+use std::rt::Runtime;
 
 // A device descriptor, the largest number that a configuration can give as its length, and one byte more.
 pub const FILE_MOST: usize = 65554;
 
-pub fn describe(which: usize) {
+pub fn describe(rt: &impl Runtime, which: usize) {
     let mut buf = [0u8; FILE_MOST];
-    let file = files::load(which, &mut buf);
+    let file = files::load(rt, which, &mut buf);
     let n = file.count;
     if !file.fine {
         return;
@@ -14,13 +15,13 @@ pub fn describe(which: usize) {
     let place = device_file::find(&buf[..n]);
     let from = place.offset;
     let to = from + place.length;
-    show(&buf[from..to]);
+    show(rt, &buf[from..to]);
 }
 
-fn show(s: &[u8]) {
+fn show(rt: &impl Runtime, s: &[u8]) {
     let mut text = [0u8; configuration_text::ROOM];
     let c = configuration::read(s);
     let verdict = c.verdict;
     let k = configuration_text::configuration(&mut text, s, c);
-    print::answer(&text[..k], block_text::is_accepted(verdict));
+    print::answer(rt, &text[..k], block_text::is_accepted(verdict));
 }

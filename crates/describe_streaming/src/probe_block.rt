@@ -1,20 +1,21 @@
 // `describe probe CONTROL STREAMING PROBE`: the fields of a probe block that the streaming block offers, or a refusal.
 use crate::streaming_block;
 use console::{files, print};
+use std::rt::Runtime;
 
-pub fn describe() {
-    let known = streaming_block::control_of(2);
+pub fn describe(rt: &impl Runtime) {
+    let known = streaming_block::control_of(rt, 2);
     if !known.fine {
         return;
     }
     let mut block = [0u8; 16385];
-    let first = files::load(3, &mut block);
+    let first = files::load(rt, 3, &mut block);
     let n = first.count;
     if !first.fine {
         return;
     }
     let mut bytes = [0u8; 49];
-    let second = files::load(4, &mut bytes);
+    let second = files::load(rt, 4, &mut bytes);
     let m = second.count;
     if !second.fine {
         return;
@@ -26,5 +27,5 @@ pub fn describe() {
     let p = read.probe;
     let mut text = [0u8; block_text::ROOM];
     let k = block_text::probe(&mut text, verdict, p);
-    print::answer(&text[..k], block_text::is_accepted(verdict));
+    print::answer(rt, &text[..k], block_text::is_accepted(verdict));
 }

@@ -1,45 +1,43 @@
 // Prints the ledger of a trace, from the named file or from standard input.
 #![tactic(auto)]
-use console::status;
+
+use console::{files, print, words};
 use frame_lines::Show;
-use libc::{STDERR_FILENO, STDIN_FILENO};
 use records::Form;
+use std::rt::Runtime;
 
 // A file that cannot be opened gets one line, and nothing else is done.
-fn from_file() {
-    let mut path = io::buffer();
-    let n = os::arg(1, &mut path);
-    if os::errno() != 0 {
-        os::fail(b"file name");
-        status::failed();
+fn from_file(rt: &impl Runtime) {
+    let mut name = io::buffer();
+    let Some((mut file, n)) = files::open(rt, 1, &mut name) else {
         return;
-    }
-    let fd = os::open_read(&path[..n]);
-    if fd < 0 {
-        os::fail(&path[..n]);
-        status::failed();
-        return;
-    }
-    trace_console::run(Show::Nothing, trace::LEDGER, Form::Short, fd, &path[..n]);
-    libc::close(fd);
-}
-
-fn main() {
-    let n = os::arg_count();
-    if 2 < n {
-        io::write_all(STDERR_FILENO, b"wrong arguments: see palkodhen --help\n");
-        status::failed();
-        return;
-    }
-    if n == 2 {
-        from_file();
-        return;
-    }
+    };
     trace_console::run(
+        rt,
         Show::Nothing,
         trace::LEDGER,
         Form::Short,
-        STDIN_FILENO,
+        &mut file,
+        &name[..n],
+    );
+}
+
+fn main(rt: HostRuntime) {
+    let n = words::count(&rt);
+    if 2 < n {
+        print::problem(b"wrong arguments: see palkodhen --help\n");
+        return;
+    }
+    if n == 2 {
+        from_file(&rt);
+        return;
+    }
+    trace_console::run(
+        &rt,
+        Show::Nothing,
+        trace::LEDGER,
+        Form::Short,
+        &mut rt.stdin(),
         b"standard input",
     );
 }

@@ -1,9 +1,10 @@
 // `replay` or `frames`, options and a file: what the frames of a trace came to, from the named file or from standard input.
 #![tactic(auto)]
-use console::{print, status};
+
+use console::{files, print, words};
 use frame_lines::Show;
-use libc::STDIN_FILENO;
 use sizes::Opening;
+use std::rt::Runtime;
 use trace_arguments::reading;
 use trace_arguments::reading::Call;
 
@@ -12,27 +13,17 @@ fn wrong() {
 }
 
 // A file that cannot be opened gets one line, and nothing else is done.
-fn from_file(show: Show, opening: Opening, call: Call) {
-    let mut path = io::buffer();
-    let n = os::arg(call.file, &mut path);
-    if os::errno() != 0 {
-        os::fail(b"file name");
-        status::failed();
+fn from_file(rt: &impl Runtime, show: Show, opening: Opening, call: Call) {
+    let mut name = io::buffer();
+    let Some((mut file, n)) = files::open(rt, call.file, &mut name) else {
         return;
-    }
-    let fd = os::open_read(&path[..n]);
-    if fd < 0 {
-        os::fail(&path[..n]);
-        status::failed();
-        return;
-    }
+    };
     let form = call.form;
-    trace_console::run(show, opening, form, fd, &path[..n]);
-    libc::close(fd);
+    trace_console::run(rt, show, opening, form, &mut file, &name[..n]);
 }
 
-fn start(show: Show) {
-    let call = reading::read(2);
+fn start(rt: &impl Runtime, show: Show) {
+    let call = reading::read(rt, 2);
     if !reading::is_right(call) {
         wrong();
         return;
@@ -40,21 +31,21 @@ fn start(show: Show) {
     let opening = trace_arguments::opening(call.frame, call.payload);
     if call.file == 0 {
         let form = call.form;
-        trace_console::run(show, opening, form, STDIN_FILENO, b"standard input");
+        trace_console::run(rt, show, opening, form, &mut rt.reader(), b"standard input");
         return;
     }
-    from_file(show, opening, call);
+    from_file(rt, show, opening, call);
 }
 
-fn main() {
+fn main(rt: HostRuntime) {
     let mut word = [0u8; 16];
-    let n = os::arg(1, &mut word);
+    let n = words::word(&rt, 1, &mut word);
     if check::same(&word[..n], b"replay") {
-        start(Show::Replay);
+        start(&rt, Show::Replay);
         return;
     }
     if check::same(&word[..n], b"frames") {
-        start(Show::Frames);
+        start(&rt, Show::Frames);
         return;
     }
     wrong();

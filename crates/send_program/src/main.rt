@@ -1,9 +1,11 @@
 // `PAYLOAD [--stamp TICKS] FILE ..`: a long trace of the files' bytes as frames, cut into transfers of this size by one sender, then close.
 #![tactic(auto)]
+
 mod sending;
 
 use arguments::Number;
-use console::print;
+use console::{print, words};
+use std::rt::Runtime;
 use trace_arguments::Word;
 
 // What stands for no number.
@@ -14,16 +16,16 @@ fn wrong() {
 }
 
 // Argument `which` as a number up to `most`.
-fn number(which: usize, most: u32) -> Number {
+fn number(rt: &impl Runtime, which: usize, most: u32) -> Number {
     let mut text = [0u8; 32];
-    let n = os::arg(which, &mut text);
+    let n = words::word(rt, which, &mut text);
     arguments::read(&text[..n], most)
 }
 
 // Whether argument `which` is `--stamp`.
-fn is_stamp(which: usize) -> bool {
+fn is_stamp(rt: &impl Runtime, which: usize) -> bool {
     let mut text = io::buffer();
-    let n = os::arg(which, &mut text);
+    let n = words::word(rt, which, &mut text);
     match trace_arguments::word_of(&text[..n]) {
         Word::Stamp => true,
         Word::Sizes => false,
@@ -34,18 +36,16 @@ fn is_stamp(which: usize) -> bool {
 }
 
 // Whether the arguments from `first` on are all files, and there is one.
-fn are_files(first: usize, count: usize) -> bool {
+fn are_files(rt: &impl Runtime, first: usize, count: usize) -> bool {
     if count <= first {
         return false;
     }
     let mut text = io::buffer();
-    let mut i = first;
-    while i < count {
-        let n = os::arg(i, &mut text);
+    for i in first..count {
+        let n = words::word(rt, i, &mut text);
         if !is_file(&text[..n]) {
             return false;
         }
-        i += 1;
     }
     true
 }
@@ -60,32 +60,32 @@ fn is_file(word: &[u8]) -> bool {
     }
 }
 
-fn stamped(payload: usize, count: usize) {
-    let Number::Is(ticks) = number(3, u32::MAX) else {
+fn stamped(rt: &impl Runtime, payload: usize, count: usize) {
+    let Number::Is(ticks) = number(rt, 3, u32::MAX) else {
         wrong();
         return;
     };
-    if !are_files(4, count) {
+    if !are_files(rt, 4, count) {
         wrong();
         return;
     }
-    sending::all(payload, true, ticks, 4, count);
+    sending::all(rt, payload, true, ticks, 4, count);
 }
 
-fn main() {
-    let count = os::arg_count();
-    let payload = arguments::or_else(number(1, NO_PAYLOAD - 1), NO_PAYLOAD);
+fn main(rt: HostRuntime) {
+    let count = words::count(&rt);
+    let payload = arguments::or_else(number(&rt, 1, NO_PAYLOAD - 1), NO_PAYLOAD);
     if payload == NO_PAYLOAD {
         wrong();
         return;
     }
-    if is_stamp(2) {
-        stamped(payload as usize, count);
+    if is_stamp(&rt, 2) {
+        stamped(&rt, payload as usize, count);
         return;
     }
-    if !are_files(2, count) {
+    if !are_files(&rt, 2, count) {
         wrong();
         return;
     }
-    sending::all(payload as usize, false, 0, 2, count);
+    sending::all(&rt, payload as usize, false, 0, 2, count);
 }

@@ -2,10 +2,15 @@
 ghost use Rattle.std.specs.Prelude.{◌≡◌, length};
 ghost use Rattle.long_records.specs.Long.{long_size, data_most};
 
-use console::{files, status};
-use libc::{STDERR_FILENO, STDOUT_FILENO};
+use console::{files, print, status};
 use sender::{Sender, Sending};
 use session_rules::Stamp;
+use std::io::{Error, Print};
+use std::rt::Runtime;
+
+const STDOUT_FILENO: i32 = 1;
+
+const STDERR_FILENO: i32 = 2;
 
 // What became of a frame.
 #[derive(Drop)]
@@ -13,7 +18,7 @@ enum Went {
     Sent,
     // 80 or 81.
     Refused(u8),
-    NotWritten,
+    NotWritten(Error),
 }
 
 // One byte more than a frame may have shows a file that is too long. It is on the stack, which is to be as large: `ulimit -s 32768`.
@@ -36,7 +41,8 @@ fn no_record() -> [u8; 3076]
 }
 
 // The transfers of one frame, to its last.
-fn one(
+fn one<R: Print>(
+    rt: &R,
     first: Sender,
     frame: &[u8],
     payload: usize,
@@ -48,8 +54,7 @@ fn one(
 {
     let mut x = first;
     // A proved loop has to end: each call sends a byte or more, and a frame has no more than this.
-    let mut turns: u32 = 16_777_217;
-    while 0 < turns {
+    for _ in 0..16_777_217u32 {
         let sent = send_records::next(x, frame, payload, stamp, room, out);
         x = sent.sender;
         let sending = sent.sending;
@@ -61,12 +66,11 @@ fn one(
                 return Went::Sent;
             }
             Sending::Wrote(_) => {
-                if !io::write_all(STDOUT_FILENO, out) {
-                    return Went::NotWritten;
+                if let Err(error) = rt.write_all(out) {
+                    return Went::NotWritten(error);
                 }
             }
         }
-        turns -= 1;
     }
     Went::Sent
 }
@@ -85,19 +89,13 @@ fn refused(number: u8) {
     status::refused();
 }
 
-fn not_written() {
-    os::fail(b"standard output");
-    status::failed();
-}
-
-fn close(out: &mut [u8])
+fn close<R: Print>(rt: &R, out: &mut [u8])
     requires { length out.old ≡ long_size }
 {
     long_records::write(out, 0, 2, b"");
-    if io::write_all(STDOUT_FILENO, out) {
-        status::answered();
-    } else {
-        not_written();
+    match rt.write_all(out) {
+        Ok(()) => status::answered(),
+        Err(error) => print::not_written(&error),
     }
 }
 
@@ -115,8 +113,8 @@ fn is_sent(went: Went) -> bool {
             refused(number);
             false
         }
-        Went::NotWritten => {
-            not_written();
+        Went::NotWritten(error) => {
+            print::not_written(&error);
             false
         }
     }
@@ -124,6 +122,7 @@ fn is_sent(went: Went) -> bool {
 
 // The files of the arguments from `first` on; whether all were sent.
 fn frames(
+    rt: &impl Runtime,
     payload: usize,
     stamped: bool,
     ticks: u32,
@@ -137,15 +136,14 @@ fn frames(
 {
     let mut x = Sender::new();
     let mut stamp: u32 = 0;
-    let mut i = first;
-    while i < count {
-        let after = i + 1;
-        let file = files::load(i, buffer);
+    for i in first..count {
+        let file = files::load(rt, i, buffer);
         if !file.fine {
             return false;
         }
         let n = file.count;
         let went = one(
+            rt,
             x,
             &buffer[..n],
             payload,
@@ -158,16 +156,23 @@ fn frames(
         }
         x = x.next();
         stamp = send_records::later(stamp, ticks);
-        i = after;
     }
     true
 }
 
-pub fn all(payload: usize, stamped: bool, ticks: u32, first: usize, count: usize) {
+pub fn all(
+    rt: &impl Runtime,
+    payload: usize,
+    stamped: bool,
+    ticks: u32,
+    first: usize,
+    count: usize,
+) {
     let mut buffer = no_frame();
     let mut room = no_room();
     let mut out = no_record();
     if frames(
+        rt,
         payload,
         stamped,
         ticks,
@@ -177,7 +182,7 @@ pub fn all(payload: usize, stamped: bool, ticks: u32, first: usize, count: usize
         &mut room,
         &mut out,
     ) {
-        close(&mut out);
+        close(rt, &mut out);
     } else {
         break_off();
     }

@@ -2,27 +2,28 @@
 use crate::words;
 use camera_settings::{RequestFound, SettingFound};
 use console::{files, print};
+use std::rt::Runtime;
 
-pub fn build() {
-    let interface = words::byte(3, b"INTERFACE");
+pub fn build(rt: &impl Runtime) {
+    let interface = words::byte(rt, 3, b"INTERFACE");
     if 255 < interface {
         return;
     }
-    let unit = words::byte(4, b"UNIT");
+    let unit = words::byte(rt, 4, b"UNIT");
     if 255 < unit {
         return;
     }
-    let SettingFound::Is(setting) = words::setting(5) else {
+    let SettingFound::Is(setting) = words::setting(rt, 5) else {
         words::no_setting();
         return;
     };
-    let RequestFound::Is(request) = words::request(6) else {
+    let RequestFound::Is(request) = words::request(rt, 6) else {
         words::no_request();
         return;
     };
     // One byte more than a block may have shows a file that is too long.
     let mut block = [0u8; 4097];
-    let file = files::load(2, &mut block);
+    let file = files::load(rt, 2, &mut block);
     let n = file.count;
     if !file.fine {
         return;
@@ -38,5 +39,5 @@ pub fn build() {
     );
     let mut text = [0u8; block_text::ROOM];
     let k = setup_text::built(&mut text, verdict, packet);
-    print::answer(&text[..k], block_text::is_accepted(verdict));
+    print::answer(rt, &text[..k], block_text::is_accepted(verdict));
 }

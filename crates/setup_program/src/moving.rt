@@ -2,25 +2,26 @@
 use crate::words;
 use camera_settings::SettingFound;
 use console::print;
+use std::rt::Runtime;
 
-pub fn nearest() {
-    let SettingFound::Is(setting) = words::setting(2) else {
+pub fn nearest(rt: &impl Runtime) {
+    let SettingFound::Is(setting) = words::setting(rt, 2) else {
         words::no_setting();
         return;
     };
-    let minimum = words::word(3, b"MIN", setting);
+    let minimum = words::word(rt, 3, b"MIN", setting);
     if 65535 < minimum {
         return;
     }
-    let maximum = words::word(4, b"MAX", setting);
+    let maximum = words::word(rt, 4, b"MAX", setting);
     if 65535 < maximum {
         return;
     }
-    let step = words::word(5, b"STEP", setting);
+    let step = words::word(rt, 5, b"STEP", setting);
     if 65535 < step {
         return;
     }
-    let wanted = words::word(6, b"WANTED", setting);
+    let wanted = words::word(rt, 6, b"WANTED", setting);
     if 65535 < wanted {
         return;
     }
@@ -34,5 +35,5 @@ pub fn nearest() {
     let verdict = moved.verdict;
     let mut text = [0u8; block_text::ROOM];
     let k = setup_text::moved_to(&mut text, setting, moved);
-    print::answer(&text[..k], block_text::is_accepted(verdict));
+    print::answer(rt, &text[..k], block_text::is_accepted(verdict));
 }

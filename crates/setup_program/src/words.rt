@@ -5,17 +5,19 @@ ghost use Rattle.setup_arguments.specs.Arguments.{SettingNamed, RequestNamed, wo
 
 use camera_settings::{RequestFound, Setting, SettingFound};
 use console::print;
-use libc::STDERR_FILENO;
+use std::env::Env;
+
+const STDERR_FILENO: i32 = 2;
 
 // What stands for no word of 16 bits.
 const NO_WORD: u32 = 65536;
 
 // Argument `which` as a number from 0 to 255, or 256 where it is none and a line says so. No contract can say what an argument is: here and below it is some text.
-pub fn byte(which: usize, name: &[u8]) -> u32
+pub fn byte(rt: &impl Env, which: usize, name: &[u8]) -> u32
     ensures { (text : List ℕ) × (result ≡ byte_of text) }
 {
     let mut text = [0u8; 16];
-    let k = os::arg(which, &mut text);
+    let k = console::words::word(rt, which, &mut text);
     let n = arguments::byte_of(&text[..k]);
     if 255 < n {
         wrong(name, b": not a decimal number from 0 to 255\n");
@@ -24,11 +26,11 @@ pub fn byte(which: usize, name: &[u8]) -> u32
 }
 
 // Argument `which` as the word of a number of the setting, or 65,536 where it is none and a line says so.
-pub fn word(which: usize, name: &[u8], setting: Setting) -> u32
+pub fn word(rt: &impl Env, which: usize, name: &[u8], setting: Setting) -> u32
     ensures { (text : List ℕ) × (result ≡ number_or 65536 (word_of setting text)) }
 {
     let mut text = [0u8; 16];
-    let k = os::arg(which, &mut text);
+    let k = console::words::word(rt, which, &mut text);
     let n = arguments::or_else(setup_arguments::word_of(setting, &text[..k]), NO_WORD);
     if 65535 < n {
         outside(name, setting);
@@ -37,20 +39,20 @@ pub fn word(which: usize, name: &[u8], setting: Setting) -> u32
 }
 
 // Argument `which` as the name of a setting.
-pub fn setting(which: usize) -> SettingFound
+pub fn setting(rt: &impl Env, which: usize) -> SettingFound
     ensures { (text : List ℕ) × SettingNamed text result }
 {
     let mut text = [0u8; 16];
-    let k = os::arg(which, &mut text);
+    let k = console::words::word(rt, which, &mut text);
     setup_arguments::setting_named(&text[..k])
 }
 
 // Argument `which` as the name of a request.
-pub fn request(which: usize) -> RequestFound
+pub fn request(rt: &impl Env, which: usize) -> RequestFound
     ensures { (text : List ℕ) × RequestNamed text result }
 {
     let mut text = [0u8; 16];
-    let k = os::arg(which, &mut text);
+    let k = console::words::word(rt, which, &mut text);
     setup_arguments::request_named(&text[..k])
 }
 

@@ -1,5 +1,6 @@
 // The words of `convert`, `replay` and `frames`, and of `send`.
 #![tactic(auto)]
+
 pub mod reading;
 
 ghost use Rattle.std.specs.Prelude.{◌≡◌, true};
@@ -7,7 +8,7 @@ ghost use Rattle.trace_arguments.specs.Words.{dashed, opening_of, Reads};
 
 use sizes::{HeaderKind, Opening};
 
-#[derive(Drop)]
+#[derive(Clone, Copy)]
 pub enum Word {
     Sizes,
     Short,

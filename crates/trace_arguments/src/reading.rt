@@ -6,9 +6,10 @@ ghost use Rattle.trace_arguments.specs.Words.{opening_of, is_right};
 use crate::Word;
 use arguments::Number;
 use records::Form;
+use std::env::{Env, FillError};
 
 // What the next word is.
-#[derive(Drop)]
+#[derive(Clone, Copy)]
 pub enum Awaits {
     Any,
     Frame,
@@ -17,7 +18,7 @@ pub enum Awaits {
     Nothing,
 }
 
-#[derive(Drop)]
+#[derive(Clone, Copy)]
 pub struct Call {
     pub awaits: Awaits,
     pub frame: u32,
@@ -54,15 +55,16 @@ fn no_word() -> Call
 }
 
 // The call of the arguments from `first` on. Options stand in any order, before or behind the file; a later one takes an earlier one's place.
-pub fn read(first: usize) -> Call {
+// A word too long for any option is a file.
+pub fn read<R: Env>(rt: &R, first: usize) -> Call {
     let mut text = [0u8; 512];
     let mut call = no_word();
-    let count = os::arg_count();
-    let mut i = first;
-    while i < count {
-        let n = os::arg(i, &mut text);
-        call = take(call, i, &text[..n]);
-        i += 1;
+    for i in first..usize::MAX {
+        match rt.arg(i, &mut text) {
+            Ok(n) => call = take(call, i, &text[..n]),
+            Err(FillError::TooLong) => call = take(call, i, b""),
+            Err(FillError::NotPresent) => break,
+        }
     }
     call
 }
