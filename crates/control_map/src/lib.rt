@@ -1,5 +1,6 @@
 // The control-map reader: the control bytes of a camera terminal or a processing unit, and how many there are.
 #![tactic(auto)]
+
 ghost use Rattle.std.specs.Prelude.{◌≡◌, ◌<◌};
 ghost use Rattle.rules.specs.declared.Verdict.TheVariants.{Accepted};
 ghost use Rattle.entities.specs.Table.{found_among};

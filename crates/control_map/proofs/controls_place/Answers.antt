@@ -1,3 +1,4 @@
+use native.Mathlib.Omega.{arith}
 use Rattle.control_rules.specs.Descriptors.{kind_of}
 use Rattle.control_map.specs.Inner.{place_by}
 use Rattle.control_map.proofs.Mapping.{place-else}
@@ -12,4 +13,4 @@ unfolding kind_of place_by
 returns-in-5 c = rw c.in-5.is
 
 pub returns-in_default : goal.returns-in_default
-returns-in_default c = place-else _ _ c.in_default.rest.0.1 c.in_default.rest.1
+returns-in_default c = place-else c.args.terminal c.args.kind (λ e. omega arith) (λ e. omega arith)
