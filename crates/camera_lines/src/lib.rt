@@ -1,5 +1,6 @@
 // What is printed of one descriptor of a configuration, for a person.
 #![tactic(auto)]
+
 ghost use Rattle.std.specs.Prelude.{◌≡◌, ◌+◌, ◌≤◌, ◌<◌, length};
 ghost use Rattle.text.specs.Put.{Put};
 ghost use Rattle.camera_lines.specs.Parts.{room, part_after, part_by, class_part, header_part, is_streaming, interface_part, other_part};
