@@ -1,5 +1,6 @@
 // Takes one transfer a call, in a session whose record C keeps: sixteen words, and the ledger's numbers.
 #![tactic(auto)]
+
 ghost use Rattle.std.specs.Prelude.{◌≡◌, length};
 ghost use Rattle.session_rules.specs.Accounts.{number_count};
 ghost use Rattle.session_rules.specs.Session.{take_of, buffer_of};

@@ -1,5 +1,6 @@
 // A session's words, as a host in C keeps them, and what it is told of a call. Each rest of a session has one form in words; words of no form are refused.
 #![tactic(auto)]
+
 pub mod telling;
 pub mod words;
 

@@ -1,3 +1,4 @@
+use Rattle.std.proofs.Common.{arith}
 use borrow.Author.Tests.{ne_eqb}
 use Rattle.rules.specs.IfElse.{if_else}
 use Rattle.one_call.specs.Words.{fault_in}
@@ -33,4 +34,4 @@ returns-in-6 c = rw c.in-6.is
 
 pub returns-in_default : goal.returns-in_default
 unfolding fault_in if_else
-returns-in_default c = let r = c.in_default.rest in rw (ne_eqb _ 0 r.0.0.0.0.0.0.1, ne_eqb _ 1 r.0.0.0.0.0.1, ne_eqb _ 2 r.0.0.0.0.1, ne_eqb _ 3 r.0.0.0.1, ne_eqb _ 4 r.0.0.1, ne_eqb _ 5 r.0.1, ne_eqb _ 6 r.1)
+returns-in_default c = rw (ne_eqb c.args.x 0 (omega arith), ne_eqb c.args.x 1 (omega arith), ne_eqb c.args.x 2 (omega arith), ne_eqb c.args.x 3 (omega arith), ne_eqb c.args.x 4 (omega arith), ne_eqb c.args.x 5 (omega arith), ne_eqb c.args.x 6 (omega arith))

@@ -6,5 +6,9 @@ use Rattle.one_call.proofs.palkodhen_call.Goals as goal
 pub returns : goal.returns
 returns c =
     let x = c.take-taken in
-    let same = rw c.rest_in-rest.ensures at x.ensures.0 in
-    let both = (c.set.ensures ∙ ap answered_in same, (ap (λ (y : Taken). y.session.numbers) same, rw c.rest_in-rest.ensures at x.ensures.1)) in record { w_after = both.0; m_after = both.1; buffer_after = both.2 }
+    let same = rw c.rest_in-rest.ensures at x.ensures.m_after in
+    record {
+      w_after = c.set.ensures ∙ ap answered_in same;
+      m_after = ap (λ (y : Taken). y.session.numbers) same;
+      buffer_after = rw c.rest_in-rest.ensures at x.ensures.buffer_after;
+    }

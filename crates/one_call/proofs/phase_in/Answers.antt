@@ -1,3 +1,4 @@
+use Rattle.std.proofs.Common.{arith}
 use borrow.Author.Tests.{ne_eqb}
 use Rattle.rules.specs.IfElse.{if_else}
 use Rattle.one_call.specs.Words.{phase_in}
@@ -13,4 +14,4 @@ returns-in-1 c = rw c.in-1.is
 
 pub returns-in_default : goal.returns-in_default
 unfolding phase_in if_else
-returns-in_default c = let r = c.in_default.rest in rw (ne_eqb _ 0 r.0.1, ne_eqb _ 1 r.1)
+returns-in_default c = rw (ne_eqb c.args.x 0 (omega arith), ne_eqb c.args.x 1 (omega arith))
