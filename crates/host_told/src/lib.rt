@@ -1,5 +1,6 @@
 // What a C host is told of a verdict: one struct by value, in two registers.
 #![tactic(auto)]
+
 ghost use Rattle.std.specs.Prelude.{◌≡◌};
 ghost use Rattle.host_told.specs.Told.{number_of, offset_of, verdict_told, unknown_told};
 
