@@ -1,5 +1,6 @@
 // Takes transfers in a session, over and over: for a C program that times it.
 #![tactic(auto)]
+
 ghost use Rattle.std.specs.Prelude.{◌≡◌};
 ghost use Rattle.sizes.specs.declared.HeaderKind.TheVariants.{Old};
 ghost use Rattle.exports.specs.Taking.{opened, took_all, delivered_of};
