@@ -1,5 +1,6 @@
 // Which intervals a frame offers: those that could be its default (34 and 44). Intervals count 100 ns.
 #![tactic(auto)]
+
 ghost use Rattle.std.specs.Prelude.{◌≡◌, ◌+◌, ◌*◌, ◌≤◌, ◌<◌, length};
 ghost use Rattle.intervals.specs.Intervals.{span, list_at, rises, among, stepped, offered};
 
