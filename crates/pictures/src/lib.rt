@@ -1,7 +1,8 @@
 // Whether the sizes of a frame can be true, by its format's GUID sort and bits per pixel (39).
 #![tactic(auto)]
+
 ghost use Rattle.std.specs.Prelude.{◌≡◌, ◌*◌, leb};
-ghost use Rattle.pictures.specs.Pictures.{bits_of, in_bytes, untrue as untrueBy};
+ghost use Rattle.pictures.specs.Pictures.{bits_of, in_bytes, untrue as untrue_by};
 
 // The bits per pixel that a GUID sort has; 0 where 39 is not asked.
 fn bits_of(sort: u8) -> u8
@@ -25,7 +26,7 @@ fn holds(width: u16, height: u16, bits: u8, size: u32) -> bool
 
 // 39: whether these sizes cannot be true.
 pub fn untrue(sort: u8, bits: u8, width: u16, height: u16, size: u32) -> bool
-    ensures { result ≡ untrueBy sort bits width height size }
+    ensures { result ≡ untrue_by sort bits width height size }
 {
     let right = bits_of(sort);
     if right == 0 {
