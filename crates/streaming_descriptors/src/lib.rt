@@ -1,5 +1,6 @@
 // The descriptors of a streaming block: their kinds and lengths, and what a format and a frame give.
 #![tactic(auto)]
+
 ghost use Rattle.std.specs.Prelude.{◌≡◌, true, ◌+◌, ◌^◌, ◌≤◌, ◌<◌, length, eqb};
 ghost use Rattle.le.specs.Le.{byte, le32_at};
 ghost use Rattle.rules.specs.IfElse.{if_else};

@@ -1,7 +1,8 @@
 use Rattle.streaming_descriptors.proofs.Subtypes.{within, below, above}
 use Rattle.streaming_descriptors.specs.Descriptors.{kind_of}
 use Rattle.rules.specs.IfElse.{if_else}
-use mathlib.Core.Logic.{⊎_elim, inl, inr}
+use native.Mathlib.Omega.{arith}
+use mathlib.Core.Logic.{⊎_elim}
 use Rattle.streaming_descriptors.proofs.kind_of.Goals as goal
 
 pub returns-in-1 : goal.returns-in-1
@@ -37,10 +38,10 @@ unfolding kind_of if_else
 returns-in-10 c = ⊎_elim (λ e. rw e) (λ e. rw e) c.in-10.is
 
 pub returns-in-18-to-24 : goal.returns-in-18-to-24
-returns-in-18-to-24 c = let r = c.in_default-1.rest in within _ r.0.0.0.0.0.0.0.1 r.0.0.0.0.0.0.1 r.0.0.0.0.0.1 r.0.0.0.0.1 r.0.0.0.1 r.0.0.1 r.0.1 (λ e. r.1 (inl e)) (λ e. r.1 (inr e)) c.if-sub-lt16.false c.if-sub-lt25.true
+returns-in-18-to-24 c = within c.args.sub (λ e. omega arith) (λ e. omega arith) (λ e. omega arith) (λ e. omega arith) (λ e. omega arith) (λ e. omega arith) (λ e. omega arith) (λ e. grind arith) (λ e. grind arith) (omega arith) (omega arith)
 
 pub returns-in_default : goal.returns-in_default
-returns-in_default c = let r = c.in_default-1.rest in below _ r.0.0.0.0.0.0.0.1 r.0.0.0.0.0.0.1 r.0.0.0.0.0.1 r.0.0.0.0.1 r.0.0.0.1 r.0.0.1 r.0.1 (λ e. r.1 (inl e)) (λ e. r.1 (inr e)) c.if-sub-lt16.true
+returns-in_default c = below c.args.sub (λ e. omega arith) (λ e. omega arith) (λ e. omega arith) (λ e. omega arith) (λ e. omega arith) (λ e. omega arith) (λ e. omega arith) (λ e. grind arith) (λ e. grind arith) (omega arith)
 
 pub returns-in_default-2 : goal.returns-in_default-2
-returns-in_default-2 c = let r = c.in_default-1.rest in above _ r.0.0.0.0.0.0.0.1 r.0.0.0.0.0.0.1 r.0.0.0.0.0.1 r.0.0.0.0.1 r.0.0.0.1 r.0.0.1 r.0.1 (λ e. r.1 (inl e)) (λ e. r.1 (inr e)) c.if-sub-lt25.false
+returns-in_default-2 c = above c.args.sub (λ e. omega arith) (λ e. omega arith) (λ e. omega arith) (λ e. omega arith) (λ e. omega arith) (λ e. omega arith) (λ e. omega arith) (λ e. grind arith) (λ e. grind arith) (omega arith)

@@ -1,4 +1,5 @@
 use Rattle.streaming_descriptors.specs.Descriptors.{format_layout}
+use native.Mathlib.Omega.{arith}
 use Rattle.rules.specs.IfElse.{if_else}
 use Rattle.streaming_descriptors.proofs.Subtypes.{no-layout}
 use Rattle.streaming_descriptors.proofs.layout_of.Goals as goal
@@ -16,4 +17,4 @@ unfolding format_layout if_else
 returns-in-16 c = rw c.in-16.is
 
 pub returns-in_default : goal.returns-in_default
-returns-in_default c = no-layout _ c.in_default.rest.0.0.1 c.in_default.rest.0.1 c.in_default.rest.1
+returns-in_default c = no-layout c.args.format (λ e. omega arith) (λ e. omega arith) (λ e. omega arith)
