@@ -1,5 +1,6 @@
 // A line of text for a frame that ended: as a replay prints it, or as the list of all frames does.
 #![tactic(auto)]
+
 ghost use Rattle.std.specs.Prelude.{◌≡◌, ◌+◌, ◌<◌, ◌≤◌, length};
 ghost use Rattle.text.specs.Put.{Put};
 ghost use Rattle.endings.specs.declared.How.{How};

@@ -1,5 +1,6 @@
 // A trace of records of either form, read as many at a time as come, and what is printed of it.
 #![tactic(auto)]
+
 ghost use Rattle.std.specs.Prelude.{◌≡◌, ◌≤◌, length};
 ghost use Rattle.session_rules.specs.Accounts.{number_count};
 ghost use Rattle.records.specs.Form.{size_of, most_of};

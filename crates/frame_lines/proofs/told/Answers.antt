@@ -11,7 +11,7 @@ returns-in-Nothing-show c = let both = told-unshown _ _ _ _ _ _ c.in-Frame.is c.
 
 -- src/lib.rt:193:1
 pub returns-in-Replay : goal.returns-in-Replay
-returns-in-Replay c = let both = told-replayed _ _ _ _ _ _ _ _ _ c.in-Frame.is c.in-Replay.is c.replayed.ensures in record { put = both.0; counted_value = both.1 }
+returns-in-Replay c = let both = told-replayed _ _ _ _ _ _ _ _ _ c.in-Frame.is c.in-Replay.is (c.replayed.ensures.put, c.replayed.ensures.counted_value) in record { put = both.0; counted_value = both.1 }
 
 -- src/lib.rt:193:1
 pub returns-in-Frames : goal.returns-in-Frames

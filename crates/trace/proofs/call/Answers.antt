@@ -3,6 +3,7 @@ use Rattle.trace.proofs.Branches.{call-transfer, call-lost, call-close}
 use Rattle.session.specs.Inner.{whole_of}
 use Rattle.records.proofs.Branches.{size-least, head_few, head-most}
 use native.Mathlib.Omega.{arith}
+use borrow.Author.Rules.{rules}
 use Rattle.trace.proofs.call.Goals as goal
 
 -- src/lib.rt:163:16
@@ -26,12 +27,12 @@ pub returns-in-0 : goal.returns-in-0
 returns-in-0 c =
     let h = c.head-from.result in
     let n = c.length.result in
-    let both = call-transfer c.args.form (whole_of c.args.s c.args.m.now) c.args.r.now h n (h + n - h) _ _ c.in-0.is c.head-from.ensures c.length.ensures.0 (omega arith) c.transfer.ensures in record { m_after = both.0; said_value = both.1 }
+    let both = call-transfer c.args.form (whole_of c.args.s c.args.m.now) c.args.r.now h n (h + n - h) _ _ c.in-0.is c.head-from.ensures c.length.ensures.0 (omega arith) (c.transfer.ensures.m_after, c.transfer.ensures.said_value) in record { m_after = both.0; said_value = both.1 }
 
 -- src/lib.rt:158:1
 pub returns-in-1 : goal.returns-in-1
-returns-in-1 c = let both = call-lost c.args.form (whole_of c.args.s c.args.m.now) c.args.r.now _ _ c.in-1.is c.lost.ensures in record { m_after = both.0; said_value = both.1 }
+returns-in-1 c = let both = call-lost c.args.form (whole_of c.args.s c.args.m.now) c.args.r.now _ _ c.in-1.is (c.lost.ensures.m_after, c.lost.ensures.said_value) in record { m_after = both.0; said_value = both.1 }
 
 -- src/lib.rt:158:1
 pub returns-in_default : goal.returns-in_default
-returns-in_default c = let both = call-close c.args.form (whole_of c.args.s c.args.m.now) c.args.r.now _ _ c.in_default.rest.0.1 c.in_default.rest.1 c.close.ensures in record { m_after = both.0; said_value = both.1 }
+returns-in_default c = let both = call-close c.args.form (whole_of c.args.s c.args.m.now) c.args.r.now _ _ (search rules) (search rules) (c.close.ensures.m_after, c.close.ensures.said_value) in record { m_after = both.0; said_value = both.1 }

@@ -19,4 +19,4 @@ call-requires c = let w = fine c.args.form c.args.r.now (sym c.bad.ensures ∙ c
 
 -- src/lib.rt:176:1
 pub returns : goal.returns
-returns c = let both = step-called c.args.form (whole_of c.args.s c.args.m.now) c.args.r.now _ _ _ c.if-s.false c.bad.ensures c.if-bad.false c.call.ensures in record { m_after = both.0; said_value = both.1 }
+returns c = let both = step-called c.args.form (whole_of c.args.s c.args.m.now) c.args.r.now _ _ _ c.if-s.false c.bad.ensures c.if-bad.false (c.call.ensures.m_after, c.call.ensures.said_value) in record { m_after = both.0; said_value = both.1 }
