@@ -1,16 +1,17 @@
-/* Times proved functions: taking transfers (crates/exports), against the session in plain C; and reading blocks of three sizes (crates/host_camera).
+/* Times the proved functions that crates/exports hands to C: taking transfers, against the session in plain C; and reading blocks of three sizes.
    Figures are medians of eleven runs, and the runs alternate. */
 #include <stdio.h>
 #include <stdlib.h>
 #include <string.h>
 #include <time.h>
 
-#include "../library/palkodhen.h"
 #include "session.h"
 
 /* A slice is handed over as a pointer and a length. */
-uint64_t palkodhen_rounds(size_t frame, size_t payload, uint8_t framing, size_t size, uint64_t times, uint8_t *buffer, size_t room,
-                          const uint8_t *transfers, size_t length);
+uint64_t palkodhen_control(const uint8_t *block, size_t length);
+uint64_t palkodhen_streaming(const uint8_t *control, size_t control_length, const uint8_t *block, size_t length);
+uint64_t palkodhen_take(size_t frame, size_t payload, uint8_t framing, size_t size, uint64_t times, uint8_t *buffer, size_t room,
+                        const uint8_t *transfers, size_t length);
 
 /* session.c once more, with memcpy for its copying loop */
 unsigned memcpy_open(struct session *s, size_t frame, size_t payload, uint8_t framing, enum kind kind, size_t room);
@@ -50,7 +51,7 @@ static uint8_t random_byte(void) {
 static uint8_t transfers[ROUND * SIZE_MOST];
 
 static uint64_t ours(size_t size, uint64_t times, uint8_t *buffer) {
-    return palkodhen_rounds(FRAME, PAYLOAD, FRAMING, size, times, buffer, FRAME, transfers, ROUND * size);
+    return palkodhen_take(FRAME, PAYLOAD, FRAMING, size, times, buffer, FRAME, transfers, ROUND * size);
 }
 
 typedef unsigned opening(struct session *s, size_t frame, size_t payload, uint8_t framing, enum kind kind, size_t room);
@@ -198,13 +199,13 @@ static size_t make_streaming(uint8_t *b, size_t formats) {
 static uint8_t control[3][CONTROL_MOST], streaming[3][STREAMING_MOST], linked[32];
 static size_t control_length[3], streaming_length[3], linked_length;
 
-static uint64_t read_control(int k) { return palkodhen_control(control[k], control_length[k]).number; }
+static uint64_t read_control(int k) { return palkodhen_control(control[k], control_length[k]); }
 
-static uint64_t read_streaming(int k) { return palkodhen_streaming(linked, linked_length, streaming[k], streaming_length[k]).number; }
+static uint64_t read_streaming(int k) { return palkodhen_streaming(linked, linked_length, streaming[k], streaming_length[k]); }
 
 static uint64_t read_linked(int k) {
     (void)k;
-    return palkodhen_control(linked, linked_length).number;
+    return palkodhen_control(linked, linked_length);
 }
 
 /* microseconds of one reading, for each of the three blocks */

@@ -18,7 +18,7 @@ made() { echo "$here/crates/$1/out/$1"; }
 run_built() {
     built=$(made "$1")
     shift
-    "$built" "$@"
+    run "$built" "$@"
 }
 
 # whether the file is there and no source is newer

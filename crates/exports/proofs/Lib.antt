@@ -1,3 +1,4 @@
 -- The laws that belong to no one function.
+pub mod Verdicts
 pub mod Rounds
 pub mod Unique

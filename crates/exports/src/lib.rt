@@ -1,59 +1,64 @@
-// Takes transfers in a session, over and over: for a C program that times it.
+// Functions that a C program can link and time: numbers and byte slices alone.
 #![tactic(auto)]
 
+mod take;
+
 ghost use Rattle.std.specs.Prelude.{◌≡◌};
-ghost use Rattle.sizes.specs.declared.HeaderKind.TheVariants.{Old};
-ghost use Rattle.exports.specs.Taking.{opened, took_all, delivered_of};
+ghost use Rattle.exports.specs.Numbers.{number_of, number_under, ControlNumber, StreamingNumber, ConfigurationNumber};
 
-use recorder::Recorder;
-use session_rules::{Account, Ledger, Session};
-use sizes::{HeaderKind, Opening};
+use entities::Table;
+use rules::Verdict;
 
-// Opens a session, and takes the transfers of `size` bytes that lie one after another in `transfers`, all of them so many times. It answers the bytes delivered.
-#[unsafe(no_mangle)]
-pub extern "C" fn palkodhen_rounds(
-    frame: usize,
-    payload: usize,
-    framing: u8,
-    size: usize,
-    times: u64,
-    buffer: &mut [u8],
-    transfers: &[u8],
-) -> u64
-    ensures value { result ≡ delivered_of (took_all size transfers.now (opened (record { frame = frame; payload = payload; framing = framing; kind = Old }) buffer.old) times) }
-    ensures buffer_after { buffer.new ≡ (took_all size transfers.now (opened (record { frame = frame; payload = payload; framing = framing; kind = Old }) buffer.old) times).buffer }
+// 0 for accepted, else the number of the first broken rule.
+fn number_of(verdict: Verdict) -> u64
+    ensures { result ≡ number_of verdict }
 {
-    let start = Recorder::open(
-        Opening {
-            frame,
-            payload,
-            framing,
-            kind: HeaderKind::Old,
-        },
-        buffer,
-    );
-    let s = start.session;
-    let mut numbers = s.numbers;
-    let mut rest = s.rest;
-    if size == 0 {
-        return 0;
+    match verdict {
+        Verdict::Accepted => 0,
+        Verdict::Refused { number, offset: _ } => number as u64,
     }
-    if transfers.len() < size {
-        return 0;
-    }
-    let mut i: u64 = 0;
-    let mut at: usize = 0;
-    while i < times {
-        let end = at + size;
-        let taken = session::take(rest, &mut numbers, buffer, &transfers[at..end]);
-        rest = taken.rest;
-        at = end;
-        if transfers.len() - at < size {
-            at = 0;
-            i += 1;
+}
+
+// What reading a control block says.
+#[unsafe(no_mangle)]
+pub extern "C" fn palkodhen_control(block: &[u8]) -> u64
+    ensures { ControlNumber block.now result }
+{
+    let c = control::read(block);
+    let verdict = c.verdict;
+    number_of(verdict)
+}
+
+// What reading a streaming block says with a control block's table, after the control block's own refusal.
+#[unsafe(no_mangle)]
+pub extern "C" fn palkodhen_streaming(control: &[u8], block: &[u8]) -> u64
+    ensures { StreamingNumber control.now block.now result }
+{
+    let c = control::read(control);
+    let verdict = c.verdict;
+    let table = c.table;
+    number_under(verdict, table, block)
+}
+
+fn number_under(verdict: Verdict, table: Table, block: &[u8]) -> u64
+    ensures { result ≡ number_under verdict table block.now }
+{
+    match verdict {
+        Verdict::Refused { number, offset: _ } => number as u64,
+        Verdict::Accepted => {
+            let s = streaming::read(table, block);
+            let verdict = s.verdict;
+            number_of(verdict)
         }
     }
-    let last = rest.last;
-    let l = Ledger { numbers, last };
-    ledger::bytes(l, Account::Delivered)
+}
+
+// What reading a whole configuration says.
+#[unsafe(no_mangle)]
+pub extern "C" fn palkodhen_configuration(bytes: &[u8]) -> u64
+    ensures { ConfigurationNumber bytes.now result }
+{
+    let c = configuration::read(bytes);
+    let verdict = c.verdict;
+    number_of(verdict)
 }

@@ -5,7 +5,7 @@ use Rattle.sizes.specs.declared.HeaderKind.TheVariants.{Old}
 use Rattle.exports.specs.Taking.{opened}
 use Rattle.exports.proofs.Rounds.{Going}
 use Rattle.session.specs.Inner.{whole_of}
-use Rattle.exports.proofs.palkodhen_rounds.Given as goal
+use Rattle.exports.proofs.take.palkodhen_take.Given as goal
 
 abbrev pub invariant-loop-i : goal.invariant-loop-i
 invariant-loop-i l =

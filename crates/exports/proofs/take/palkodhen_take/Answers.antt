@@ -3,7 +3,7 @@ use lib.ListN.{length}
 use native.Mathlib.Omega.{arith}
 use Rattle.exports.proofs.Rounds.{round-less, going_start, going_more, going-round, all-taken, no_size, too_short}
 use borrow.Author.Rules.{rules}
-use Rattle.exports.proofs.palkodhen_rounds.Goals as goal
+use Rattle.exports.proofs.take.palkodhen_take.Goals as goal
 
 pub returns-then-size-eq0 : goal.returns-then-size-eq0
 returns-then-size-eq0 c = let both = no_size _ _ _ _ _ c.if-size-eq0.true in record { value = both.0; buffer_after = both.1 }
