@@ -10,7 +10,7 @@ use Rattle.exports.proofs.take.palkodhen_take.Given as goal
 abbrev pub invariant-loop-i : goal.invariant-loop-i
 invariant-loop-i l =
     (length l.buffer ≡ length l.initial.buffer) × (0 < l.size) × (l.at + l.size ≤ length l.transfers) × (l.i ≤ l.times)
-    × Going l.size l.times l.transfers (opened (record { l.frame = l.frame; l.payload = l.payload; l.framing = l.framing; kind = Old }) l.initial.buffer) l.buffer (whole_of l.rest l.numbers) l.i l.at
+    × Going l.size l.times l.transfers (opened (record { frame = l.frame; payload = l.payload; framing = l.framing; kind = Old }) l.initial.buffer) l.buffer (whole_of l.rest l.numbers) l.i l.at
 
 abbrev pub decreases-loop-i : goal.decreases-loop-i
 decreases-loop-i l = (l.times - l.i) * (length l.transfers + 1) + (length l.transfers - l.at)
