@@ -1,6 +1,7 @@
 -- What the inner contracts cite: the calls on the record's two parts, of which the numbers are lent. Nothing here needs to be believed.
 use Rattle.std.specs.Prelude.{ℕ, ◌+◌, ◌≤◌, ◌≡◌, List, length, drop}
 use Rattle.std.proofs.Math.Seq.{paste}
+use Rattle.rules.specs.Numbered.{first_row}
 use Rattle.session_rules.specs.declared.Fate.{Fate}
 use Rattle.session_rules.specs.declared.Outcome.{Outcome}
 use Rattle.session_rules.specs.declared.Session.{Session}
@@ -12,7 +13,8 @@ use Rattle.session.specs.declared.RestClosed.{RestClosed}
 use Rattle.session_rules.specs.declared.Taken.{Taken}
 use Rattle.session_rules.specs.declared.Reported.{Reported}
 use Rattle.session_rules.specs.declared.Closed.{Closed}
-use Rattle.session_rules.specs.Session.{plainly, buffer_of}
+use Rattle.session_rules.specs.Refusals.{take_rows}
+use Rattle.session_rules.specs.Session.{plainly, buffer_by, buffer_of}
 pub use Rattle.short_way.specs.Inner.{whole_of, kept_with, Ready, GoesOn}
 
 abbrev pub taken_with : RestTaken → List ℕ → Taken
@@ -35,6 +37,10 @@ HasRoom frame buffer = (length buffer ≡ 0 → ⊥) → frame ≤ length buffer
 -- what a call with that room leaves in a buffer of that length; one of no bytes has nothing to say
 abbrev pub Written : Session → ℕ → List ℕ → List ℕ → List ℕ → Type 0
 Written s room buffer t after = length buffer ≡ room → after ≡ buffer_of s buffer t
+
+-- what a call with that room makes of a buffer
+abbrev pub buffer_for : Session → ℕ → List ℕ → List ℕ → List ℕ
+buffer_for s room buffer t = buffer_by (first_row (take_rows s room (length t))) s buffer t
 
 -- the short way's answer
 abbrev pub kept_of : Rest → RestTaken
