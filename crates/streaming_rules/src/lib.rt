@@ -1,5 +1,6 @@
 // The rules of a streaming block's descriptors: 20 to 35, 39 and 40.
 #![tactic(auto)]
+
 ghost use Rattle.std.specs.Prelude.{◌≡◌, true, ◌+◌, ◌≤◌, ◌<◌, length};
 ghost use Rattle.rules.specs.Numbered.{first_row};
 ghost use Rattle.streaming_descriptors.specs.Descriptors.{kind_at, len_at, shape, format_layout, frame_length_at, format_of};
