@@ -24,7 +24,7 @@ use Rattle.streaming_descriptors.specs.declared.Format.{Format}
 use Rattle.streaming_rules.proofs.Fine.{head-numbered}
 use Rattle.rules.specs.Place.{first_place}
 use Rattle.streaming.specs.Answer.{Seen, format_count, count_under, refused_by, accepted_with}
-use Rattle.streaming.specs.Inner.{count_broken, default_broken, late_by, late, answer, after_walk, walked, after_head, streaming_of}
+use Rattle.streaming.specs.Inner.{count_broken, default_broken, late_by, late, answer, after_walk, after_head, streaming_of}
 use Rattle.streaming.specs.Broken.{BlockRight, block_course, format_in, CountWrong, DefaultWrong, Walked, Sound, FirstBroken, by-block, by-descriptor, by-36, by-37, by-38}
 use Rattle.streaming.specs.declared.Streaming.{Streaming}
 use Rattle.rules.proofs.Places.{Says, first-place}

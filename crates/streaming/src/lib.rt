@@ -1,5 +1,6 @@
 // Reads the class-specific descriptors of a VideoStreaming interface (20 to 38).
 #![tactic(auto)]
+
 ghost use Rattle.std.specs.Prelude.{◌≡◌, ◌+◌, ◌≤◌, ◌<◌, get_or};
 ghost use Rattle.streaming_descriptors.specs.Descriptors.{no_format};
 ghost use Rattle.streaming_rules.specs.Rules.{formats_most};

@@ -1,5 +1,4 @@
 use Rattle.rules.proofs.Places.{seek, found_here, not-here, none_here}
-use Rattle.streaming.specs.Inner.{default_broken}
 use native.Mathlib.Omega.{arith}
 use mathlib.Core.Path.{sym, ◌∙◌}
 use Rattle.streaming.proofs.first_default.Goals as goal

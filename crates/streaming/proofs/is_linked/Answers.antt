@@ -6,10 +6,10 @@ use Rattle.streaming.proofs.is_linked.Goals as goal
 
 pub offset_bounds-table-i : goal.offset_bounds-table-i
 offset_bounds-table-i c = omega
-    (arith, found_inside c.args.t1 _ _ entities_most _ (search length-of) c.find.ensures c.in-At.is)
+    (arith, found_inside c.args.table _ _ entities_most _ (search length-of) c.find.ensures c.in-At.is)
 
 pub bounds-table-i : goal.bounds-table-i
-bounds-table-i c = found_inside c.args.t1 _ _ entities_most _ (search length-of) c.find.ensures c.in-At.is
+bounds-table-i c = found_inside c.args.table _ _ entities_most _ (search length-of) c.find.ensures c.in-At.is
 
 pub returns-in-At : goal.returns-in-At
 returns-in-At c = linked-at _ _ _ _ _ c.find.ensures c.in-At.is c.is_output.ensures
