@@ -1,5 +1,6 @@
 // The probe and commit block of 26, 34 or 48 bytes, by the revision: reading and writing it (41).
 #![tactic(auto)]
+
 ghost use Rattle.std.specs.Prelude.{◌≡◌, ◌+◌, ◌/◌, ◌%◌, ◌≤◌, ◌<◌, length};
 ghost use Rattle.probe.specs.Fields.{probe_size, bytes_at, fields_of, bytes_of, no_fields, probe_of, room_verdict, written, WritesBack, ReadsBack};
 ghost use Rattle.le.specs.Le.{le16_at, le32_at};
