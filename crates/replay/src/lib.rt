@@ -1,5 +1,6 @@
 // A trace that comes in reads of any size, read in constant memory, with a line for each frame that ended as it is shown.
 #![tactic(auto)]
+
 ghost use Rattle.std.specs.Prelude.{◌≡◌, ◌+◌, ◌≤◌, ◌<◌, ◌++◌, length, take};
 ghost use Rattle.text.specs.Put.{Put};
 ghost use Rattle.records.specs.Form.{size_of};

@@ -12,4 +12,4 @@ returns-then-is_silent c = let both = lined-silent c.args.show c.args.c _ _
 -- src/lib.rt:118:1
 pub returns : goal.returns
 returns c = let both = lined-told c.args.show c.args.c _ _ _ (tell_said c.args.form c.args.before c.args.r.now c.args.said)
-    _ _ _ c.told-ended.ensures c.tell.ensures in record { put = both.0; counted_value = both.1 }
+    _ _ _ c.told-ended.ensures (c.tell.ensures.put, c.tell.ensures.counted_value) in record { put = both.0; counted_value = both.1 }

@@ -16,13 +16,13 @@ slice_bounds-taken-end c = omega (arith, c.head-from.ensures, c.length.ensures.0
 
 -- src/lib.rt:86:1
 pub returns-in-Nothing : goal.returns-in-Nothing
-returns-in-Nothing c = tells-nothing _ _ _ _ c.in-Nothing.is
+returns-in-Nothing c = tells-nothing c.args.form c.args.before c.args.r.now _ c.in-Nothing.is
 
 -- src/lib.rt:86:1
 pub returns-in-Transfer : goal.returns-in-Transfer
-returns-in-Transfer c = tells-transfer _ _ _ _ _ _ _ _ c.in-Transfer.is c.head-from.ensures c.length.ensures.0
+returns-in-Transfer c = tells-transfer c.args.form c.args.before c.args.r.now _ _ _ _ _ c.in-Transfer.is c.head-from.ensures c.length.ensures.0
     c.taken.ensures
 
 -- src/lib.rt:86:1
 pub returns-in-Close : goal.returns-in-Close
-returns-in-Close c = tells-close _ _ _ _ _ _ c.in-Close.is c.closed.ensures
+returns-in-Close c = tells-close c.args.form c.args.before c.args.r.now _ _ _ c.in-Close.is c.closed.ensures
