@@ -1,5 +1,6 @@
 // Which frames a call ended, with their length and their first stamp: what the programs print a line for.
 #![tactic(auto)]
+
 ghost use Rattle.std.specs.Prelude.{◌≡◌, length};
 ghost use Rattle.session_rules.specs.Transfer.{reading_of};
 ghost use Rattle.session_rules.specs.Turns.{same_of, earlier_of};
