@@ -1,5 +1,6 @@
 // Camera settings: builds the setup packets of an accepted control block's processing units, and reads them back (90, 91, 94, 95).
 #![tactic(auto)]
+
 ghost use Rattle.std.specs.Prelude.{◌≡◌};
 ghost use Rattle.rules.specs.declared.Verdict.TheVariants.{Accepted};
 ghost use Rattle.control.specs.Answer.{ControlIs};

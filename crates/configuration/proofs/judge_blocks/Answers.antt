@@ -24,8 +24,8 @@ entries_named-requires c = streams-few _ _ c.listed-l.ensures
 
 pub returns-then-not-entries_named : goal.returns-then-not-entries_named
 returns-then-not-entries_named c = late-73 _ _ c.requires _ c.block_at-b.ensures _ c.read-c.ensures c.in_default.is _
-    c.listed-l.ensures _ c.entries_named.ensures (not-true _ c.if-not-entries_named.true)
+    c.listed-l.ensures _ c.entries_named.ensures c.if-not-entries_named.true
 
 pub returns : goal.returns
 returns c = late-rest _ _ c.requires _ c.block_at-b.ensures _ c.read-c.ensures c.in_default.is _
-    c.listed-l.ensures _ c.entries_named.ensures (not-false _ c.if-not-entries_named.false) _ c.streams_verdict.ensures
+    c.listed-l.ensures _ c.entries_named.ensures c.if-not-entries_named.false _ c.streams_verdict.ensures

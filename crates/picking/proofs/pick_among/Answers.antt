@@ -6,10 +6,10 @@ pub returns-then-i-count : goal.returns-then-i-count
 returns-then-i-count c = search no_stream
 
 pub offset_bounds-streams-i : goal.offset_bounds-streams-i
-offset_bounds-streams-i c = omega (arith, place_in c.args.t2 _ c.args.interface _ c.place_of-i.ensures c.if-i-count.false c.requires)
+offset_bounds-streams-i c = omega (arith, place_in c.args.streams _ c.args.interface _ c.place_of-i.ensures c.if-i-count.false c.requires)
 
 pub bounds-streams-i : goal.bounds-streams-i
-bounds-streams-i c = place_in c.args.t2 _ c.args.interface _ c.place_of-i.ensures c.if-i-count.false c.requires
+bounds-streams-i c = place_in c.args.streams _ c.args.interface _ c.place_of-i.ensures c.if-i-count.false c.requires
 
 pub returns-in-Nothing : goal.returns-in-Nothing
 returns-in-Nothing c = none-large _ _ _ _ _ _ c.place_of-i.ensures c.if-i-count.false _ c.fewest.ensures c.in-Nothing.is _ c.refused-in-Nothing.ensures
