@@ -1,4 +1,3 @@
-use Rattle.setup.proofs.Units.{turned-true, turned-false}
 use Rattle.setup.proofs.Deciding.{gives-90, gives-91, gives-ready}
 use Rattle.setup.proofs.ready_in.Goals as goal
 
