@@ -1,5 +1,6 @@
 // The arguments of `setup`: the names of settings and requests, and the numbers of a setting as words.
 #![tactic(auto)]
+
 ghost use Rattle.std.specs.Prelude.{◌≡◌};
 ghost use Rattle.setup_arguments.specs.Arguments.{SettingNamed, RequestNamed, minus_of, signed_of, word_of};
 

@@ -1,3 +1,5 @@
+use Rattle.setup_arguments.specs.Arguments.{RequestNamed.unnamed}
+use Rattle.setup_arguments.specs.Arguments.{RequestNamed.named}
 use mathlib.Core.Path.{◌≡◌}
 use Rattle.camera_settings.specs.declared.Request.TheVariants.{GetCur, GetMin, GetMax, GetRes, GetDef, SetCur}
 use Rattle.camera_settings.proofs.Known.{each-request}

@@ -1,3 +1,5 @@
+use Rattle.setup_arguments.specs.Arguments.{SettingNamed.unnamed}
+use Rattle.setup_arguments.specs.Arguments.{SettingNamed.named}
 use mathlib.Core.Path.{◌≡◌}
 use Rattle.camera_settings.specs.declared.Setting.TheVariants.{Brightness, Contrast, Hue, Saturation}
 use Rattle.camera_settings.proofs.Known.{each-setting}
