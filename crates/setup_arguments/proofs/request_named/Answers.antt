@@ -4,6 +4,7 @@ use mathlib.Core.Path.{◌≡◌}
 use Rattle.camera_settings.specs.declared.Request.TheVariants.{GetCur, GetMin, GetMax, GetRes, GetDef, SetCur}
 use Rattle.camera_settings.proofs.Known.{each-request}
 use Rattle.setup_lines.specs.Lines.{request_name}
+use Rattle.setup_arguments.specs.Arguments.{RequestNamed.named, RequestNamed.unnamed}
 use Rattle.setup_arguments.proofs.Words.{unlike}
 use Rattle.setup_arguments.proofs.request_named.Goals as goal
 

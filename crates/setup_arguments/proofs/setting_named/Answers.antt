@@ -4,6 +4,7 @@ use mathlib.Core.Path.{◌≡◌}
 use Rattle.camera_settings.specs.declared.Setting.TheVariants.{Brightness, Contrast, Hue, Saturation}
 use Rattle.camera_settings.proofs.Known.{each-setting}
 use Rattle.setup_lines.specs.Lines.{setting_name}
+use Rattle.setup_arguments.specs.Arguments.{SettingNamed.named, SettingNamed.unnamed}
 use Rattle.setup_arguments.proofs.Words.{unlike}
 use Rattle.setup_arguments.proofs.setting_named.Goals as goal
 
