@@ -1,5 +1,6 @@
 // A session for a host in C, which keeps the ledger's numbers and the session's words and lends them to each call.
 #![tactic(auto)]
+
 mod packets;
 
 ghost use Rattle.std.specs.Prelude.{◌≡◌, true, false, length, get_or};

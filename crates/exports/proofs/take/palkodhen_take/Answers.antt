@@ -31,13 +31,13 @@ pub loop-i-preserved-then-transfers-at : goal.loop-i-preserved-then-transfers-at
 loop-i-preserved-then-transfers-at c = let x = c.take-taken in
     let o = c.loop-i in
     let q : length x.new.buffer ≡ length o.buffer = search rules in
-    (omega (arith, q, o.invariant.0), o.invariant.1, search rules, search rules, going-round _ _ _ _ _ _ _ _ o.invariant.4 _ x.result _ x.ensures.0 x.ensures.1 o.invariant.2 c.if-transfers-at.true)
+    (omega (arith, q, o.invariant.0), o.invariant.1, search rules, search rules, going-round _ _ _ _ _ _ _ _ o.invariant.4 _ x.result _ x.ensures.m_after x.ensures.buffer_after o.invariant.2 c.if-transfers-at.true)
 
 pub loop-i-preserved : goal.loop-i-preserved
 loop-i-preserved c = let x = c.take-taken in
     let o = c.loop-i in
     let q : length x.new.buffer ≡ length o.buffer = search rules in
-    (omega (arith, q, o.invariant.0), o.invariant.1, search rules, o.invariant.3, going_more _ _ _ _ _ _ _ _ o.invariant.4 _ x.result _ x.ensures.0 x.ensures.1 c.loop-i-test.true)
+    (omega (arith, q, o.invariant.0), o.invariant.1, search rules, o.invariant.3, going_more _ _ _ _ _ _ _ _ o.invariant.4 _ x.result _ x.ensures.m_after x.ensures.buffer_after c.loop-i-test.true)
 
 pub returns : goal.returns
 returns c =
