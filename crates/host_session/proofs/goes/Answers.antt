@@ -5,22 +5,22 @@ use borrow.Author.Rules.{rules}
 use Rattle.host_session.proofs.goes.Goals as goal
 
 pub returns-then-not-is_plain : goal.returns-then-not-is_plain
-returns-then-not-is_plain c = nothing c.before.args.m.now c.before.args.w.now c.before.args.buffer.now c.before.args.t.now c.before.args.known c.before.requires.0
+returns-then-not-is_plain c = nothing c.args.m.now c.args.w.now c.args.buffer.now c.args.t.now c.args.known c.requires.0
 
 pub refusal-requires : goal.refusal-requires
-refusal-requires c = (c.before.before.before.requires.0, λ a. rw c.rest_in-rest.ensures (c.before.before.before.requires.1.1 a))
+refusal-requires c = (c.requires.0, λ a. rw c.rest_in-rest.ensures (c.requires.1.1 a))
 
 pub keep-next-requires : goal.keep-next-requires
-keep-next-requires c = record { places = search rules; free = sym c.refusal.ensures ∙ c.if-refusal-eq0.true; under = c.phase-1.given.1; on = sym c.goes_on.ensures ∙ c.if-goes_on.true }
+keep-next-requires c = record { places = search rules; free = sym c.refusal.ensures ∙ c.if-refusal-eq0.true; under = c.in-Under.is; on = sym c.goes_on.ensures ∙ c.if-goes_on.true }
 
 pub returns-then-refusal-eq0 : goal.returns-then-refusal-eq0
-returns-then-refusal-eq0 c = gone c.before.before.before.args.m.now c.before.before.before.args.w.now c.before.before.before.args.buffer.now c.before.before.before.args.t.now _ _ _ c.before.before.before.args.known c.rest_in-rest.result c.keep-next.result _ c.rest_in-rest.ensures (c.is_plain.ensures (not-false _ c.if-not-is_plain.false)) (record { places = c.before.before.before.requires.0; free = sym c.refusal.ensures ∙ c.if-refusal-eq0.true; under = c.phase-1.given.1; on = sym c.goes_on.ensures ∙ c.if-goes_on.true }) c.before.before.before.requires.1.1 c.keep-next.ensures.m_after c.write.ensures c.keep-next.ensures.buffer_after
+returns-then-refusal-eq0 c = gone c.args.m.now c.args.w.now c.args.buffer.now c.args.t.now _ _ _ c.args.known c.rest_in-rest.result c.keep-next.result _ c.rest_in-rest.ensures (c.is_plain.ensures c.if-not-is_plain.false) (record { places = c.requires.0; free = sym c.refusal.ensures ∙ c.if-refusal-eq0.true; under = c.in-Under.is; on = sym c.goes_on.ensures ∙ c.if-goes_on.true }) c.requires.1.1 c.keep-next.ensures.m_after c.write.ensures c.keep-next.ensures.buffer_after
 
 pub returns-else-refusal-eq0 : goal.returns-else-refusal-eq0
-returns-else-refusal-eq0 c = nothing c.before.before.before.args.m.now c.before.before.before.args.w.now c.before.before.before.args.buffer.now c.before.before.before.args.t.now c.before.before.before.args.known c.before.before.before.requires.0
+returns-else-refusal-eq0 c = nothing c.args.m.now c.args.w.now c.args.buffer.now c.args.t.now c.args.known c.requires.0
 
 pub returns-else-goes_on : goal.returns-else-goes_on
-returns-else-goes_on c = nothing c.before.before.args.m.now c.before.before.args.w.now c.before.before.args.buffer.now c.before.before.args.t.now c.before.before.args.known c.before.before.requires.0
+returns-else-goes_on c = nothing c.args.m.now c.args.w.now c.args.buffer.now c.args.t.now c.args.known c.requires.0
 
 pub returns-in_default : goal.returns-in_default
-returns-in_default c = nothing c.before.before.args.m.now c.before.before.args.w.now c.before.before.args.buffer.now c.before.before.args.t.now c.before.before.args.known c.before.before.requires.0
+returns-in_default c = nothing c.args.m.now c.args.w.now c.args.buffer.now c.args.t.now c.args.known c.requires.0

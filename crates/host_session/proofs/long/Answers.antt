@@ -8,11 +8,23 @@ use Rattle.host_session.proofs.long.Goals as goal
 
 pub returns-in-Broken : goal.returns-in-Broken
 returns-in-Broken c =
-    let e = broken c.before.args.m.now c.before.args.w.now c.before.args.buffer.now c.before.args.t.now _ _ c.read.ensures c.in-Broken.is in
-    let both = (c.refused.ensures ∙ ap (λ (x : Left). x.told) (sym e), (ap (λ (x : Left). x.numbers) (sym e), (ap (λ (x : Left). x.words) (sym e), (ap (λ (x : Left). x.buffer) (sym e), c.before.requires)))) in record { value = both.0; m_after = both.1; w_after = both.2; buffer_after = both.3; m_len = both.4 }
+    let e = broken c.args.m.now c.args.w.now c.args.buffer.now c.args.t.now _ _ c.read.ensures c.in-Broken.is in
+    record {
+      value = c.refused.ensures ∙ ap (λ (x : Left). x.told) (sym e);
+      m_after = ap (λ (x : Left). x.numbers) (sym e);
+      w_after = ap (λ (x : Left). x.words) (sym e);
+      buffer_after = ap (λ (x : Left). x.buffer) (sym e);
+      m_len = c.requires;
+    }
 
 pub returns-in-Laid : goal.returns-in-Laid
 returns-in-Laid c =
-    let e = laid c.before.args.m.now c.before.args.w.now c.before.args.buffer.now c.before.args.t.now _ _ c.read.ensures c.in-Laid.is in
+    let e = laid c.args.m.now c.args.w.now c.args.buffer.now c.args.t.now _ _ c.read.ensures c.in-Laid.is in
     let f = c.take-x.ensures.m_after in
-    let both = (c.outcome.ensures ∙ ap (λ (x : Taken). outcome_told x.outcome) f ∙ ap (λ (x : Left). x.told) (sym e), (ap (λ (x : Taken). x.session.numbers) f ∙ ap (λ (x : Left). x.numbers) (sym e), (c.write.ensures ∙ ap (λ (x : Taken). words_of x.session.rest) f ∙ ap (λ (x : Left). x.words) (sym e), (c.take-x.ensures.buffer_after ∙ ap (λ (x : Left). x.buffer) (sym e), take_places _ c.before.args.m.now c.before.args.buffer.now c.before.args.t.now _ _ c.before.requires f refl)))) in record { value = both.0; m_after = both.1; w_after = both.2; buffer_after = both.3; m_len = both.4 }
+    record {
+      value = c.outcome.ensures ∙ ap (λ (x : Taken). outcome_told x.outcome) f ∙ ap (λ (x : Left). x.told) (sym e);
+      m_after = ap (λ (x : Taken). x.session.numbers) f ∙ ap (λ (x : Left). x.numbers) (sym e);
+      w_after = c.write.ensures ∙ ap (λ (x : Taken). words_of x.session.rest) f ∙ ap (λ (x : Left). x.words) (sym e);
+      buffer_after = c.take-x.ensures.buffer_after ∙ ap (λ (x : Left). x.buffer) (sym e);
+      m_len = take_places _ c.args.m.now c.args.buffer.now c.args.t.now _ _ c.requires f refl;
+    }

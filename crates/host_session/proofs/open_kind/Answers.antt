@@ -6,4 +6,8 @@ use Rattle.host_session.proofs.open_kind.Goals as goal
 pub returns : goal.returns
 returns c =
     let e = opened c.args.o c.args.room _ c.open_for-x.ensures in
-    let both = (c.start.ensures ∙ ap (λ (x : Said). x.number) (sym e), (ap (λ (x : Said). x.numbers) (sym e), c.write.ensures ∙ ap (λ (x : Said). x.words) (sym e))) in record { value = both.0; m_after = both.1; w_after = both.2 }
+    record {
+      value = c.start.ensures ∙ ap (λ (x : Said). x.number) (sym e);
+      m_after = ap (λ (x : Said). x.numbers) (sym e);
+      w_after = c.write.ensures ∙ ap (λ (x : Said). x.words) (sym e);
+    }

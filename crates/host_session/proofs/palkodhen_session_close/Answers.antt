@@ -5,10 +5,18 @@ use Rattle.host_session.proofs.palkodhen_session_close.Goals as goal
 
 pub returns-in-Broken : goal.returns-in-Broken
 returns-in-Broken c =
-    let e = close-broken c.before.args.m.now c.before.args.w.now _ _ c.read.ensures c.in-Broken.is in
-    let both = (c.refused.ensures ∙ ap (λ (x : Left). x.told) (sym e), (ap (λ (x : Left). x.numbers) (sym e), ap (λ (x : Left). x.words) (sym e))) in record { value = both.0; m_after = both.1; w_after = both.2 }
+    let e = close-broken c.args.m.now c.args.w.now _ _ c.read.ensures c.in-Broken.is in
+    record {
+      value = c.refused.ensures ∙ ap (λ (x : Left). x.told) (sym e);
+      m_after = ap (λ (x : Left). x.numbers) (sym e);
+      w_after = ap (λ (x : Left). x.words) (sym e);
+    }
 
 pub returns-in-Laid : goal.returns-in-Laid
 returns-in-Laid c =
-    let e = close-laid c.before.args.m.now c.before.args.w.now _ _ _ c.read.ensures c.in-Laid.is c.close-x.ensures in
-    let both = (c.closing.ensures ∙ ap (λ (x : Left). x.told) (sym e), (ap (λ (x : Left). x.numbers) (sym e), c.write.ensures ∙ ap (λ (x : Left). x.words) (sym e))) in record { value = both.0; m_after = both.1; w_after = both.2 }
+    let e = close-laid c.args.m.now c.args.w.now _ _ _ c.read.ensures c.in-Laid.is c.close-x.ensures in
+    record {
+      value = c.closing.ensures ∙ ap (λ (x : Left). x.told) (sym e);
+      m_after = ap (λ (x : Left). x.numbers) (sym e);
+      w_after = c.write.ensures ∙ ap (λ (x : Left). x.words) (sym e);
+    }

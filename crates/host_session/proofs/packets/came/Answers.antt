@@ -9,7 +9,7 @@ pub long-told-requires : goal.long-told-requires
 long-told-requires c = c.tries.ensures.places
 
 pub is_sound-requires : goal.is_sound-requires
-is_sound-requires c = c.long-told.ensures.m_after.1.1.1
+is_sound-requires c = c.long-told.ensures.m_len
 
 pub returns : goal.returns
-returns c = let n = c.tries.ensures.no c.if-tries.false in let l = rw (n.0, n.1.0, n.1.1) at c.long-told.ensures in record { told = l.0; numbers = l.1.0; words = l.1.1.0; buffer = l.1.1.1.0; sound = c.is_sound.ensures; places = l.1.1.1.1 }
+returns c = let n = c.tries.ensures.no c.if-tries.false in let l = rw (n.0, n.1.0, n.1.1) at c.long-told.ensures in record { told = l.value; numbers = l.m_after; words = l.w_after; buffer = l.buffer_after; sound = c.is_sound.ensures; places = l.m_len }

@@ -10,10 +10,10 @@ use borrow.Author.Rules.{rules}
 use Rattle.host_session.proofs.packets.palkodhen_session_packets.Goals as goal
 
 pub loop-k-init : goal.loop-k-init
-loop-k-init c = at-start c.before.before.args.m.now c.before.before.args.w.now c.before.before.args.buffer.now c.before.before.args.bytes.now c.before.before.args.stride c.before.before.args.lengths.now _ c.before.before.requires c.is_sound-known.ensures
+loop-k-init c = at-start c.args.m.now c.args.w.now c.args.buffer.now c.args.bytes.now c.args.stride c.args.lengths.now _ c.requires c.is_sound-known.ensures
 
 pub overflow_cast-n : goal.overflow_cast-n
-overflow_cast-n c = omega (arith, c.shared_slice_known-in-loop-k-1.given c.loop-k.k)
+overflow_cast-n c = omega (arith, c.type_inv.lengths c.loop-k.k)
 
 pub packet-step-requires : goal.packet-step-requires
 packet-step-requires c = (c.loop-k.invariant.places, (c.loop-k.invariant.sound, c.loop-k.invariant.within))
@@ -23,8 +23,14 @@ shape_of-buffer-then-not-is_quiet c = search (rules, c.loop-k.invariant.room)
 
 pub returns-then-not-is_quiet : goal.returns-then-not-is_quiet
 returns-then-not-is_quiet c =
-    let e = one-tells _ _ _ _ _ _ _ _ _ _ _ _ c.loop-k.invariant _ _ _ _ _ refl c.loop-k-test.true c.packet-step.ensures (search (rules, c.loop-k.invariant.room)) (sym c.is_quiet.ensures ∙ not-true _ c.if-not-is_quiet.true) in
-    let both = (c.packet-step.ensures.told ∙ ap (λ (x : Packets). x.left.told) (sym e), (c.packet-step.ensures.numbers ∙ ap (λ (x : Packets). x.left.numbers) (sym e), (c.packet-step.ensures.words ∙ ap (λ (x : Packets). x.left.words) (sym e), (c.packet-step.ensures.buffer ∙ ap (λ (x : Packets). x.left.buffer) (sym e), ap (λ (n : ℕ). n ∷ []) (c.done_with-done.ensures ∙ ap (λ (x : Told). c.loop-k.k + done_with x) c.packet-step.ensures.told ∙ ap (λ (x : Packets). x.taken) (sym e)))))) in record { value = both.0; m_after = both.1; w_after = both.2; buffer_after = both.3; taken_after = both.4 }
+    let e = one-tells _ _ _ _ _ _ _ _ _ _ _ _ c.loop-k.invariant _ _ _ _ _ refl c.loop-k-test.true c.packet-step.ensures (search (rules, c.loop-k.invariant.room)) (sym c.is_quiet.ensures ∙ c.if-not-is_quiet.true) in
+    record {
+      value = c.packet-step.ensures.told ∙ ap (λ (x : Packets). x.left.told) (sym e);
+      m_after = c.packet-step.ensures.numbers ∙ ap (λ (x : Packets). x.left.numbers) (sym e);
+      w_after = c.packet-step.ensures.words ∙ ap (λ (x : Packets). x.left.words) (sym e);
+      buffer_after = c.packet-step.ensures.buffer ∙ ap (λ (x : Packets). x.left.buffer) (sym e);
+      taken_after = ap (λ (n : ℕ). n ∷ []) (c.done_with-done.ensures ∙ ap (λ (x : Told). c.loop-k.k + done_with x) c.packet-step.ensures.told ∙ ap (λ (x : Packets). x.taken) (sym e));
+    }
 
 pub next-at-requires : goal.next-at-requires
 next-at-requires c = c.loop-k.invariant.within
@@ -33,7 +39,7 @@ pub loop-k-smaller : goal.loop-k-smaller
 loop-k-smaller c = omega (arith, c.more-k.ensures, c.loop-k-test.true)
 
 pub loop-k-preserved : goal.loop-k-preserved
-loop-k-preserved c = rw c.more-k.ensures (one_more _ _ _ _ _ _ _ _ _ _ _ _ c.loop-k.invariant _ _ _ _ _ refl c.loop-k-test.true c.packet-step.ensures (search (rules, c.loop-k.invariant.room)) (sym c.is_quiet.ensures ∙ not-false _ c.if-not-is_quiet.false) _ c.next-at.ensures)
+loop-k-preserved c = rw c.more-k.ensures (one_more _ _ _ _ _ _ _ _ _ _ _ _ c.loop-k.invariant _ _ _ _ _ refl c.loop-k-test.true c.packet-step.ensures (search (rules, c.loop-k.invariant.room)) (sym c.is_quiet.ensures ∙ c.if-not-is_quiet.false) _ c.next-at.ensures)
 
 pub shape_of-buffer : goal.shape_of-buffer
 shape_of-buffer c = search (rules, c.loop-k.invariant.room)
@@ -41,4 +47,10 @@ shape_of-buffer c = search (rules, c.loop-k.invariant.room)
 pub returns : goal.returns
 returns c =
     let e = at-end _ _ _ _ _ _ _ _ _ _ _ _ c.loop-k.invariant c.loop-k-test.false in
-    let both = (c.plain.ensures ∙ ap (λ (x : Packets). x.left.told) (sym e), (ap (λ (x : Packets). x.left.numbers) (sym e), (ap (λ (x : Packets). x.left.words) (sym e), (ap (λ (x : Packets). x.left.buffer) (sym e), ap (λ (n : ℕ). n ∷ []) (ap (λ (x : Packets). x.taken) (sym e)))))) in record { value = both.0; m_after = both.1; w_after = both.2; buffer_after = both.3; taken_after = both.4 }
+    record {
+      value = c.plain.ensures ∙ ap (λ (x : Packets). x.left.told) (sym e);
+      m_after = ap (λ (x : Packets). x.left.numbers) (sym e);
+      w_after = ap (λ (x : Packets). x.left.words) (sym e);
+      buffer_after = ap (λ (x : Packets). x.left.buffer) (sym e);
+      taken_after = ap (λ (n : ℕ). n ∷ []) (ap (λ (x : Packets). x.taken) (sym e));
+    }
