@@ -1,5 +1,6 @@
 // A refusal's number in plain words, for a C host: a text that ends with a zero.
 #![tactic(auto)]
+
 ghost use Rattle.std.specs.Prelude.{◌≡◌};
 ghost use Rattle.host_words.specs.Words.{length_in, left_in};
 
