@@ -1,5 +1,6 @@
 // A camera of our own for a C host: a sender as two words that the caller keeps, one transfer a call.
 #![tactic(auto)]
+
 ghost use Rattle.std.specs.Prelude.{◌≡◌};
 ghost use Rattle.sender.specs.Send.{new_sender};
 ghost use Rattle.host_sender.specs.Words.{one_of, words_of, sender_in, stamp_in, sending_told, unsound_told, sent_told, words_left, room_left, next_told, next_left, worked_told, worked_words, worked_room};
