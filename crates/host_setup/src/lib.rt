@@ -1,5 +1,6 @@
 // A camera's settings for a C host: setup packets are built and read back, and a wanted number is moved to the nearest allowed one. Settings and requests go by the class's numbers.
 #![tactic(auto)]
+
 ghost use Rattle.std.specs.Prelude.{◌≡◌};
 ghost use Rattle.packets.specs.declared.Reading.{Reading};
 ghost use Rattle.host_setup.specs.Setup.{SetupIs, SetupWith, asked_told, AskedAnswer, moved_told, unknown_moved, MovedIs};
