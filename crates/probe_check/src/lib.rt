@@ -1,5 +1,6 @@
 // Checks a probe block against a streaming block and its entity table (41 to 46).
 #![tactic(auto)]
+
 ghost use Rattle.std.specs.Prelude.{◌≡◌, ◌+◌, ◌≤◌, ◌<◌, length};
 ghost use Rattle.rules.specs.Numbered.{first_row};
 ghost use Rattle.streaming_descriptors.specs.Descriptors.{kind_at, format_of, frame_length_at};
