@@ -1,3 +1,4 @@
+use native.Mathlib.Omega.{arith}
 use borrow.Author.Tests.{ne_eqb}
 use Rattle.rules.specs.IfElse.{if_else}
 use Rattle.host_probe.specs.Probe.{revision_in}
@@ -17,4 +18,4 @@ returns-in-336 c = rw c.in-336.is
 
 pub returns-in_default : goal.returns-in_default
 unfolding revision_in if_else
-returns-in_default c = let r = c.in_default.rest in rw (ne_eqb _ 256 r.0.0.1, ne_eqb _ 272 r.0.1, ne_eqb _ 336 r.1)
+returns-in_default c = rw (ne_eqb c.args.bcd 256 (λ e. omega arith), ne_eqb c.args.bcd 272 (λ e. omega arith), ne_eqb c.args.bcd 336 (λ e. omega arith))
