@@ -1,5 +1,6 @@
 // The converter from short records to long ones, in constant memory. The input comes in reads of any size; at the first bad record it writes one byte FF, and then no more.
 #![tactic(auto)]
+
 ghost use Rattle.std.specs.Prelude.{◌≡◌, ◌+◌, ◌*◌, ◌<◌, ◌≤◌, false, [], ◌∷◌, length};
 ghost use Rattle.text.specs.Put.{Put};
 ghost use Rattle.records.specs.declared.Form.TheVariants.{Short};

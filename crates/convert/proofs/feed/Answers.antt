@@ -17,9 +17,9 @@ returns-then-have-n-lt64 c = fed-waits c.args.r _ _ _ c.requires.0.0 c.requires.
 -- src/lib.rt:168:5
 pub rest-requires-2 : goal.rest-requires-2
 rest-requires-2 c = (
-      fill-within _ (length c.args.input.now) (length c.args.piece.now - c.args.r.have) c.fill-n.ensures.value,
-      search (rules, c.run-w.ensures.at_bound),
-    )
+  fill-within _ (length c.args.input.now) (length c.args.piece.now - c.args.r.have) c.fill-n.ensures.value,
+  search (rules, c.run-w.ensures.at_bound),
+)
 
 -- src/lib.rt:147:1
 pub returns : goal.returns

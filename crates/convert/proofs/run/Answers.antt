@@ -29,7 +29,7 @@ loop-from-smaller c = let u = there c.args.part.now _ _ c.loop-from-test.true c.
 
 -- src/lib.rt:121:5
 pub loop-from-preserved : goal.loop-from-preserved
-loop-from-preserved c = run_on _ c.args.part.now _ _ _ _ _ _ c.loop-from.invariant _ (there c.args.part.now _ _ c.loop-from-test.true c.next-to.ensures) _ _ _ c.one-w.ensures
+loop-from-preserved c = run_on _ c.args.part.now _ _ _ _ _ _ c.loop-from.invariant _ (there c.args.part.now _ _ c.loop-from-test.true c.next-to.ensures) _ _ _ (c.one-w.ensures.converter_value, c.one-w.ensures.at_bound)
 
 -- src/lib.rt:113:1
 pub shape_of-out : goal.shape_of-out
