@@ -12,10 +12,10 @@ length-of : (X Y : Type 0) (f : X → Y) (l : List X) (n : ℕ) → length (map 
 length-of X Y f l n e = sym (length-map l f) ∙ e
 
 pub returns-then-buf-lt-ROOM : goal.returns-then-buf-lt-ROOM
-returns-then-buf-lt-ROOM c = let both = short room _ _ c.if-buf-lt-ROOM.true in record { value = both.0; buf_after = both.1; prefix_len = both.2 }
+returns-then-buf-lt-ROOM c = let both = short room _ _ c.if-buf-lt-ROOM.true in record { value = both.0; buf_after = both.1.0; prefix_len = both.1.1 }
 
 pub slice_bounds-report-end : goal.slice_bounds-report-end
 slice_bounds-report-end c = sym (search length-of)
 
 pub returns : goal.returns
-returns c = let both = whole room _ (omega arith) c.report.ensures in record { value = both.0; buf_after = both.1; prefix_len = both.2 }
+returns c = let both = whole room _ (omega arith) c.report.ensures in record { value = both.0; buf_after = both.1.0; prefix_len = both.1.1 }

@@ -4,7 +4,7 @@ use Rattle.block_text.specs.Answers.{room}
 use Rattle.setup_text.proofs.moved_to.Goals as goal
 
 pub returns-then-buf-lt-ROOM : goal.returns-then-buf-lt-ROOM
-returns-then-buf-lt-ROOM c = let both = short room _ _ c.if-buf-lt-ROOM.true in record { value = both.0; buf_after = both.1; prefix_len = both.2 }
+returns-then-buf-lt-ROOM c = let both = short room _ _ c.if-buf-lt-ROOM.true in record { value = both.0; buf_after = both.1.0; prefix_len = both.1.1 }
 
 pub returns : goal.returns
-returns c = let both = whole room _ (omega arith) c.put_moved.ensures in record { value = both.0; buf_after = both.1; prefix_len = both.2 }
+returns c = let both = whole room _ (omega arith) c.put_moved.ensures in record { value = both.0; buf_after = both.1.0; prefix_len = both.1.1 }
