@@ -14,7 +14,7 @@ use Rattle.streaming.specs.declared.Streaming.{Streaming}
 use Rattle.streaming.specs.Inner.{streaming_of}
 use Rattle.host_camera.specs.Told.{under_told, no_format, format_told, no_frame, frame_told, format_under, frame_under}
 use Rattle.host_camera.specs.Questions.{ControlsAnswer, ControlsLeft}
-use Rattle.host_told.specs.Told.{number_of, offset_of, verdict_told, kth, From}
+use Rattle.host_told.specs.Told.{number_of, offset_of, verdict_told, kth}
 use Rattle.host_told.specs.declared.Told.{Told}
 use Rattle.host_camera.specs.declared.FormatTold.{FormatTold}
 use Rattle.host_camera.specs.declared.FrameTold.{FrameTold}

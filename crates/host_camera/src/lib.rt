@@ -1,5 +1,6 @@
 // What a C host asks of a camera's blocks: each question reads the bytes again, and is answered by value.
 #![tactic(auto)]
+
 ghost use Rattle.std.specs.Prelude.{◌≡◌, take};
 ghost use Rattle.le.specs.Le.{byte};
 ghost use Rattle.host_told.specs.Told.{kth};
