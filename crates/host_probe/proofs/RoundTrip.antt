@@ -1,11 +1,11 @@
 -- Words and blocks, back and forth: reading what was written gives the words of the fields that the revision has, and writing what was read gives the block's bytes.
-use Prim.Native.Nat.{ℕ, zero, suc, ◌+◌, ◌*◌, ◌%◌, ◌^◌, ◌≤◌, ◌<◌}
+use Prim.Native.Nat.{ℕ, suc, ◌+◌, ◌*◌, ◌%◌, ◌^◌, ◌≤◌, ◌<◌}
 use mathlib.Core.Path.{◌≡◌, refl, sym, ap, ◌∙◌}
 use mathlib.Core.Bool.{Bool, true, false, not, true≢false}
 use mathlib.Core.List.{List, [], ◌∷◌, ◌++◌}
 use lib.ListN.{length, get_or, take, drop}
-use lib.Dec.{ltb, eqb}
-use borrow.Author.Tests.{lt-ltb, le-ltb, eq-eqb, eqb-true}
+use lib.Dec.{eqb}
+use borrow.Author.Tests.{le-ltb, eq-eqb, eqb-true}
 use native.Mathlib.Omega.{arith}
 use native.Mathlib.Decide.{dec_le}
 use native.Mathlib.Nat.{mod-eq_of_lt}
@@ -15,12 +15,11 @@ use Rattle.rules.specs.First.{First}
 use Rattle.rules.proofs.Places.{Says, first-place}
 use Rattle.entities.specs.declared.Revision.{Revision}
 use Rattle.entities.specs.declared.Revision.TheVariants.{R15}
-use Rattle.probe.specs.Fields.{probe_size, fields_of, kept_in, probe_of, written, Held, AllBytes, ReadsBack}
-use Rattle.probe.specs.declared.Probe.{Probe}
+use Rattle.probe.specs.Fields.{probe_size, fields_of, kept_in, written, Held, AllBytes, ReadsBack}
 use Rattle.probe.proofs.RoundTrip.{whole_back, writes-back}
 use Rattle.host_told.specs.Told.{verdict_told}
-use Rattle.host_probe.specs.Words.{word_count, words_of, fields_in, differs, wide_at}
-use Rattle.host_probe.specs.Probe.{read_as, read_left_as, write_as, write_left_as}
+use Rattle.host_probe.specs.Words.{words_of, fields_in, differs, wide_at}
+use Rattle.host_probe.specs.Probe.{read_as, read_left_as, write_left_as}
 
 -- every word has 32 bits: what the type of the words says
 abbrev pub AllWords : List ℕ → Type 0

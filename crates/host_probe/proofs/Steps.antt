@@ -1,6 +1,6 @@
 -- What the functions have, in the order of their code.
 use Prim.Native.Nat.{ℕ, ◌%◌, ◌≤◌, ◌<◌}
-use mathlib.Core.Path.{◌≡◌, refl, ap, ◌∙◌}
+use mathlib.Core.Path.{◌≡◌, refl, ◌∙◌}
 use mathlib.Core.List.{List, [], ◌∷◌}
 use mathlib.Core.Bool.{true, false, not}
 use lib.Dec.{eqb}
@@ -18,7 +18,7 @@ use Rattle.probe.specs.declared.Fields.{Fields}
 use Rattle.probe_check.specs.Answer.{check_of}
 use Rattle.host_told.specs.Told.{verdict_told, unknown_told}
 use Rattle.host_told.specs.declared.Told.{Told}
-use Rattle.host_probe.specs.Words.{word_count, words_of, layout_in, fields_in, differs, wide_at}
+use Rattle.host_probe.specs.Words.{words_of, layout_in, fields_in, differs, wide_at}
 use Rattle.host_probe.specs.Probe.{read_as, read_told, verdict_left, read_left_as, read_left, wide_told, write_as, write_told, write_left_as, write_left, check_under}
 use Rattle.host_probe.specs.declared.RevisionFound.{RevisionFound}
 use Rattle.host_probe.specs.declared.RevisionFound.TheVariants.{Is, None}

@@ -1,5 +1,6 @@
 // Probe and commit blocks for a C host: a block's fields as words, read, written and checked, over the revision.
 #![tactic(auto)]
+
 ghost use Rattle.std.specs.Prelude.{◌≡◌};
 ghost use Rattle.rules.specs.Place.{first_place};
 ghost use Rattle.host_probe.specs.Words.{word_count, words_of, fields_in, layout_in, differs};

@@ -18,4 +18,4 @@ returns-in-336 c = rw c.in-336.is
 
 pub returns-in_default : goal.returns-in_default
 unfolding revision_in if_else
-returns-in_default c = rw (ne_eqb c.args.bcd 256 (λ e. omega arith), ne_eqb c.args.bcd 272 (λ e. omega arith), ne_eqb c.args.bcd 336 (λ e. omega arith))
+returns-in_default c = rw (ne_eqb c.args.n 256 (λ e. omega arith), ne_eqb c.args.n 272 (λ e. omega arith), ne_eqb c.args.n 336 (λ e. omega arith))
