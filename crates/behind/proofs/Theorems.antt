@@ -17,7 +17,7 @@ use Rattle.session_rules.specs.declared.Session.{Session}
 use Rattle.session_rules.specs.declared.Outcome.{Outcome}
 use Rattle.session_rules.specs.Session.{fresh}
 use Rattle.session_rules.specs.Call.{Ask, Call}
-use Rattle.session_rules.specs.Calls.{Offer, call_by, taken, run}
+use Rattle.session_rules.specs.Calls.{Offer, call_by, taken}
 use Rattle.books.specs.Rule.{Item, entry_of, events, is_open, frames_by, loose, entries, one_in, part_in, total}
 use Rattle.books.specs.Demands.{UnderWay}
 use Rattle.books.specs.Offers.{list_of}

@@ -25,7 +25,7 @@ use Rattle.session_rules.specs.declared.Closing.{Closing}
 use Rattle.session_rules.specs.Session.{fresh, read_of, took_by, took_of, hands_for, hands_out, handed_of, met_by, met_buffer_by, missed_of, take_by, take_of, took_buffer_by, took_buffer, buffer_by, buffer_of, lost_by, lost_of, close_by, close_of}
 use Rattle.session_rules.specs.Call.{Call}
 use Rattle.session_rules.specs.Calls.{Offer, refusal, after, call_of, taken, next_call, run}
-use Rattle.books.specs.Rule.{Event, idle, unreadable, missing, readable, mark, event_by, events, is_open, Seen, ◌or◌, fault}
+use Rattle.books.specs.Rule.{Event, idle, unreadable, missing, readable, mark, event_by, events, is_open, Seen, ◌or◌}
 use Rattle.books.specs.Answer.{last_run, ended_in, turned_in, ending_of, goes_on, fate_on, with, answer_for, answer_of, hands, outcome_of, written_for, written_of}
 use Rattle.books.specs.Answer as rule
 use Rattle.books.specs.HandedOut.{Passed, MarkedBefore}

@@ -1,5 +1,5 @@
 -- What a call leaves at the front of the buffer: of two buffers that agree on the bytes of the frame under way, the bytes of the frame that is handed out and of the one under way after it are the same.
-use Prim.Native.Nat.{ℕ, ◌+◌, ◌-◌, ◌≤◌}
+use Prim.Native.Nat.{ℕ, ◌+◌, ◌≤◌}
 use mathlib.Core.Path.{◌≡◌, refl, sym, ap, ◌∙◌}
 use mathlib.Core.Bool.{Bool, true, false, not, ◌&&◌, true≢false}
 use mathlib.Core.List.{List, ◌++◌}
