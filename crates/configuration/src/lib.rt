@@ -1,5 +1,6 @@
 // Reads a whole configuration: how it is laid out (70, 71, 72, 75), the control block's own rules, 73, and the streaming blocks' own.
 #![tactic(auto)]
+
 ghost use Rattle.std.specs.Prelude.{◌≡◌, ◌+◌, ◌≤◌, ◌<◌, length};
 ghost use Rattle.interfaces.specs.Limits.{interfaces_most};
 ghost use Rattle.interfaces.specs.Inner.{listed_in};

@@ -1,4 +1,3 @@
-use Rattle.interfaces.specs.Inner.{place_of}
 use mathlib.Core.Path.{◌∙◌}
 use Rattle.rules.proofs.Places.{seek}
 use Rattle.configuration.proofs.Reading.{an-entry, entry-on, no-entry}

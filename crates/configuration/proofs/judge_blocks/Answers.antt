@@ -1,4 +1,3 @@
-use borrow.Author.Tests.{not-true, not-false}
 use Rattle.interfaces.proofs.Listing.{streams-few}
 use native.Mathlib.Omega.{arith}
 use Rattle.configuration.proofs.Reading.{end-in, late-in, late-control, late-73, late-rest}

@@ -6,10 +6,10 @@ pub returns-then-i-count : goal.returns-then-i-count
 returns-then-i-count c = search no_such
 
 pub offset_bounds-streams-i : goal.offset_bounds-streams-i
-offset_bounds-streams-i c = omega (arith, place_in c.args.t2 _ c.args.interface _ c.place_of-i.ensures c.if-i-count.false c.requires)
+offset_bounds-streams-i c = omega (arith, place_in c.args.streams _ c.args.interface _ c.place_of-i.ensures c.if-i-count.false c.requires)
 
 pub bounds-streams-i : goal.bounds-streams-i
-bounds-streams-i c = place_in c.args.t2 _ c.args.interface _ c.place_of-i.ensures c.if-i-count.false c.requires
+bounds-streams-i c = place_in c.args.streams _ c.args.interface _ c.place_of-i.ensures c.if-i-count.false c.requires
 
 pub returns : goal.returns
 returns c = search setting-told
