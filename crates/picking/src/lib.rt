@@ -1,5 +1,6 @@
 // Picks the alternate setting for an isochronous camera at high speed: the fewest bytes per microframe that hold the payload (74 where none does).
 #![tactic(auto)]
+
 ghost use Rattle.std.specs.Prelude.{◌≡◌, ◌≤◌};
 ghost use Rattle.alternate_settings.specs.Inner.{fewest_of};
 ghost use Rattle.interfaces.specs.Limits.{interfaces_most};

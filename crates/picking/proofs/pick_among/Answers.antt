@@ -1,9 +1,9 @@
 use native.Mathlib.Omega.{arith}
-use Rattle.picking.proofs.Choosing.{no_stream, place_in, none-large, one-large}
+use Rattle.picking.proofs.Choosing.{no_stream_lem, place_in, none-large, one-large}
 use Rattle.picking.proofs.pick_among.Goals as goal
 
 pub returns-then-i-count : goal.returns-then-i-count
-returns-then-i-count c = search no_stream
+returns-then-i-count c = search no_stream_lem
 
 pub offset_bounds-streams-i : goal.offset_bounds-streams-i
 offset_bounds-streams-i c = omega (arith, place_in c.args.streams _ c.args.interface _ c.place_of-i.ensures c.if-i-count.false c.requires)
