@@ -2,8 +2,7 @@
 use Prim.Native.Nat.{ℕ, zero, suc, ◌≤◌}
 use mathlib.Core.Path.{◌≡◌, refl}
 use mathlib.Core.Bool.{Bool, true, false}
-use mathlib.Core.List.{List, [], ◌∷◌}
-use lib.ListN.{get_or}
+use mathlib.Core.List.{[], ◌∷◌}
 use lib.Dec.{ltb, eqb}
 use borrow.Author.Tests.{ltb-false}
 use native.Mathlib.Omega.{arith}

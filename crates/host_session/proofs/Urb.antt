@@ -1,20 +1,20 @@
 -- The packets of a URB, one law for each way through the code.
-use Prim.Native.Nat.{ℕ, zero, suc, ◌+◌, ◌-◌, ◌≤◌, ◌<◌}
+use Prim.Native.Nat.{ℕ, suc, ◌+◌, ◌-◌, ◌≤◌, ◌<◌}
 use mathlib.Core.Path.{◌≡◌, refl, sym, ap, ◌∙◌}
-use mathlib.Core.Bool.{Bool, true, false, ◌&&◌}
-use mathlib.Core.List.{List, [], ◌∷◌}
+use mathlib.Core.Bool.{Bool, true, false}
+use mathlib.Core.List.{List}
 use native.Mathlib.Omega.{arith}
 use native.Mathlib.Nat.{add-sub_cancel_left}
 use lib.ListN.{length, get_or, take, drop, length-drop, drop_of_length-le}
 use lib.Seq.{drop-cons, drop-drop, drop-length}
-use lib.Dec.{leb, ltb, eqb}
+use lib.Dec.{leb}
 use borrow.Author.Tests.{eq-eqb, ne_eqb, lt-ltb, le-ltb, le-leb, lt-leb}
 use Rattle.rules.specs.IfElse.{if_else}
 use Rattle.session_rules.specs.Accounts.{number_count}
 use Rattle.session_words.specs.declared.Told.{Told}
 use Rattle.host_session.specs.declared.packets.Step.{Step}
 use Rattle.host_session.specs.Calls.{Left, take_in, lost_in}
-use Rattle.host_session.specs.Packets.{is_there, lost_left, packet_by, packet_in, is_quiet, done_with, Packets, all_quiet, to_tell, packets_from, packets_in}
+use Rattle.host_session.specs.Packets.{lost_left, packet_in, is_quiet, done_with, all_quiet, to_tell, packets_from, packets_in}
 use Rattle.host_session.specs.Inner.{SoundIf, Steps, Next}
 
 -- ---- what a packet tells

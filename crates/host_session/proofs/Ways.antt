@@ -20,7 +20,6 @@ use Rattle.session_rules.specs.declared.Reported.{Reported}
 use Rattle.session_rules.specs.declared.Closed.{Closed}
 use Rattle.session_rules.specs.Refusals.{record_broken, ledger_of}
 use Rattle.session_rules.specs.Session.{open_of, take_of, buffer_of, lost_of, close_of}
-use Rattle.ledger.specs.Inner.{entered_in}
 use Rattle.rule_50.specs.Inner.{rest_broken, posted_broken}
 use Rattle.rule_50.proofs.Parts.{record-parts}
 use Rattle.session_rules.specs.Calls.{Offer}

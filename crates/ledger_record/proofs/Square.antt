@@ -16,11 +16,10 @@ use Rattle.session_rules.specs.Track.{under_count, under_bytes, handing}
 use Rattle.session_rules.specs.Turns.{turn_of, out_of, idle_turn, unread_turn, spoilt_of, closed_of}
 use Rattle.session_rules.specs.declared.Ledger.{Ledger}
 use Rattle.session_rules.specs.Entry.{Entry}
-use Rattle.session_rules.specs.Ledger.{post_of, ended_of, fated_of, answered_of, shown_of}
+use Rattle.session_rules.specs.Ledger.{post_of}
 use Rattle.session_rules.specs.Rule50.{rule50}
 use Rattle.session_rules.specs.Refusals.{take_rows_by, lost_rows_by, close_rows_by}
 use Rattle.session_rules.specs.declared.Session.{Session}
-use Rattle.session_rules.specs.declared.Rest.{Rest}
 use Rattle.session_rules.specs.declared.Outcome.{Outcome}
 use Rattle.session_rules.specs.declared.Report.{Report}
 use Rattle.session_rules.specs.declared.Closing.{Closing}
@@ -28,7 +27,7 @@ use Rattle.session_rules.specs.declared.Taken.{Taken}
 use Rattle.session_rules.specs.declared.Reported.{Reported}
 use Rattle.session_rules.specs.declared.Closed.{Closed}
 use Rattle.session_rules.specs.Refusals.{posted_of, ledger_of, record_broken, take_rows, lost_rows, close_rows}
-use Rattle.session_rules.specs.Session.{counted_of, taken_by, read_of, took_by, took_of, hands_for, hands_out, passed_of, handed_of, met_by, met_of, take_by, take_of, took_buffer_by, took_buffer, met_buffer_by, met_buffer, buffer_by, buffer_of, missed_of, lost_by, lost_of, shut_of, close_by, close_of}
+use Rattle.session_rules.specs.Session.{counted_of, taken_by, read_of, took_by, took_of, hands_for, hands_out, passed_of, handed_of, met_by, met_of, take_by, take_of, took_buffer_by, took_buffer, met_buffer_by, buffer_by, buffer_of, lost_by, lost_of, close_by, close_of}
 use Rattle.session.specs.Inner.{whole_of}
 use Rattle.places.specs.Places.{record_of, broken54, Numbers}
 use Rattle.places.proofs.Trips.{read_back, laid-fine}

@@ -1,14 +1,14 @@
 -- A record is laid out place by place: the numbers first, and zeros in the places of the rest.
-use Prim.Native.Nat.{ℕ, zero, suc, ◌+◌, ◌-◌, ◌*◌, ◌≤◌, ◌<◌}
+use Prim.Native.Nat.{ℕ, ◌+◌, ◌-◌, ◌*◌, ◌≤◌, ◌<◌}
 use mathlib.Core.Path.{◌≡◌, refl, sym, ap, ◌∙◌}
 use mathlib.Core.List.{List, [], ◌∷◌, ◌++◌, append_assoc, append-nil}
 use native.Mathlib.Numerals.{add-one}
 use native.Mathlib.Omega.{arith}
-use lib.ListN.{length, get_or, take, drop, replicate, length-append, length-replicate, drop_of_length-le}
+use lib.ListN.{length, get_or, take, drop, replicate, drop_of_length-le}
 use lib.Seq.{paste, take-suc, take_all, take_at, drop-drop, length-take-le, length-paste, drop-append-add}
 use Rattle.rules.specs.Pad.{pad}
 use Rattle.rules.proofs.Padded.{pad-at, pad-length}
-use Rattle.places.specs.Places.{record_size, little_of, eights, record_of}
+use Rattle.places.specs.Places.{little_of, eights, record_of}
 
 pub eights-length : (ns : List ℕ) → length (eights ns) ≡ 8 * length ns
 eights-length [] = refl

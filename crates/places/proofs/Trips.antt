@@ -7,10 +7,9 @@ use mathlib.Core.Logic.{◌↔◌}
 use lib.ListN.{length, get_or, take, drop, replicate, length-append, length-replicate, length-drop, take-append-drop}
 use lib.Seq.{take-add, drop_at, drop-drop, get_or-drop}
 use lib.Dec.{eqb}
-use borrow.Author.Tests.{eq-eqb, eqb-true, eqb-false}
+use borrow.Author.Tests.{eqb-true}
 use native.Mathlib.Omega.{arith}
 use native.Mathlib.Nat.{mod-eq_of_lt, div-eq_of_lt, add-mul-div_right, add-mul-mod_self_right}
-use Rattle.le.specs.Le.{le32_at}
 use Rattle.fill.specs.Fill.{any_set}
 use Rattle.fill.proofs.Zeros.{none-set, zeros-unset}
 use Rattle.session_rules.specs.Accounts.{number_count}

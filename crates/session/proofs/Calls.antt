@@ -38,7 +38,6 @@ use Rattle.session.specs.declared.RestTaken.{RestTaken}
 use Rattle.session.specs.declared.Posted.{Posted}
 use Rattle.session_rules.specs.declared.Report.{Report}
 use Rattle.session_rules.specs.declared.Closing.{Closing}
-use Rattle.session_rules.specs.declared.Closed.{Closed}
 use Rattle.session_rules.specs.Refusals.{opening_rows, close_rows, lost_rows, take_rows}
 use Rattle.session_rules.specs.Session.{fresh, no_session, open_by, open_of, counted_of, taken_by, read_of, read_buffer, plainly, took_of, took_buffer, hands_out, passed_of, handed_of, met_of, met_buffer, take_by, take_of, buffer_by, buffer_of, lost_by, lost_of, close_by, close_of}
 use Rattle.short_way.specs.Inner.{counted_rest}

@@ -1,13 +1,12 @@
 -- BOTH DIRECTIONS OF THE WORDS: a session's rest is read back from its words, and words that are read as a rest are its words. So words are refused exactly where they are no rest's.
-use Prim.Native.Nat.{ℕ, ◌+◌, ◌-◌, ◌*◌, ◌/◌, ◌%◌, ◌<◌, ◌≤◌}
+use Prim.Native.Nat.{ℕ, ◌+◌, ◌-◌, ◌*◌, ◌/◌, ◌%◌, ◌≤◌}
 use mathlib.Core.Path.{◌≡◌, refl, sym, ap, ◌∙◌}
 use mathlib.Core.Bool.{Bool, true, false}
 use mathlib.Core.List.{List}
 use native.Mathlib.Omega.{arith}
 use native.Mathlib.Nat.{mod-eq_of_lt}
-use lib.ListN.{length, get_or}
-use lib.Dec.{eqb}
-use borrow.Author.Tests.{eq-eqb, ne_eqb}
+use lib.ListN.{length}
+use borrow.Author.Tests.{ne_eqb}
 use Rattle.rules.specs.IfElse.{if_else}
 use Rattle.rules.specs.Numbered.{any_below}
 use Rattle.rules.proofs.Rows.{any_none}
@@ -22,9 +21,8 @@ use Rattle.session_rules.specs.declared.Run.{Run}
 use Rattle.session_rules.specs.declared.Phase.{Phase}
 use Rattle.session_rules.specs.declared.Phase.TheVariants.{Fresh, Under, Past}
 use Rattle.session_rules.specs.declared.Rest.{Rest}
-use Rattle.session_words.specs.declared.Read.{Read}
 use Rattle.session_words.specs.declared.Read.TheVariants.{Broken, Laid}
-use Rattle.session_words.specs.Words.{word_count, one_of, stamp_word, layer_word, fault_word, kind_word, phase_word, run_of, under_way, marks_of, words_of}
+use Rattle.session_words.specs.Words.{word_count, one_of, stamp_word, layer_word, fault_word, kind_word, phase_word, run_of, under_way, words_of}
 use Rattle.session_words.specs.Reading.{stamp_in, layer_in, fault_in, kind_in, phase_in, is_one, rest_in, differ_at, spare_set, other_form, read_of}
 use Rattle.session_words.specs.Fits.{StampFits, LayerFits, PhaseFits, Fits}
 use Rattle.session_words.proofs.Differ.{no_difference, all_same}

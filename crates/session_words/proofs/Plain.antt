@@ -1,22 +1,18 @@
 -- Few tests that say of words that they are a session's.
-use Prim.Native.Nat.{ℕ, zero, suc, ◌+◌, ◌-◌, ◌*◌, ◌/◌, ◌%◌, ◌<◌, ◌≤◌}
+use Prim.Native.Nat.{ℕ, zero, suc, ◌+◌, ◌*◌, ◌/◌, ◌%◌, ◌<◌, ◌≤◌}
 use mathlib.Core.Path.{◌≡◌, refl, sym, ap, ◌∙◌}
 use mathlib.Core.Bool.{true, false, true≢false}
 use mathlib.Core.List.{List}
 use native.Mathlib.Omega.{arith}
-use lib.ListN.{length, get_or}
+use lib.ListN.{get_or}
 use lib.Dec.{eqb}
-use borrow.Author.Tests.{eq-eqb, ne_eqb, eqb-true, not-false}
+use borrow.Author.Tests.{ne_eqb, eqb-true, not-false}
 use Rattle.rules.specs.IfElse.{if_else}
-use Rattle.rules.specs.Numbered.{any_below}
 use Rattle.rules.proofs.Rows.{any_none, none_any}
-use Rattle.session_rules.specs.declared.Stamp.{Stamp}
 use Rattle.session_rules.specs.declared.Phase.{Phase}
 use Rattle.session_rules.specs.declared.Phase.TheVariants.{Under}
-use Rattle.session_rules.specs.declared.Run.{Run}
-use Rattle.session_rules.specs.declared.Rest.{Rest}
 use Rattle.session_words.specs.declared.Read.TheVariants.{Laid}
-use Rattle.session_words.specs.Words.{word_count, spare_count, one_of, stamp_word, layer_word, marks_of, run_of, state_of, words_of}
+use Rattle.session_words.specs.Words.{one_of, stamp_word, layer_word, marks_of, run_of, words_of}
 use Rattle.session_words.specs.Reading.{stamp_in, layer_in, fault_in, kind_in, phase_in, is_one, marks_in, run_in, rest_in, no_words, differ_at, spare_set, other_form, read_of}
 use Rattle.session_words.proofs.Differ.{no_difference}
 

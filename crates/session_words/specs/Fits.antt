@@ -1,5 +1,5 @@
 -- What the types of a session's rest say of its numbers: one byte, 32 and 16 bits.
-use Rattle.std.specs.Prelude.{ℕ, ◌<◌}
+use Rattle.std.specs.Prelude.{◌<◌}
 use Rattle.session_rules.specs.declared.Stamp.{Stamp}
 use Rattle.session_rules.specs.declared.Layer.{Layer}
 use Rattle.session_rules.specs.declared.Phase.{Phase}

@@ -1,4 +1,3 @@
-use borrow.Author.Tests.{not-false}
 use mathlib.Core.Path.{sym, ◌∙◌}
 use Rattle.host_session.proofs.Ways.{nothing, gone}
 use borrow.Author.Rules.{rules}

@@ -1,4 +1,3 @@
-use borrow.Author.Tests.{not-false}
 use mathlib.Core.Bool.{false}
 use mathlib.Core.Path.{sym}
 use Rattle.short_way.proofs.Found.{take_found}

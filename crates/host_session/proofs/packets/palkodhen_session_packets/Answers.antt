@@ -1,6 +1,5 @@
 use Rattle.host_session.specs.Packets.{Packets, done_with}
 use Rattle.session_words.specs.declared.Told.{Told}
-use borrow.Author.Tests.{not-true, not-false}
 use native.Mathlib.Omega.{arith}
 use mathlib.Core.List.{[], ◌∷◌}
 use mathlib.Core.Path.{refl, sym, ap, ◌∙◌}

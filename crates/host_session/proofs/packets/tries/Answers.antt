@@ -1,4 +1,3 @@
-use borrow.Author.Tests.{not-false}
 use Rattle.host_session.proofs.Ways.{nothing}
 use Rattle.host_session.proofs.packets.tries.Goals as goal
 

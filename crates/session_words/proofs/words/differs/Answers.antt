@@ -1,7 +1,6 @@
 use Rattle.session_words.proofs.Differ.{some-differs, no_difference, none-differs}
 use borrow.Author.Count.{below_more}
 use native.Mathlib.Omega.{arith}
-use mathlib.Core.Bool.{false}
 use Rattle.session_words.proofs.words.differs.Goals as goal
 
 pub loop-k-init : goal.loop-k-init
