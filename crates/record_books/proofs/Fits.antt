@@ -21,7 +21,7 @@ use Rattle.session_rules.proofs.Row50.{row-50}
 use Rattle.session_rules.specs.Refusals.{taken_most}
 use Rattle.session_rules.specs.declared.Session.{Session}
 use Rattle.session_rules.specs.Refusals.{ledger_of, take_rows, lost_rows, close_rows}
-use Rattle.session_rules.specs.Session.{fresh, took_of, handed_of, hands_out, met_by, take_by, take_of, lost_by, lost_of, close_by, close_of}
+use Rattle.session_rules.specs.Session.{fresh, took_of, handed_of, hands_out, met_by, take_of, lost_of, close_by, close_of}
 use Rattle.session_rules.specs.Calls.{Offer, refusal, next, after}
 use Rattle.books.proofs.Sound.{took-taken}
 use Rattle.books.proofs.Taken.{next-refused}

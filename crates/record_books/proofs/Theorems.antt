@@ -1,7 +1,7 @@
 -- THE RECORD THAT A POLLING LOOP KEEPS is the record of the session after the same offers, so that every theorem of the books speaks of these bytes.
 use Prim.Native.Nat.{ℕ}
 use mathlib.Core.Path.{◌≡◌, refl, sym, ap, ◌∙◌}
-use mathlib.Core.Bool.{Bool, false}
+use mathlib.Core.Bool.{false}
 use mathlib.Core.List.{List, [], ◌∷◌, ◌++◌}
 use lib.ListN.{length}
 use Rattle.sizes.specs.declared.Opening.{Opening}
@@ -15,7 +15,7 @@ use Rattle.books.specs.Offers.{list_of, take_says, lost_says, close_says, take_l
 use Rattle.books.proofs.Proved.{frames-whole, nothing-missing}
 use Rattle.places.specs.Places.{record_of, numbers_in, broken54, Numbers}
 use Rattle.places.proofs.Trips.{read_back, laid-fine}
-use Rattle.ledger_record.specs.Recorded.{record_in, rest_taken, rest_reported, rest_closed, take_in, take_buffer, lost_in, close_in}
+use Rattle.ledger_record.specs.Recorded.{take_in, take_buffer, lost_in, close_in}
 use Rattle.ledger_record.proofs.Square.{square-take, square-buffer, square-lost, square-close}
 use Rattle.record_books.specs.Kept.{Kept, begun, onward, kept, kept_of}
 use Rattle.record_books.proofs.Fits.{fits}

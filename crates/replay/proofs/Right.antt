@@ -10,7 +10,6 @@ use Rattle.sizes.specs.declared.Opening.{Opening}
 use Rattle.sizes.specs.Framing.{by_eof}
 use Rattle.sizes.specs.Sizes.{sizes_broken}
 use Rattle.session_rules.specs.declared.Stamp.TheVariants.{Absent}
-use Rattle.session_rules.specs.declared.Reading.TheVariants.{Idle, Unreadable}
 use Rattle.session_rules.specs.Entry.{Entry}
 use Rattle.session_rules.specs.declared.Session.{Session}
 use Rattle.session_rules.specs.Session.{fresh}
