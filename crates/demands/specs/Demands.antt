@@ -1,6 +1,6 @@
 -- THE OWNER'S THREE DEMANDS, sentence by sentence and in their order, over the definitions that the contracts cite. Proved in proofs/Proved.
 -- What a session is held to stands in books/specs/Statement; here are the readers' sentences, and the whole. That each call ends, on any bytes, is what the checker admits a function for.
-use Rattle.std.specs.Prelude.{ℕ, ◌≤◌, ◌<◌, ◌≡◌, List, ◌↔◌, length, drop}
+use Rattle.std.specs.Prelude.{ℕ, ◌≤◌, ◌≡◌, List, ◌↔◌, length, drop}
 use Rattle.rules.specs.declared.Verdict.TheVariants.{Accepted, Refused}
 use Rattle.entities.specs.declared.Entity.{Entity}
 use Rattle.entities.specs.declared.Revision.{Revision}
