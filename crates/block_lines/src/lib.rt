@@ -1,5 +1,6 @@
 // The printed lines of what the readers answer: one of each entity, format and frame, of a unit's controls, of a revision and of a refusal.
 #![tactic(auto)]
+
 ghost use Rattle.std.specs.Prelude.{◌+◌, ◌*◌, ◌≤◌, length, take};
 ghost use Rattle.text.specs.Put.{Put};
 ghost use Rattle.text.specs.Text.{line_most, number, texts};

@@ -14,9 +14,9 @@ use Rattle.alternate_settings.specs.declared.Choice.{Choice}
 use Rattle.alternate_settings.specs.declared.Choice.TheVariants.{At}
 use Rattle.picking.specs.Inner.{PickIs}
 use Rattle.picking.specs.declared.Picked.{Picked}
-use Rattle.host_told.specs.Told.{number_of, offset_of, kth, From}
+use Rattle.host_told.specs.Told.{number_of, offset_of, kth}
 use Rattle.host_told.proofs.Kth.{is-there}
-use Rattle.host_configuration.specs.Told.{no_block, control_words, stream_words, there_of, part_there, part_at, block_there, block_at, setting_told, picked_told}
+use Rattle.host_configuration.specs.Told.{no_block, control_words, stream_words, there_of, part_there, part_at, block_there, block_at, setting_told}
 use Rattle.host_configuration.specs.Questions.{PickAnswer}
 
 pub setting-by : (c : Choice) (x : Setting) → c ≡ At x → record { there = 1; number = x.number; zero = 0; bytes = x.bytes } ≡ setting_told c

@@ -1,5 +1,6 @@
 // What a C host asks of a whole configuration: its verdict, where its blocks lie, the alternate settings, and a pick.
 #![tactic(auto)]
+
 ghost use Rattle.std.specs.Prelude.{◌≡◌, ◌≤◌, take};
 ghost use Rattle.interfaces.specs.Limits.{interfaces_most};
 ghost use Rattle.alternate_settings.specs.Inner.{kth_of};

@@ -14,7 +14,7 @@ returns-then-n-i c = let both = all-used entity_line no_entity _ entities_most _
 
 pub loop-i-preserved : goal.loop-i-preserved
 loop-i-preserved c = let printed = c.entity-at in
-        one_more entity_line no_entity _ entities_most _ c.loop-i.i (omega arith) (omega arith) c.loop-i.invariant printed.ensures.put printed.ensures.upper_bound
+    one_more entity_line no_entity _ entities_most _ c.loop-i.i (omega arith) (omega arith) c.loop-i.invariant printed.ensures.put printed.ensures.upper_bound
 
 pub returns : goal.returns
 returns c = let both = all-places entity_line no_entity _ entities_most _ _ c.loop-i-test.false c.loop-i.invariant in record { put = both.0; upper_bound = both.1 }

@@ -13,7 +13,7 @@ returns-then-n-i c = let both = all-used number 0 _ 32 _ _ c.if-n-i.true c.loop-
 
 pub loop-i-preserved : goal.loop-i-preserved
 loop-i-preserved c = let printed = c.number-at in
-        one_more number 0 _ 32 _ c.loop-i.i (omega arith) (omega arith) c.loop-i.invariant printed.ensures.put (let b = printed.ensures.upper_bound in omega arith)
+    one_more number 0 _ 32 _ c.loop-i.i (omega arith) (omega arith) c.loop-i.invariant printed.ensures.put (let b = printed.ensures.upper_bound in omega arith)
 
 pub returns : goal.returns
 returns c = let both = all-places number 0 _ 32 _ _ c.loop-i-test.false c.loop-i.invariant in record { put = both.0; upper_bound = both.1 }
