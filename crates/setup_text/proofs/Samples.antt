@@ -1,7 +1,7 @@
 -- Texts that antt computes.
 use mathlib.Core.Path.{◌≡◌, refl}
 use Rattle.rules.specs.IfElse.{if_else}
-use Rattle.rules.specs.declared.Verdict.TheVariants.{Accepted, Refused}
+use Rattle.rules.specs.declared.Verdict.TheVariants.{Accepted}
 use Rattle.camera_settings.specs.declared.Setting.TheVariants.{Brightness, Contrast, Hue}
 use Rattle.camera_settings.specs.declared.Request.TheVariants.{GetCur, SetCur}
 use Rattle.packets.specs.Packets.{packet_of}
