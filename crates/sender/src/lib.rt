@@ -17,7 +17,7 @@ const SHORT: usize = 2;
 const LONG: usize = 6;
 
 // Which FID the frame has, and how many of its bytes are sent.
-#[derive(Drop)]
+#[derive(Clone, Copy)]
 pub struct Sender {
     pub fid: bool,
     pub at: usize,
