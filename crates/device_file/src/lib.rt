@@ -1,5 +1,6 @@
 // Where a configuration stands in a file: the file is one, or it is what Linux keeps of a device, with a device descriptor in front and further configurations behind.
 #![tactic(auto)]
+
 ghost use Rattle.std.specs.Prelude.{◌≡◌, ◌+◌, ◌≤◌, length};
 ghost use Rattle.device_file.specs.Place.{is_device, total_of, first_of, place_in};
 

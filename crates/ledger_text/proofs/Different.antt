@@ -1,7 +1,7 @@
 -- REPORTS THAT PRINT ALIKE have the same state and, where good, the same numbers.
 use mathlib.Core.Path.{◌≡◌, refl, ap}
 use mathlib.Core.List.{List, [], ◌∷◌, ◌++◌, append_cancel_left}
-use Prim.Native.Nat.{ℕ, ◌+◌}
+use Prim.Native.Nat.{ℕ}
 use native.Mathlib.Omega.{arith}
 use lib.ListN.{length, get_or}
 use Rattle.session_rules.specs.Accounts.{number_count}

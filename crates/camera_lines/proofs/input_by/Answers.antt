@@ -1,5 +1,4 @@
 use Rattle.camera_lines.proofs.Choices.{choices}
-use Rattle.text.proofs.Texts.{none}
 use Rattle.camera_lines.specs.Lines.{input_by}
 use borrow.Author.Rules.{rules}
 use Rattle.camera_lines.proofs.input_by.Goals as goal
