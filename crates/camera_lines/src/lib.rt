@@ -15,7 +15,7 @@ pub const ROOM: usize = 102400;
 const CAMERA: u16 = 0x0201;
 
 // Where a descriptor stands: in a control block, or behind the header of one of revision 1.5; in a streaming block; behind it, or in another setting; elsewhere.
-#[derive(Drop)]
+#[derive(Clone, Copy)]
 pub enum Part {
     Other,
     Control,

@@ -17,7 +17,7 @@ use rules::Verdict;
 pub const CONTROLS_MOST: usize = 32;
 
 // The verdict: accepted, the block's own refusal, or 16 at 0. The first `length` bytes are the controls, and the rest are 0.
-#[derive(Drop)]
+#[derive(Clone, Copy)]
 pub struct Map {
     pub verdict: Verdict,
     pub length: u8,

@@ -15,7 +15,7 @@ pub const SIZE: usize = 8;
 const NUMBER: u8 = 2;
 
 // What a packet asks for: which setting of which unit, by which request; or why it is no packet.
-#[derive(Drop)]
+#[derive(Clone, Copy)]
 pub enum Reading {
     Asks {
         unit: u8,
