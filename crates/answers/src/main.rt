@@ -31,6 +31,7 @@
 //                byte 2 nearest: byte setting, two bytes each minimum, maximum, step and wanted
 // A case that is cut short, a part that is too long and an unknown kind end the run with one line.
 #![tactic(auto)]
+
 use block_cases::{descriptors, probes};
 use call_cases::{calls, forged, recorded, rooms};
 use cases::{input, print};
@@ -64,18 +65,16 @@ fn case(kind: u8) -> bool {
 
 fn main() {
     // A proved loop has to end, and nothing says that the input does: no run uses this number up.
-    let mut left = u64::MAX;
-    while 0 < left {
+    for before in 0..u64::MAX {
         let kind = input::kind();
         if !kind.fine {
             return;
         }
         print::text(b"case");
-        print::field(u64::MAX - left + 1);
+        print::field(before + 1);
         print::end();
         if !case(kind.value) {
             return;
         }
-        left -= 1;
     }
 }
