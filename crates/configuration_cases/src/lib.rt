@@ -1,5 +1,6 @@
 // The cases of whole configurations and of picks: each is read from standard input, handed to its reader, and its answer printed in full.
 #![tactic(auto)]
+
 use alternate_settings::{Choice, Setting};
 use cases::{input, print};
 use configuration::Configuration;

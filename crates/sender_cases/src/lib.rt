@@ -1,6 +1,7 @@
 // Case Y: a sender with its receiver. For each frame the transfers that are sent and what the receiver answers to each, up to a refusal or to the call after
 // the last, which is made twice; then the sender. At the end what is left of the receiver, as in case E.
 #![tactic(auto)]
+
 use call_cases::calls::Next;
 use call_cases::{calls, forged};
 use cases::{input, print};

@@ -1,5 +1,6 @@
 // The cases of camera settings: each is read from standard input, and its answer printed in full.
 #![tactic(auto)]
+
 use block_cases::lines;
 use camera_settings::{Request, Setting};
 use cases::{input, print};

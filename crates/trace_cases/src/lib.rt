@@ -1,5 +1,6 @@
 // Case L: a trace of either form in reads of a given size, and what the programs print of it, or what it is converted to.
 #![tactic(auto)]
+
 ghost use Rattle.std.specs.Prelude.{◌-◌, ◌<◌, ◌≤◌};
 
 mod converted;

@@ -1,6 +1,5 @@
 use Rattle.cuts.proofs.Branches.{put_first}
 use Rattle.cuts.proofs.fill.Goals as goal
 
--- src/lib.rt:20:1
 pub returns : goal.returns
 returns c = record { value = c.least-n.ensures.value; piece_after = search put_first }

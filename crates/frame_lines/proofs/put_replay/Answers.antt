@@ -2,6 +2,5 @@ use Rattle.std.proofs.Common.{arith}
 use Rattle.text.proofs.Puts.{then}
 use Rattle.frame_lines.proofs.put_replay.Goals as goal
 
--- src/lib.rt:99:1
 pub returns : goal.returns
 returns c = record { put = then c.digits-numbered.ensures.put (then c.number-sized.ensures.put (then c.put_since-stepped.ensures.put c.put.ensures)); upper_bound = omega arith }

@@ -2,7 +2,6 @@ use Rattle.endings.specs.Inner.{told_in}
 use Rattle.frame_lines.proofs.Branches.{both}
 use Rattle.frame_lines.proofs.tell.Goals as goal
 
--- src/lib.rt:218:1
 pub returns : goal.returns
 returns c =
     let a = c.args in

@@ -3,6 +3,5 @@ use native.Mathlib.Omega.{arith}
 use Rattle.long_records.proofs.Rounds.{record-put}
 use Rattle.long_records.proofs.write.Goals as goal
 
--- src/lib.rt:27:1
 pub returns : goal.returns
 returns c = record-put refl (omega arith) (omega arith) c.put-headed.ensures c.put-told.ensures c.clear.ensures

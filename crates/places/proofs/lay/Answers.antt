@@ -1,14 +1,11 @@
 use Rattle.places.proofs.Laying.{none-laid, one-laid, all_laid}
 use Rattle.places.proofs.lay.Goals as goal
 
--- src/lib.rt:88:5
 pub loop-k-init : goal.loop-k-init
 loop-k-init c = search none-laid
 
--- src/lib.rt:88:5
 pub loop-k-preserved : goal.loop-k-preserved
 loop-k-preserved c = search one-laid
 
--- src/lib.rt:83:1
 pub returns : goal.returns
 returns c = search all_laid

@@ -1,14 +1,11 @@
 use Rattle.places.proofs.Branches.{right-size, held_none, held_all}
 use Rattle.places.proofs.read.Goals as goal
 
--- src/lib.rt:108:9
 pub returns-then-broken : goal.returns-then-broken
 returns-then-broken c = search held_none
 
--- src/lib.rt:116:9
 pub numbers_of-numbers-requires : goal.numbers_of-numbers-requires
 numbers_of-numbers-requires c = search right-size
 
--- src/lib.rt:104:1
 pub returns : goal.returns
 returns c = search held_all

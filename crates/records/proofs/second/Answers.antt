@@ -1,6 +1,5 @@
 use Rattle.records.proofs.Branches.{second-long}
 use Rattle.records.proofs.second.Goals as goal
 
--- src/lib.rt:59:1
 pub returns-in-Long : goal.returns-in-Long
 returns-in-Long c = search second-long

@@ -4,46 +4,37 @@ use mathlib.Core.Path.{refl}
 use borrow.Author.Rules.{rules}
 use Rattle.trace.proofs.follow.Goals as goal
 
--- src/lib.rt:227:5
 pub loop-at-init : goal.loop-at-init
 loop-at-init c = run-begins c.args.form _ c.args.records.now _ _ refl (search rules)
 
--- src/lib.rt:229:52
 pub slice_bounds-step-count : goal.slice_bounds-step-count
 slice_bounds-step-count c = let u = cut_at c.args.form c.args.records.now c.loop-at.at c.end_of-end.result c.loop-at-test.true c.end_of-end.ensures in
     omega (arith, u.next)
 
--- src/lib.rt:229:52
 pub slice_bounds-step-start : goal.slice_bounds-step-start
 slice_bounds-step-start c = let u = cut_at c.args.form c.args.records.now c.loop-at.at c.end_of-end.result c.loop-at-test.true c.end_of-end.ensures in
     omega (arith, u.next)
 
--- src/lib.rt:229:52
 pub slice_bounds-step-end : goal.slice_bounds-step-end
 slice_bounds-step-end c = let u = cut_at c.args.form c.args.records.now c.loop-at.at c.end_of-end.result c.loop-at-test.true c.end_of-end.ensures in
     omega (arith, u.within)
 
--- src/lib.rt:229:13
 pub step-going-requires : goal.step-going-requires
 step-going-requires c = c.loop-at.invariant.sized
 
--- src/lib.rt:233:13
 pub returns-then-decided : goal.returns-then-decided
 returns-then-decided c = let u = cut_at c.args.form c.args.records.now c.loop-at.at c.end_of-end.result c.loop-at-test.true c.end_of-end.ensures in
     let x = c.step-going in
     run-decided c.args.form _ c.args.records.now _ _ _ c.loop-at.invariant _ u x.result _ x.ensures.m_after _ c.decided.ensures c.if-decided.true
 
--- src/lib.rt:227:5
 pub loop-at-smaller : goal.loop-at-smaller
 loop-at-smaller c = let u = cut_at c.args.form c.args.records.now c.loop-at.at c.end_of-end.result c.loop-at-test.true c.end_of-end.ensures in
     omega (arith, u.next, u.within)
 
--- src/lib.rt:227:5
 pub loop-at-preserved : goal.loop-at-preserved
 loop-at-preserved c = let u = cut_at c.args.form c.args.records.now c.loop-at.at c.end_of-end.result c.loop-at-test.true c.end_of-end.ensures in
     let x = c.step-going in
     run_on c.args.form _ c.args.records.now _ _ _ c.loop-at.invariant _ u x.result _ x.ensures.m_after _ c.decided.ensures c.if-decided.false
 
--- src/lib.rt:221:1
 pub returns : goal.returns
 returns c = run_ends c.args.form _ c.args.records.now _ _ _ c.loop-at.invariant c.loop-at-test.false

@@ -1,14 +1,11 @@
 use Rattle.trace.proofs.Branches.{finish-good, finish-bad, finish-refused}
 use Rattle.trace.proofs.Trace.finish.Goals as goal
 
--- src/lib.rt:168:5
 pub returns-in-Good : goal.returns-in-Good
 returns-in-Good c = search finish-good
 
--- src/lib.rt:168:5
 pub returns-in-Bad : goal.returns-in-Bad
 returns-in-Bad c = search finish-bad
 
--- src/lib.rt:168:5
 pub returns-in-Refused : goal.returns-in-Refused
 returns-in-Refused c = search finish-refused
