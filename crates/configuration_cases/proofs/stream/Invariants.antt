@@ -1,0 +1,8 @@
+use Prim.Native.Nat.{◌≤◌, ◌-◌}
+use Rattle.configuration_cases.proofs.stream.Given as goal
+
+abbrev pub invariant-loop-k : goal.invariant-loop-k
+invariant-loop-k l = l.k ≤ 34
+
+abbrev pub decreases-loop-k : goal.decreases-loop-k
+decreases-loop-k l = 34 - l.k
