@@ -5,7 +5,7 @@ rt=$(command -v rt) || {
     echo "$who: the Rattle kit (rt), which proves and builds the programs, is not installed" >&2
     exit 2
 }
-kit=$(dirname "$("$rt" doc)")
+kit=$(dirname "$(dirname "$(readlink -f "$rt")")")
 toolchain=$kit/toolchain
 
 # run PROGRAM ARGUMENT ..: any program for x86-64, on this machine
