@@ -6,7 +6,7 @@ use native.Mathlib.Omega.{arith}
 use native.Mathlib.Nat.{add-mul}
 use lib.Dec.{ltb, leb→le, le→leb, ltb→lt, lt→ltb}
 use borrow.Author.Tests.{ltb-true, ltb-false}
-use lib.IntN.{ℤ, pos, negsuc, neg_ℤ, nat_abs, sub_ℕ, ◌+ℤ◌, ◌-ℤ◌, ◌*ℤ◌}
+use lib.IntN.{ℤ, pos, negsuc, neg_ℤ, nat_abs, sub_ℕ, ◌+ℤ◌, ◌*ℤ◌}
 use lib.Signed.{◌≤ℤ◌, ◌<ℤ◌}
 
 -- z is p − q
@@ -69,15 +69,12 @@ across-below (pos m) (negsuc n) p q r s e f h = absurd h.lt
 across-below (negsuc m) (pos n) p q r s e f h = omega arith
 across-below (negsuc m) (negsuc n) p q r s e f h = let k = ltb→lt n m h.lt in omega arith
 
--- a sum, a difference and a multiple
+-- a sum and a multiple (a difference: Differences)
 pub is-plus : (x y : ℤ) (p q r s : ℕ) → Is x p q → Is y r s → Is (x +ℤ y) (p + r) (q + s)
 is-plus (pos m) (pos n) p q r s e f = omega arith
 is-plus (pos m) (negsuc n) p q r s e f = moved m (suc n) (p + r) (q + s) (omega arith)
 is-plus (negsuc m) (pos n) p q r s e f = moved n (suc m) (p + r) (q + s) (omega arith)
 is-plus (negsuc m) (negsuc n) p q r s e f = omega arith
-
-pub is-minus : (x y : ℤ) (p q r s : ℕ) → Is x p q → Is y r s → Is (x -ℤ y) (p + s) (q + r)
-is-minus x y p q r s e f = is-plus x (neg_ℤ y) p q s r e (is-neg y r s f)
 
 pub is-times : (x : ℤ) (p q k : ℕ) → Is x p q → Is (x *ℤ pos k) (p * k) (q * k)
 is-times (pos n) p q k e = rw (e, add-mul q n k) refl

@@ -7,7 +7,8 @@ use lib.Dec.{ltb, ltb→lt}
 use borrow.Author.Tests.{ltb-true, ltb-false}
 use lib.IntN.{ℤ, pos, negsuc, sub_ℕ, ◌+ℤ◌, ◌-ℤ◌, ◌*ℤ◌}
 use lib.Signed.{◌≤ℤ◌, ◌<ℤ◌}
-use Rattle.integers.proofs.Integers.{Is, is_pos, is-plus, is-minus, is-far, is-sub, same, at_most, across, both_ways, upper, under}
+use Rattle.integers.proofs.Integers.{Is, is_pos, is-plus, is-far, is-sub, same, at_most, across, both_ways, upper, under}
+use Rattle.integers.proofs.Differences.{is-minus}
 use Rattle.nearest.specs.Nearest.{Range, Allowed, apart, Nearest}
 use Rattle.nearest.specs.Inner.{distance, Closest}
 use Rattle.nearest.proofs.Choosing.{last, lowest, the_last, no-nearer, the-next, the-lower}

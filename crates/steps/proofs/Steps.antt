@@ -17,7 +17,8 @@ use Rattle.session_rules.proofs.Steps.{step-reads}
 use Rattle.books.specs.Rule.{step}
 use Rattle.steps.specs.Signed.{number_of, signed, Stamps, last_stamp, along, lowest, highest, InRange, Modulo}
 use Rattle.steps.specs.Six.{Reads, RuleTakes, AddsUp, AllAddUp, Returns, Six}
-use Rattle.integers.proofs.Integers.{Is, is_pos, is-neg, is_negative, is-sub, same, at_most, across, across-below, differ-alike, is-plus, is-minus, is-times}
+use Rattle.integers.proofs.Integers.{Is, is_pos, is-neg, is_negative, is-sub, same, at_most, across, across-below, differ-alike, is-plus, is-times}
+use Rattle.integers.proofs.Differences.{is-minus}
 
 -- the number z is p − q, lies within its range, and leads from a to b but for turns of the clock
 pub record Leads (a b : ℕ) (z : ℤ) : Type 0 where
