@@ -80,8 +80,8 @@ build() {
         trap 'kill -- "-$job" 2>/dev/null; exit 130' INT TERM HUP
         if [ -t 2 ]; then told "$1" "$log"; fi
         wait "$job" || :
-        # a source that is changed while this is built is newer than it
-        if [ "$(made "$1")" -nt "$begun" ]; then touch -r "$begun" "$(made "$1")" 2>/dev/null; fi
+        # it is run only where it is proved; a source that is changed while this is built is newer than it
+        if grep -q '^rt: running out/' "$log"; then touch -r "$begun" "$(made "$1")" 2>/dev/null; fi
         is_current "$1" || {
             grep -vE '^(rt: chose|statements|library|logic|crate|fn|struct|enum|checked)' "$log" | tail -n 20 >&2
             echo "$who: $1 is not proved and was not built" >&2
