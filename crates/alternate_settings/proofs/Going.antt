@@ -1,4 +1,5 @@
 -- What the functions have, in the order of their code.
+use Rattle.std.specs.Prelude.{None, Option, Some}
 use Prim.Native.Nat.{ℕ, suc, ◌+◌, ◌-◌, ◌*◌, ◌≤◌, ◌<◌}
 use mathlib.Core.Path.{◌≡◌}
 use mathlib.Core.List.{List, ◌∷◌, map}
@@ -16,8 +17,6 @@ use Rattle.interfaces.specs.Inner.{found, next_of}
 use Rattle.interfaces.proofs.Lines.{after_on, next-is, found_here, found-end}
 use Rattle.alternate_settings.specs.Inner.{endpoint_place, bytes_at, setting_at, settings_of, kth_of, is_better, against, better_of, fewest_from, fewest_of}
 use Rattle.alternate_settings.specs.declared.Setting.{Setting}
-use Rattle.alternate_settings.specs.declared.Choice.{Choice}
-use Rattle.alternate_settings.specs.declared.Choice.TheVariants.{At, Nothing}
 
 -- ---- the bytes of a setting
 module _ (s : List ℕ) (o a j e t : ℕ) (p : j ≡ after_at s o) (q : e ≡ next_of (sought.Endpoint a) s j) (x : t ≡ type_at s e) where
@@ -48,22 +47,22 @@ module _ (x y : Setting) where
   unfolding is_better if_else
   by_bytes h = rw (ne_eqb x.bytes y.bytes h)
 
-module _ (p : ℕ) (best : Choice) (x : Setting) where
+module _ (p : ℕ) (best : Option Setting) (x : Setting) where
   pub too_few : x.bytes < p → best ≡ better_of p best x
   unfolding better_of if_else
   too_few h = rw (lt-ltb x.bytes p h)
 
   module _ (h : p ≤ x.bytes) where
-    pub the-first : best ≡ Nothing → At x ≡ better_of p best x
+    pub the-first : best ≡ None → Some x ≡ better_of p best x
     unfolding better_of against if_else
     the-first e = rw (le-ltb x.bytes p h, e)
 
-    module _ (y : Setting) (e : best ≡ At y) (b : Bool) (q : b ≡ is_better x y) where
-      pub the-new : b ≡ true → At x ≡ better_of p best x
+    module _ (y : Setting) (e : best ≡ Some y) (b : Bool) (q : b ≡ is_better x y) where
+      pub the-new : b ≡ true → Some x ≡ better_of p best x
       unfolding better_of against if_else
       the-new t = rw (le-ltb x.bytes p h, e, ← q, t)
 
-      pub the-old : b ≡ false → At y ≡ better_of p best x
+      pub the-old : b ≡ false → Some y ≡ better_of p best x
       unfolding better_of against if_else
       the-old t = rw (le-ltb x.bytes p h, e, ← q, t)
 
@@ -93,11 +92,11 @@ module _ (s : List ℕ) (n a k : ℕ) where
   kth-starts r e = rw e (record { stands = stands_from (sought.Setting n) s 0 (omega arith); same = rw (next-is s (sought.Setting n) 0 (omega arith)).same })
 
   module _ (at left : ℕ) (g : Kth s n a k at left) where
-    pub kth-ends : length s ≤ at → Nothing ≡ kth_of (settings_of s n a) k
+    pub kth-ends : length s ≤ at → None ≡ kth_of (settings_of s n a) k
     unfolding kth_of
     kth-ends h = rw (found-end s (sought.Setting n) at h) at g.same
 
-    pub kth-here : (x : Setting) → at < length s → left ≡ 0 → x ≡ setting_at s a at → At x ≡ kth_of (settings_of s n a) k
+    pub kth-here : (x : Setting) → at < length s → left ≡ 0 → x ≡ setting_at s a at → Some x ≡ kth_of (settings_of s n a) k
     unfolding kth_of
     kth-here x h z e = rw e (rw (z, found_here s (sought.Setting n) at h (g.stands.here h)) at g.same)
 
@@ -109,20 +108,20 @@ module _ (s : List ℕ) (n a k : ℕ) where
         record { stands = o.0; same = rw (e, o.1) at g.same }
 
 -- the fewest
-pub record Sifting (s : List ℕ) (n a p : ℕ) (best : Choice) (at : ℕ) : Type 0 where
+pub record Sifting (s : List ℕ) (n a p : ℕ) (best : Option Setting) (at : ℕ) : Type 0 where
   pub stands : Stands (sought.Setting n) s at
   pub same : fewest_from p best (map (setting_at s a) (found (sought.Setting n) s at)) ≡ fewest_of p (settings_of s n a)
 
 module _ (s : List ℕ) (n a p : ℕ) where
-  pub sifting-starts : (r : ℕ) → r ≡ next_of (sought.Setting n) s 0 → Sifting s n a p Nothing r
+  pub sifting-starts : (r : ℕ) → r ≡ next_of (sought.Setting n) s 0 → Sifting s n a p None r
   sifting-starts r e = rw e (record { stands = stands_from (sought.Setting n) s 0 (omega arith); same = rw (next-is s (sought.Setting n) 0 (omega arith)).same })
 
-  module _ (best : Choice) (at : ℕ) (g : Sifting s n a p best at) where
+  module _ (best : Option Setting) (at : ℕ) (g : Sifting s n a p best at) where
     pub sifting-ends : length s ≤ at → best ≡ fewest_of p (settings_of s n a)
     unfolding fewest_from
     sifting-ends h = rw (found-end s (sought.Setting n) at h) at g.same
 
-    pub sifting-on : (x : Setting) (c : Choice) (j r : ℕ) → at < length s → x ≡ setting_at s a at → c ≡ better_of p best x → j ≡ after_at s at → r ≡ next_of (sought.Setting n) s j → Sifting s n a p c r
+    pub sifting-on : (x : Setting) (c : Option Setting) (j r : ℕ) → at < length s → x ≡ setting_at s a at → c ≡ better_of p best x → j ≡ after_at s at → r ≡ next_of (sought.Setting n) s j → Sifting s n a p c r
     unfolding fewest_from
     sifting-on x c j r h e f y q =
         let o = onward (sought.Setting n) s at j r g.stands h y q in

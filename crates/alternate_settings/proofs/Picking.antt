@@ -1,4 +1,5 @@
 -- What is picked has the fewest bytes of those that hold, and nothing is picked exactly when none does.
+use Rattle.std.specs.Prelude.{None, Option, Some}
 use Prim.Native.Nat.{ℕ, ◌≤◌, ◌<◌}
 use mathlib.Core.Path.{◌≡◌, refl, sym, ap, ◌∙◌}
 use mathlib.Core.List.{List, [], ◌∷◌, ◌++◌, append-nil}
@@ -15,8 +16,6 @@ use Rattle.rules.proofs.Growing.{at_old, at_new}
 use Rattle.alternate_settings.specs.Inner.{is_better, against, better_of, fewest_from, fewest_of}
 use Rattle.alternate_settings.specs.Holding.{no_setting, Holds, Fewest, NoneHolds}
 use Rattle.alternate_settings.specs.declared.Setting.{Setting}
-use Rattle.alternate_settings.specs.declared.Choice.{Choice}
-use Rattle.alternate_settings.specs.declared.Choice.TheVariants.{At, Nothing}
 
 -- ---- one setting more
 module _ (l : List Setting) (x : Setting) (p : ℕ) where
@@ -62,30 +61,30 @@ not-better x y h = go (eqb x.bytes y.bytes) refl h
     go false e q = let n = eqb-false x.bytes y.bytes e in let m = ltb-false x.bytes y.bytes q in inl (omega (arith, n))
 
 -- ---- the best of a list
-data BestOf (l : List Setting) (p : ℕ) : Choice → Type 0 where
-  none : NoneHolds l p → BestOf l p Nothing
-  best : (x : Setting) → Fewest l p x → BestOf l p (At x)
+data BestOf (l : List Setting) (p : ℕ) : Option Setting → Type 0 where
+  none : NoneHolds l p → BestOf l p None
+  best : (x : Setting) → Fewest l p x → BestOf l p (Some x)
 
 module _ (l : List Setting) (p : ℕ) (x : Setting) where
   module _ (h : x.bytes < p) where
     small : (y : Setting) → x ≡ y → Holds (l ++ (x ∷ [])) p y → ⊥
     small y e w = let q : x.bytes ≡ y.bytes = ap (λ (z : Setting). z.bytes) e in omega (arith, w.enough)
 
-    passes : (c : Choice) → BestOf l p c → BestOf (l ++ (x ∷ [])) p c
+    passes : (c : Option Setting) → BestOf l p c → BestOf (l ++ (x ∷ [])) p c
     passes c (none n) = none (λ y w. ⊎_elim (n y) (λ e. small y e w) (either l x p y w))
     passes c (best z f) = best z (record { holds = old l x p z f.holds; least = λ y w. ⊎_elim (f.least y) (λ e. absurd (small y e w)) (either l x p y w) })
 
   module _ (h : p ≤ x.bytes) where
-    takes : (c : Choice) → BestOf l p c → BestOf (l ++ (x ∷ [])) p (against c x)
+    takes : (c : Option Setting) → BestOf l p c → BestOf (l ++ (x ∷ [])) p (against c x)
     unfolding against if_else
     takes c (none n) = best x (record { holds = new l x p h; least = λ y w. ⊎_elim (λ o. absurd (n y o)) (same-one x y) (either l x p y w) })
     takes c (best z f) = go (is_better x z) refl
       where
-        go : (b : Bool) → is_better x z ≡ b → BestOf (l ++ (x ∷ [])) p (if_else b (At x) (At z))
+        go : (b : Bool) → is_better x z ≡ b → BestOf (l ++ (x ∷ [])) p (if_else b (Some x) (Some z))
         go true e = best x (record { holds = new l x p h; least = λ y w. ⊎_elim (λ o. through x z y (better-is x z e) (f.least y o)) (same-one x y) (either l x p y w) })
         go false e = best z (record { holds = old l x p z f.holds; least = λ y w. ⊎_elim (f.least y) (λ q. through z x y (not-better x z e) (same-one x y q)) (either l x p y w) })
 
-  one_more : (c : Choice) → BestOf l p c → BestOf (l ++ (x ∷ [])) p (better_of p c x)
+  one_more : (c : Option Setting) → BestOf l p c → BestOf (l ++ (x ∷ [])) p (better_of p c x)
   unfolding better_of if_else
   one_more c w = go (ltb x.bytes p) refl
     where
@@ -93,7 +92,7 @@ module _ (l : List Setting) (p : ℕ) (x : Setting) where
       go true e = passes (ltb-true x.bytes p e) c w
       go false e = takes (ltb-false x.bytes p e) c w
 
-best-from : (l m : List Setting) (p : ℕ) (c : Choice) → BestOf l p c → BestOf (l ++ m) p (fewest_from p c m)
+best-from : (l m : List Setting) (p : ℕ) (c : Option Setting) → BestOf l p c → BestOf (l ++ m) p (fewest_from p c m)
 unfolding fewest_from
 best-from l [] p c w = rw append-nil w
 best-from l (x ∷ m) p c w = rw append_snoc at (best-from (l ++ (x ∷ [])) m p (better_of p c x) (one_more l p x c w))
@@ -103,7 +102,7 @@ alike a b c d p q = rw (p, q)
 
 module _ (l : List Setting) (p : ℕ) where
   the-best : BestOf l p (fewest_of p l)
-  the-best = best-from [] l p Nothing (none (λ y h. omega (arith, h.inside)))
+  the-best = best-from [] l p None (none (λ y h. omega (arith, h.inside)))
 
   -- one setting at the most has the fewest
   pub one-fewest : (x y : Setting) → Fewest l p x → Fewest l p y → x ≡ y
@@ -115,29 +114,29 @@ module _ (l : List Setting) (p : ℕ) where
       go (inr a) (inl b) = absurd (omega (arith, a.0))
       go (inr a) (inr b) = alike x.number x.bytes y.number y.bytes (omega (arith, a.1, b.1)) a.0
 
-  apart : (x : Setting) → Nothing ≡ At x → ⊥
+  apart : (x : Setting) → None ≡ Some x → ⊥
   apart x e = let z : ◌≡◌ {A = ℕ} 0 1 = cc in omega arith
 
   -- EXACTLY WHEN: nothing, where none holds
-  pub nothing-exactly : (fewest_of p l ≡ Nothing) ↔ NoneHolds l p
+  pub nothing-exactly : (fewest_of p l ≡ None) ↔ NoneHolds l p
   nothing-exactly = (to (fewest_of p l) the-best, from (fewest_of p l) the-best)
     where
-      to : (c : Choice) → BestOf l p c → c ≡ Nothing → NoneHolds l p
+      to : (c : Option Setting) → BestOf l p c → c ≡ None → NoneHolds l p
       to c (none n) e = n
       to c (best x f) e = absurd (apart x (sym e))
 
-      from : (c : Choice) → BestOf l p c → NoneHolds l p → c ≡ Nothing
+      from : (c : Option Setting) → BestOf l p c → NoneHolds l p → c ≡ None
       from c (none n) h = refl
       from c (best x f) h = absurd (h x f.holds)
 
   -- a setting, where it has the fewest
-  pub fewest-exactly : (x : Setting) → (fewest_of p l ≡ At x) ↔ Fewest l p x
+  pub fewest-exactly : (x : Setting) → (fewest_of p l ≡ Some x) ↔ Fewest l p x
   fewest-exactly x = (to (fewest_of p l) the-best, from (fewest_of p l) the-best)
     where
-      to : (c : Choice) → BestOf l p c → c ≡ At x → Fewest l p x
+      to : (c : Option Setting) → BestOf l p c → c ≡ Some x → Fewest l p x
       to c (none n) e = absurd (apart x e)
       to c (best z f) e = let q : z ≡ x = cc in rw q at f
 
-      from : (c : Choice) → BestOf l p c → Fewest l p x → c ≡ At x
+      from : (c : Option Setting) → BestOf l p c → Fewest l p x → c ≡ Some x
       from c (none n) h = absurd (n x h.holds)
       from c (best z f) h = rw (one-fewest z x f h)

@@ -13,12 +13,6 @@ pub struct Setting {
     pub bytes: u32,
 }
 
-#[derive(Drop)]
-pub enum Choice {
-    At(Setting),
-    Nothing,
-}
-
 // The bytes of the setting whose interface descriptor stands at `at`: those of the first endpoint of this address before the next interface descriptor, 0 where there is none.
 fn bytes_at(s: &[u8], at: usize, endpoint: u8) -> u32
     requires { at < length s.now }
@@ -47,14 +41,15 @@ fn setting_at(s: &[u8], at: usize, endpoint: u8) -> Setting
 }
 
 // The k-th setting, from 0, of the streaming interface of this number, in order of appearance; its bytes at this endpoint.
-pub fn kth(s: &[u8], interface: u8, endpoint: u8, k: usize) -> Choice
+pub fn kth(s: &[u8], interface: u8, endpoint: u8, k: usize) -> Option<Setting>
     ensures { result ≡ kth_of (settings_of s.now interface endpoint) k }
 {
+    // What the search finds is the next place.
     let mut at = interfaces::next(s, 0, Sought::Setting(interface));
     let mut left = k;
     while at < s.len() {
         if left == 0 {
-            return Choice::At(setting_at(s, at, endpoint));
+            return Some(setting_at(s, at, endpoint));
         }
         left = left - 1;
         at = interfaces::next(
@@ -63,7 +58,7 @@ pub fn kth(s: &[u8], interface: u8, endpoint: u8, k: usize) -> Choice
             Sought::Setting(interface),
         );
     }
-    Choice::Nothing
+    None
 }
 
 // Fewer bytes, or as many and a lower number.
@@ -77,29 +72,24 @@ fn is_better(x: Setting, y: Setting) -> bool
 }
 
 // The better of what was found so far and one setting more, if that holds the payload.
-fn better(best: Choice, x: Setting, payload: u32) -> Choice
+fn better(best: Option<Setting>, x: Setting, payload: u32) -> Option<Setting>
     ensures { result ≡ better_of payload best x }
 {
     if x.bytes < payload {
         return best;
     }
     match best {
-        Choice::Nothing => Choice::At(x),
-        Choice::At(y) => {
-            if is_better(x, y) {
-                Choice::At(x)
-            } else {
-                Choice::At(y)
-            }
-        }
+        None => Some(x),
+        Some(y) => { if is_better(x, y) { Some(x) } else { Some(y) } }
     }
 }
 
 // The setting with the fewest bytes that holds the payload, the lowest number on a tie.
-pub fn fewest(s: &[u8], interface: u8, endpoint: u8, payload: u32) -> Choice
+pub fn fewest(s: &[u8], interface: u8, endpoint: u8, payload: u32) -> Option<Setting>
     ensures { result ≡ fewest_of payload (settings_of s.now interface endpoint) }
 {
-    let mut best = Choice::Nothing;
+    let mut best = None;
+    // What the search finds is the next place.
     let mut at = interfaces::next(s, 0, Sought::Setting(interface));
     while at < s.len() {
         let x = setting_at(s, at, endpoint);

@@ -1,4 +1,5 @@
 -- The digits of a number are read one by one.
+use Rattle.std.specs.Prelude.{None, Some}
 use Prim.Native.Nat.{ℕ, suc, ◌+◌, ◌≤◌, ◌<◌}
 use mathlib.Core.Path.{◌≡◌, refl}
 use mathlib.Core.List.{List, [], ◌∷◌}
@@ -11,7 +12,6 @@ use native.Mathlib.Numerals.{add-one}
 use native.Mathlib.Omega.{arith}
 use Rattle.rules.specs.IfElse.{if_else}
 use Rattle.arguments.specs.Digits.{no_digit, next, spelt, number_of}
-use Rattle.arguments.specs.declared.Number.TheVariants.{Is, None}
 
 -- from place i on the digits spell what they all spell
 pub record Spelling (most : ℕ) (l : List ℕ) (v i : ℕ) : Type 0 where
@@ -37,11 +37,11 @@ module _ (most : ℕ) (l : List ℕ) where
       go (d ∷ l) n = refl
 
   module _ (v i : ℕ) (w : Spelling most l v i) where
-    pub spelt-all : length l ≤ i → Is v ≡ number_of most l
+    pub spelt-all : length l ≤ i → Some v ≡ number_of most l
     unfolding spelt
     spelt-all h = go (drop i l) (simp length-drop (omega arith)) w.same
       where
-        go : (m : List ℕ) → length m ≡ 0 → spelt most v m ≡ number_of most l → Is v ≡ number_of most l
+        go : (m : List ℕ) → length m ≡ 0 → spelt most v m ≡ number_of most l → Some v ≡ number_of most l
         go [] e q = q
         go (d ∷ m) e q = absurd (omega arith)
 

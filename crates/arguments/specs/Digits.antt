@@ -1,8 +1,6 @@
 -- A number as an argument: what decimal digits spell, or none for anything but a number from 0 to `most`.
-use Rattle.std.specs.Prelude.{ℕ, ◌+◌, ◌-◌, ◌*◌, List, [], ◌∷◌, Bool, ◌||◌, ltb}
+use Rattle.std.specs.Prelude.{ℕ, ◌+◌, ◌-◌, ◌*◌, List, [], ◌∷◌, Bool, ◌||◌, ltb, None, Option, Some}
 use Rattle.rules.specs.IfElse.{if_else}
-use Rattle.arguments.specs.declared.Number.{Number}
-use Rattle.arguments.specs.declared.Number.TheVariants.{Is, None}
 
 -- the byte is none of 0 to 9
 abbrev pub no_digit : ℕ → Bool
@@ -12,17 +10,17 @@ no_digit d = ltb d 48 || ltb 57 d
 abbrev pub next : ℕ → ℕ → ℕ
 next v d = v * 10 + (d - 48)
 
-unfoldable pub spelt : ℕ → ℕ → List ℕ → Number
-spelt most v [] = Is v
+unfoldable pub spelt : ℕ → ℕ → List ℕ → Option ℕ
+spelt most v [] = Some v
 spelt most v (d ∷ l) = if_else (no_digit d || ltb most (next v d)) None (spelt most (next v d) l)
 
-unfoldable pub number_of : ℕ → List ℕ → Number
+unfoldable pub number_of : ℕ → List ℕ → Option ℕ
 number_of most [] = None
 number_of most (d ∷ l) = spelt most 0 (d ∷ l)
 
 -- the number, or another where there is none
-abbrev pub number_or : ℕ → Number → ℕ
-number_or other (Is n) = n
+abbrev pub number_or : ℕ → Option ℕ → ℕ
+number_or other (Some n) = n
 number_or other None = other
 
 -- a number of 8 bits, or 256

@@ -1,4 +1,6 @@
 -- What the calls add, from the list: the frames that begin in them are those of the list that starts with their first transfer, whatever came before.
+use Rattle.std.specs.Prelude.{None, Some}
+use Rattle.session_rules.specs.Options.{Ended}
 use Prim.Native.Nat.{ℕ, zero, suc, ◌+◌}
 use mathlib.Core.Path.{◌≡◌, refl, sym, ap, subst, ◌∙◌}
 use mathlib.Core.Bool.{Bool, true, false, true≢false}
@@ -11,8 +13,6 @@ use Rattle.session_rules.specs.Transfer.{reading_of}
 use Rattle.session_rules.specs.declared.Phase.{Phase}
 use Rattle.session_rules.specs.declared.Phase.TheVariants.{Fresh, Under, Past}
 use Rattle.session_rules.specs.declared.Delivery.{Delivery}
-use Rattle.session_rules.specs.declared.Ended.{Ended}
-use Rattle.session_rules.specs.declared.Ended.TheVariants.{Nothing, Frame}
 use Rattle.session_rules.specs.declared.Answer.{Answer}
 use Rattle.session_rules.specs.Track.{handing}
 use Rattle.session_rules.specs.Turns.{out_by, out_of}
@@ -155,8 +155,8 @@ out_one true d n D = added.one _
 out_one false d n D = added.one _
 
 ended-one : (e : Ended) (n : ℕ) (D : List ℕ) → AtMostOne (ended_items e n D)
-ended-one Nothing n D = added.none
-ended-one (Frame w) n D = added.one _
+ended-one None n D = added.none
+ended-one (Some w) n D = added.one _
 
 out-not : (ph : Phase) (b : Bool) → NotUnder (out_by ph b).track.phase
 out-not Fresh b = tt

@@ -1,5 +1,6 @@
 -- Once a readable transfer is taken that has another FID than the last readable one, with nothing unreadable or lost between, a session is where a fresh one would be, but for its ledger and its
 -- transfers taken.
+use Rattle.std.specs.Prelude.{None}
 use Prim.Native.Nat.{ℕ, ◌-◌, ◌≤◌}
 use mathlib.Core.Path.{◌≡◌, refl, sym, ap, subst, ◌∙◌}
 use mathlib.Core.Bool.{Bool, true, false}
@@ -16,7 +17,6 @@ use Rattle.session_rules.specs.declared.Phase.{Phase}
 use Rattle.session_rules.specs.declared.Phase.TheVariants.{Fresh, Under, Past}
 use Rattle.session_rules.specs.declared.Track.{Track}
 use Rattle.session_rules.specs.declared.Turn.{Turn}
-use Rattle.session_rules.specs.declared.Ended.TheVariants.{Nothing}
 use Rattle.session_rules.specs.declared.Answer.{Answer}
 use Rattle.session_rules.specs.declared.HandOut.{HandOut}
 use Rattle.session_rules.specs.Turns.{turn_by, turn_of, hands_by, hands_of, out_by, out_of}
@@ -176,7 +176,7 @@ module _ (t : List ℕ) (h : Header) where
     leaves : Leaves (opens (opening_of x) h n) (drop h.len t) x.buffer y.buffer
     leaves =
         let k : n ≤ length (drop h.len t) = (let e : length (drop h.len t) ≡ n = length-drop h.len t in omega arith) in
-        begun-leaves (opening_of x) h n (drop h.len t) x.buffer y.buffer k mine.room (subst (λ (m : ℕ). m ≤ length y.buffer) (sym alike.frame) yours.room) false Nothing 0
+        begun-leaves (opening_of x) h n (drop h.len t) x.buffer y.buffer k mine.room (subst (λ (m : ℕ). m ≤ length y.buffer) (sym alike.frame) yours.room) false None 0
 
     written : (begun y t).buffer ≡ paste y.buffer 0 (drop h.len t) (opens (opening_of x) h n).len
     written = yours.buffer ∙ ap (λ (X : Turn). paste y.buffer 0 (drop h.len t) X.len) (sym turned)

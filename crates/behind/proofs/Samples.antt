@@ -1,4 +1,6 @@
 -- Cases by computation: the pair of sessions that shows why the first transfer is offered until it is taken; one with D1 set; and, of each premise, two sessions that differ where it is left out.
+use Rattle.std.specs.Prelude.{None, Some}
+use Rattle.session_rules.specs.Options.{Ended}
 use Prim.Native.Nat.{ℕ}
 use mathlib.Core.Path.{◌≡◌, refl}
 use mathlib.Core.Bool.{false}
@@ -11,13 +13,9 @@ use Rattle.sizes.specs.declared.Opening.{Opening}
 use Rattle.sizes.specs.declared.HeaderKind.{HeaderKind}
 use Rattle.sizes.specs.declared.HeaderKind.TheVariants.{Old, Vp8}
 use Rattle.sizes.specs.Framing.{by_eof}
-use Rattle.session_rules.specs.declared.Stamp.{Stamp}
-use Rattle.session_rules.specs.declared.Layer.{Layer}
 use Rattle.session_rules.specs.Layouts.{header_layout}
 use Rattle.session_rules.specs.Transfer.{flag_of, layer_place, need_of, rows_by, stamp_of, layer_of, header_by, header_of, reading_of}
 use Rattle.session_rules.specs.declared.Reason.TheVariants.{Gap, Error, Long, Cut}
-use Rattle.session_rules.specs.declared.Ended.{Ended}
-use Rattle.session_rules.specs.declared.Ended.TheVariants.{Nothing, Frame}
 use Rattle.session_rules.specs.declared.Fate.{Fate}
 use Rattle.session_rules.specs.Turns.{turn_of, hands_of, out_of, spoilt_of, closed_of}
 use Rattle.session_rules.specs.declared.Account.{Account}
@@ -57,10 +55,10 @@ abbrev told : Ended → Fate → Said
 told e f = Said.took (Outcome.Taken (record { ended = e; fate = f }))
 
 abbrev fate : Fate → Said
-fate f = told Nothing f
+fate f = told None f
 
 abbrev delivered : ℕ → Fate
-delivered n = Fate.Delivered (record { len = n; stamp = Stamp.Absent; layer = Layer.Absent })
+delivered n = Fate.Delivered (record { len = n; stamp = None; layer = None })
 
 abbrev says : At → List ℕ → Said
 says x t = said_of x (Ask.transfer t)
@@ -116,7 +114,7 @@ with-eof =
     damage-behind eof eof (alike-itself eof) false damaged (taking (whole ∷ [])) room room last (header_of eof last) [] (record { fid = refl; clear = refl }) (record { fid = refl; clear = refl }) refl
     refl (refl, tt) (refl, tt)
 
-what-is-said : (says (reached eof damaged room) last ≡ told (Frame Gap) (delivered 1)) × (says (after eof (whole ∷ [])) last ≡ fate (delivered 1))
+what-is-said : (says (reached eof damaged room) last ≡ told (Some Gap) (delivered 1)) × (says (after eof (whole ∷ [])) last ≡ fate (delivered 1))
 unfolding if_else any_below frame_size_broken payload_size_broken by_eof header_layout flag_of layer_place need_of rows_by stamp_of layer_of header_by reading_of turn_of spoilt_of closed_of plus_of timed_of post_of shown_of sizes_broken fill_broken accounts_broken counts_broken rule50 read_of took_of took_buffer hands_out hands_of out_of handed_of take_of buffer_of lost_of
 what-is-said = (refl, refl)
 
@@ -139,13 +137,13 @@ other-bits =
 
 -- ---- EACH PREMISE IS NEEDED: two sessions that meet all the others
 -- something lost since: a gap of the next frame
-without-clear : (says (after eof (good ∷ [])) last ≡ told (Frame Cut) (delivered 1))
-    × (says (reached eof (Offer.take room good ∷ Offer.lost ∷ []) room) last ≡ told (Frame Gap) (Fate.Dropped Gap))
+without-clear : (says (after eof (good ∷ [])) last ≡ told (Some Cut) (delivered 1))
+    × (says (reached eof (Offer.take room good ∷ Offer.lost ∷ []) room) last ≡ told (Some Gap) (Fate.Dropped Gap))
 unfolding if_else any_below frame_size_broken payload_size_broken by_eof header_layout flag_of layer_place need_of rows_by stamp_of layer_of header_by reading_of turn_of spoilt_of closed_of plus_of timed_of post_of shown_of sizes_broken fill_broken accounts_broken counts_broken rule50 read_of took_of took_buffer hands_out hands_of out_of handed_of take_of buffer_of lost_of
 without-clear = (refl, refl)
 
 -- the last readable transfers of different FIDs: one frame begins, the other goes on
-without-fid : (says (after eof (good ∷ [])) last ≡ told (Frame Cut) (delivered 1)) × (says (after eof ((0x02 ∷ 0x81 ∷ 0xAA ∷ []) ∷ [])) last ≡ fate (delivered 2))
+without-fid : (says (after eof (good ∷ [])) last ≡ told (Some Cut) (delivered 1)) × (says (after eof ((0x02 ∷ 0x81 ∷ 0xAA ∷ []) ∷ [])) last ≡ fate (delivered 2))
 unfolding if_else any_below frame_size_broken payload_size_broken by_eof header_layout flag_of layer_place need_of rows_by stamp_of layer_of header_by reading_of turn_of spoilt_of closed_of plus_of timed_of post_of shown_of sizes_broken fill_broken accounts_broken counts_broken rule50 read_of took_of took_buffer hands_out hands_of out_of handed_of take_of buffer_of lost_of
 without-fid = (refl, refl)
 
@@ -167,7 +165,7 @@ unfolding if_else any_below frame_size_broken payload_size_broken by_eof header_
 without-payload-size = refl
 
 -- D1 clear: its frame is not ended by EOF
-without-framing : (says (after eof (bad ∷ [])) last ≡ told (Frame Error) (delivered 1)) × (says (after by_fid (bad ∷ [])) last ≡ told (Frame Error) Fate.Kept)
+without-framing : (says (after eof (bad ∷ [])) last ≡ told (Some Error) (delivered 1)) × (says (after by_fid (bad ∷ [])) last ≡ told (Some Error) Fate.Kept)
 unfolding if_else any_below frame_size_broken payload_size_broken by_eof header_layout flag_of layer_place need_of rows_by stamp_of layer_of header_by reading_of turn_of spoilt_of closed_of plus_of timed_of post_of shown_of sizes_broken fill_broken accounts_broken counts_broken rule50 read_of took_of took_buffer hands_out hands_of out_of handed_of take_of buffer_of lost_of
 without-framing = (refl, refl)
 

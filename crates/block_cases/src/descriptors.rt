@@ -3,17 +3,15 @@ use crate::lines;
 use cases::{input, print};
 use control_map::{CONTROLS_MOST, Map};
 use entities::{Entity, Table};
-use rules::Verdict;
+use rules::Refused;
 use streaming::Streaming;
 use streaming_descriptors::{Format, Frame};
 
 pub fn control() -> bool {
     let mut block = [0u8; 4352];
-    let part = input::part(&mut block);
-    let n = part.count;
-    if !part.fine {
+    let Some(n) = input::part(&mut block) else {
         return false;
-    }
+    };
     let c = control::read(&block[..n]);
     let verdict = c.verdict;
     let table = c.table;
@@ -27,31 +25,11 @@ pub fn control() -> bool {
 
 // Whether every place past the used ones is all zero.
 fn rest_zero(t: Table) -> bool {
-    let n = t.count;
-    let mut i: usize = 0;
-    while i < 32 {
-        if n <= i {
-            let e = t.entities[i];
-            if !no_entity(e) {
-                return false;
-            }
-        }
-        i += 1;
-    }
-    true
+    t.entities.iter().skip(t.count).all(|e| no_entity(*e))
 }
 
 fn no_entity(e: Entity) -> bool {
-    if e.id != 0 {
-        return false;
-    }
-    if e.kind != 0 {
-        return false;
-    }
-    if e.terminal != 0 {
-        return false;
-    }
-    e.offset == 0
+    e.id == 0 && e.kind == 0 && e.terminal == 0 && e.offset == 0
 }
 
 // Case M: the controls of a unit, or why there are none.
@@ -66,17 +44,15 @@ pub fn whole_map() -> bool {
 
 fn mapped(whole: bool) -> bool {
     let mut block = [0u8; 4352];
-    let part = input::part(&mut block);
-    let n = part.count;
-    if !part.fine {
+    let Some(n) = input::part(&mut block) else {
         return false;
-    }
+    };
     let id = input::byte();
     let map = control_map::controls(&block[..n], id);
     let verdict = map.verdict;
     match verdict {
-        Verdict::Accepted => given(map),
-        Verdict::Refused { number, offset } => {
+        Ok(()) => given(map),
+        Err(Refused { number, offset }) => {
             print::text(b"map ");
             lines::refused(number, offset);
         }
@@ -99,16 +75,7 @@ fn behind(map: Map) {
 
 // Whether every place from n on is zero.
 fn places_zero(bytes: [u8; CONTROLS_MOST], n: usize) -> bool {
-    let mut i: usize = 0;
-    while i < CONTROLS_MOST {
-        if n <= i {
-            if bytes[i] != 0 {
-                return false;
-            }
-        }
-        i += 1;
-    }
-    true
+    bytes.iter().skip(n).all(|b| *b == 0)
 }
 
 fn given(map: Map) {
@@ -118,11 +85,9 @@ fn given(map: Map) {
 
 pub fn streaming() -> bool {
     let mut block = [0u8; 4352];
-    let part = input::part(&mut block);
-    let n = part.count;
-    if !part.fine {
+    let Some(n) = input::part(&mut block) else {
         return false;
-    }
+    };
     let c = control::read(&block[..n]);
     let table = c.table;
     against(table)
@@ -131,11 +96,9 @@ pub fn streaming() -> bool {
 // A streaming block against a table.
 fn against(table: Table) -> bool {
     let mut block = [0u8; 16640];
-    let part = input::part(&mut block);
-    let n = part.count;
-    if !part.fine {
+    let Some(n) = input::part(&mut block) else {
         return false;
-    }
+    };
     let s = streaming::read(table, &block[..n]);
     described(s);
     true
@@ -160,72 +123,25 @@ fn described(s: Streaming) {
 }
 
 fn formats_rest(formats: [Format; 8], n: usize) -> bool {
-    let mut i: usize = 0;
-    while i < 8 {
-        if n <= i {
-            let f = formats[i];
-            if !no_format(f) {
-                return false;
-            }
-        }
-        i += 1;
-    }
-    true
+    formats.iter().skip(n).all(|f| no_format(*f))
 }
 
 fn no_format(f: Format) -> bool {
-    if f.kind != 0 {
-        return false;
-    }
-    if f.guid != 0 {
-        return false;
-    }
-    if f.bits != 0 {
-        return false;
-    }
-    if f.frames != 0 {
-        return false;
-    }
-    if f.default != 0 {
-        return false;
-    }
-    f.offset == 0
+    f.kind == 0 && f.guid == 0 && f.bits == 0 && f.frames == 0 && f.default == 0 && f.offset == 0
 }
 
 fn frames_rest(frames: [Frame; 64], n: usize) -> bool {
-    let mut i: usize = 0;
-    while i < 64 {
-        if n <= i {
-            let f = frames[i];
-            if !no_frame(f) {
-                return false;
-            }
-        }
-        i += 1;
-    }
-    true
+    frames.iter().skip(n).all(|f| no_frame(*f))
 }
 
 fn no_frame(f: Frame) -> bool {
-    if f.format != 0 {
-        return false;
-    }
-    if f.k != 0 {
-        return false;
-    }
-    if f.width != 0 {
-        return false;
-    }
-    if f.height != 0 {
-        return false;
-    }
-    if f.offset != 0 {
-        return false;
-    }
-    if f.size != 0 {
-        return false;
-    }
-    f.interval == 0
+    f.format == 0
+        && f.k == 0
+        && f.width == 0
+        && f.height == 0
+        && f.offset == 0
+        && f.size == 0
+        && f.interval == 0
 }
 
 pub fn hostile() -> bool {
@@ -236,10 +152,8 @@ fn forged_table() -> Table {
     let count = input::byte() as usize;
     let revision = lines::revision_of(input::byte());
     let mut table = entities::no_table();
-    let mut i: usize = 0;
-    while i < 32 {
-        table.entities[i] = forged_entity();
-        i += 1;
+    for place in table.entities.iter_mut() {
+        *place = forged_entity();
     }
     Table {
         count,

@@ -2,7 +2,7 @@
 use cases::print;
 use control_map::CONTROLS_MOST;
 use entities::{Revision, Table};
-use rules::Verdict;
+use rules::{Refused, Verdict};
 use streaming_descriptors::{Format, Frame};
 use streaming_rules::{FORMATS_MOST, FRAMES_MOST};
 use text::LINE_MOST;
@@ -11,8 +11,8 @@ use text::LINE_MOST;
 pub fn verdict(name: &[u8], v: Verdict) {
     print::text(name);
     match v {
-        Verdict::Accepted => print::text(b"accepted\n"),
-        Verdict::Refused { number, offset } => refused(number, offset),
+        Ok(()) => print::text(b"accepted\n"),
+        Err(Refused { number, offset }) => refused(number, offset),
     }
 }
 

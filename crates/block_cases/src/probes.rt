@@ -6,25 +6,19 @@ use probe::Probe;
 
 pub fn check() -> bool {
     let mut block = [0u8; 4352];
-    let part = input::part(&mut block);
-    let n = part.count;
-    if !part.fine {
+    let Some(n) = input::part(&mut block) else {
         return false;
-    }
+    };
     let c = control::read(&block[..n]);
     let table = c.table;
     let mut streaming = [0u8; 16640];
-    let second = input::part(&mut streaming);
-    let m = second.count;
-    if !second.fine {
+    let Some(m) = input::part(&mut streaming) else {
         return false;
-    }
+    };
     let mut probe = [0u8; 64];
-    let third = input::part(&mut probe);
-    let k = third.count;
-    if !third.fine {
+    let Some(k) = input::part(&mut probe) else {
         return false;
-    }
+    };
     lines::verdict(
         b"check ",
         probe_check::check(table, &streaming[..m], &probe[..k]),
@@ -36,17 +30,13 @@ pub fn check() -> bool {
 pub fn write() -> bool {
     let revision = lines::revision_of(input::byte());
     let mut block = [0u8; 64];
-    let part = input::part(&mut block);
-    let n = part.count;
-    if !part.fine {
+    let Some(n) = input::part(&mut block) else {
         return false;
-    }
+    };
     let mut room = [0u8; 64];
-    let second = input::part(&mut room);
-    let m = second.count;
-    if !second.fine {
+    let Some(m) = input::part(&mut room) else {
         return false;
-    }
+    };
     let read = probe::read(&block[..n], revision);
     let verdict = read.verdict;
     let p = read.probe;

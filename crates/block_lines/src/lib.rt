@@ -12,6 +12,7 @@ use entities::{ENTITIES_MOST, Entity, Revision, Table};
 use streaming_descriptors::{Format, Frame};
 use streaming_rules::{FORMATS_MOST, FRAMES_MOST};
 
+// Four loops, by the type of what they print: one over a type parameter would ask of its printer, at each call, what they say here, and be no plainer.
 // Inner: the lines of the used places of an entity table.
 pub fn entities(buf: &mut [u8], start: usize, t: Table) -> usize
     requires { start + line_most * entities_most ≤ length buf.old }
@@ -20,14 +21,12 @@ pub fn entities(buf: &mut [u8], start: usize, t: Table) -> usize
 {
     let n = t.count;
     let mut at = start;
-    let mut i: usize = 0;
-    while i < ENTITIES_MOST {
+    for i in 0..ENTITIES_MOST {
         if n <= i {
             return at;
         }
         let e = t.entities[i];
         at = entity(buf, at, e);
-        i += 1;
     }
     at
 }
@@ -39,14 +38,12 @@ pub fn formats(buf: &mut [u8], start: usize, all: [Format; FORMATS_MOST], n: usi
     ensures upper_bound { result ≤ start + line_most * 8 }
 {
     let mut at = start;
-    let mut i: usize = 0;
-    while i < FORMATS_MOST {
+    for i in 0..FORMATS_MOST {
         if n <= i {
             return at;
         }
         let f = all[i];
         at = format(buf, at, f);
-        i += 1;
     }
     at
 }
@@ -58,14 +55,12 @@ pub fn frames(buf: &mut [u8], start: usize, all: [Frame; FRAMES_MOST], n: usize)
     ensures upper_bound { result ≤ start + line_most * 64 }
 {
     let mut at = start;
-    let mut i: usize = 0;
-    while i < FRAMES_MOST {
+    for i in 0..FRAMES_MOST {
         if n <= i {
             return at;
         }
         let f = all[i];
         at = frame(buf, at, f);
-        i += 1;
     }
     at
 }
@@ -136,14 +131,12 @@ fn numbers(buf: &mut [u8], start: usize, all: [u8; CONTROLS_MOST], n: usize) -> 
     ensures upper_bound { result ≤ start + line_most * 32 }
 {
     let mut at = start;
-    let mut i: usize = 0;
-    while i < CONTROLS_MOST {
+    for i in 0..CONTROLS_MOST {
         if n <= i {
             return at;
         }
         let x = all[i];
         at = text::number(buf, at, x as u64);
-        i += 1;
     }
     at
 }

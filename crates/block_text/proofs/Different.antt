@@ -1,11 +1,11 @@
 -- BLOCKS THAT PRINT ALIKE ARE ALIKE: the same verdict and, where accepted, the same of all that is printed.
+use Rattle.std.specs.Prelude.{Err, Ok}
+use Rattle.rules.specs.Verdicts.{Verdict, accept}
 use mathlib.Core.Path.{◌≡◌, refl, sym, ap, ◌∙◌}
 use mathlib.Core.List.{List, [], ◌∷◌, ◌++◌, append_assoc, append-nil, append_cancel_left}
 use Prim.Native.Nat.{ℕ}
 use native.Mathlib.Omega.{arith}
 use lib.ListN.{length, take, get_or}
-use Rattle.rules.specs.declared.Verdict.{Verdict}
-use Rattle.rules.specs.declared.Verdict.TheVariants.{Accepted, Refused}
 use Rattle.rules.proofs.Verdicts.{apart}
 use Rattle.entities.specs.declared.Entity.{Entity}
 use Rattle.entities.specs.declared.Table.{Table}
@@ -45,11 +45,11 @@ refused-split j l n m e =
     (k.0, ap first w.0)
 
 -- an accepted text begins otherwise than a refusal, which begins with r
-pub told-different : (x : ℕ) (v w : Verdict) (a b : List ℕ) → (x ≡ 114 → ⊥) → first a ≡ x → first b ≡ x → told_by v a ≡ told_by w b → (v ≡ w) × (v ≡ Accepted → a ≡ b)
-told-different x Accepted Accepted a b n h k e = (refl, λ p. e)
-told-different x Accepted (Refused l m) a b n h k e = absurd (n (sym h ∙ ap first e))
-told-different x (Refused j i) Accepted a b n h k e = absurd (n (sym (ap first e ∙ k)))
-told-different x (Refused j i) (Refused l m) a b n h k e = let s = refused-split j l i m e in (rw (s.0, s.1), λ p. absurd (apart j i p))
+pub told-different : (x : ℕ) (v w : Verdict) (a b : List ℕ) → (x ≡ 114 → ⊥) → first a ≡ x → first b ≡ x → told_by v a ≡ told_by w b → (v ≡ w) × (v ≡ accept → a ≡ b)
+told-different x (Ok _) (Ok _) a b n h k e = (refl, λ p. e)
+told-different x (Ok _) (Err r) a b n h k e = absurd (n (sym h ∙ ap first e))
+told-different x (Err r) (Ok _) a b n h k e = absurd (n (sym (ap first e ∙ k)))
+told-different x (Err r) (Err q) a b n h k e = let s = refused-split r.number q.number r.offset q.offset e in (rw (s.0, s.1), λ p. absurd (apart r.number r.offset p))
 
 -- ---- A CONTROL BLOCK
 -- a revision's line tells it
@@ -81,7 +81,7 @@ table-different t u e =
     let l = texts-different entity_line entity-split (used t) (used u) [] [] ends ends (ap (λ (r : List ℕ). r ++ []) c.1) in
     record { revision = a.0; clock = ap first c.0; entities = l.0 }
 
-pub control-different : (v w : Verdict) (t u : Table) → control_by v t ≡ control_by w u → (v ≡ w) × (v ≡ Accepted → SameTable t u)
+pub control-different : (v w : Verdict) (t u : Table) → control_by v t ≡ control_by w u → (v ≡ w) × (v ≡ accept → SameTable t u)
 control-different v w t u e =
     let h = told-different 97 v w (table_text t) (table_text u) (λ z. omega arith) refl refl e in
     (h.0, λ p. table-different t u (h.1 p))
@@ -106,7 +106,7 @@ numbers-different (x ∷ l) (y ∷ m) e =
 controls-different : (m n : Map) → controls_line m.length m.bytes ≡ controls_line n.length n.bytes → controls_of m ≡ controls_of n
 controls-different m n e = numbers-different (controls_of m) (controls_of n) (append_cancel_left (bytes "controls") (numbers (controls_of m) ++ (10 ∷ [])) (numbers (controls_of n) ++ (10 ∷ [])) e)
 
-pub map-different : (v w : Verdict) (m n : Map) → map_by v m ≡ map_by w n → (v ≡ w) × (v ≡ Accepted → controls_of m ≡ controls_of n)
+pub map-different : (v w : Verdict) (m n : Map) → map_by v m ≡ map_by w n → (v ≡ w) × (v ≡ accept → controls_of m ≡ controls_of n)
 map-different v w m n e =
     let h = told-different 99 v w (controls_line m.length m.bytes) (controls_line n.length n.bytes) (λ z. omega arith) refl refl e in
     (h.0, λ p. controls-different m n (h.1 p))
@@ -149,13 +149,13 @@ listed-different s t e =
     let h = texts-different frame_line frame-split (frames_of s) (frames_of t) [] [] no-frame no-frame g.1 in
     record { endpoint = ap first b.0; link = ap first c.0; formats = g.0; frames = h.0 }
 
-pub streaming-different : (v w : Verdict) (s t : Streaming) → streaming_by v s ≡ streaming_by w t → (v ≡ w) × (v ≡ Accepted → SameListing s t)
+pub streaming-different : (v w : Verdict) (s t : Streaming) → streaming_by v s ≡ streaming_by w t → (v ≡ w) × (v ≡ accept → SameListing s t)
 streaming-different v w s t e =
     let h = told-different 97 v w (listed_text s) (listed_text t) (λ z. omega arith) refl refl e in
     (h.0, λ p. listed-different s t (h.1 p))
 
 -- ---- A PROBE BLOCK: its layout has eight numbers
-pub probe-different : (v w : Verdict) (p q : Probe) → length p.layout ≡ 8 → length q.layout ≡ 8 → probe_text v p ≡ probe_text w q → (v ≡ w) × (v ≡ Accepted → p ≡ q)
+pub probe-different : (v w : Verdict) (p q : Probe) → length p.layout ≡ 8 → length q.layout ≡ 8 → probe_text v p ≡ probe_text w q → (v ≡ w) × (v ≡ accept → p ≡ q)
 probe-different v w p q h k e =
     let t = told-different 97 v w (accepted_line ++ fields_text p) (accepted_line ++ fields_text q) (λ z. omega arith) refl refl e in
     (t.0, λ a. fields-different p q h k (append_cancel_left accepted_line (fields_text p) (fields_text q) (t.1 a)))

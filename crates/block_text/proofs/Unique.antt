@@ -1,11 +1,11 @@
 -- The promise of each public function leaves one answer and one content of the buffer; and no text is empty, so that 0 is a refusal.
+use Rattle.std.specs.Prelude.{Err, Ok}
+use Rattle.rules.specs.Verdicts.{Verdict}
 use mathlib.Core.Path.{◌≡◌}
 use mathlib.Core.List.{List}
 use Prim.Native.Nat.{ℕ, ◌<◌}
 use native.Mathlib.Omega.{arith}
 use lib.ListN.{length}
-use Rattle.rules.specs.declared.Verdict.{Verdict}
-use Rattle.rules.specs.declared.Verdict.TheVariants.{Accepted, Refused}
 use Rattle.entities.specs.declared.Table.{Table}
 use Rattle.control.specs.declared.Control.{Control}
 use Rattle.control_map.specs.declared.Map.{Map}
@@ -36,17 +36,17 @@ probe-unique v p = unique (probe_text v p)
 
 -- no text is empty
 pub some-control : (v : Verdict) (t : Table) → 0 < length (control_by v t)
-some-control Accepted t = omega arith
-some-control (Refused k o) t = omega arith
+some-control (Ok _) t = omega arith
+some-control (Err r) t = omega arith
 
 pub some-map : (v : Verdict) (m : Map) → 0 < length (map_by v m)
-some-map Accepted m = omega arith
-some-map (Refused k o) m = omega arith
+some-map (Ok _) m = omega arith
+some-map (Err r) m = omega arith
 
 pub some-streaming : (v : Verdict) (s : Streaming) → 0 < length (streaming_by v s)
-some-streaming Accepted s = omega arith
-some-streaming (Refused k o) s = omega arith
+some-streaming (Ok _) s = omega arith
+some-streaming (Err r) s = omega arith
 
 pub some-probe : (v : Verdict) (p : Probe) → 0 < length (probe_text v p)
-some-probe Accepted p = omega arith
-some-probe (Refused k o) p = omega arith
+some-probe (Ok _) p = omega arith
+some-probe (Err r) p = omega arith

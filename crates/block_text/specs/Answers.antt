@@ -1,7 +1,6 @@
 -- What is printed of a whole answer: its lines; or the refusal's line, and its number in plain words.
-use Rattle.std.specs.Prelude.{Bool, true, false, List, [], ◌∷◌, ◌++◌, ℕ, ◌*◌, take}
-use Rattle.rules.specs.declared.Verdict.{Verdict}
-use Rattle.rules.specs.declared.Verdict.TheVariants.{Accepted, Refused}
+use Rattle.rules.specs.Verdicts.{Verdict}
+use Rattle.std.specs.Prelude.{Bool, true, false, List, [], ◌∷◌, ◌++◌, ℕ, ◌*◌, take, Err, Ok}
 use Rattle.entities.specs.declared.Table.{Table}
 use Rattle.entities.specs.Table.{used}
 use Rattle.control.specs.declared.Control.{Control}
@@ -15,8 +14,8 @@ use Rattle.refusal_words.specs.Words.{words_of}
 
 -- whether an answer is one, and no refusal: what the status tells
 abbrev pub is_accepted : Verdict → Bool
-is_accepted Accepted = true
-is_accepted (Refused k o) = false
+is_accepted (Ok _) = true
+is_accepted (Err r) = false
 
 abbrev pub is_given : Map → Bool
 is_given m = is_accepted m.verdict
@@ -27,8 +26,8 @@ refused_text k o = refused_line k o ++ words_of k
 
 -- the text of what was accepted, or the refusal
 abbrev pub told_by : Verdict → List ℕ → List ℕ
-told_by Accepted t = t
-told_by (Refused k o) t = refused_text k o
+told_by (Ok _) t = t
+told_by (Err r) t = refused_text r.number r.offset
 
 -- the revision, the clock frequency, and the used places of the entity table
 abbrev pub table_text : Table → List ℕ

@@ -1,11 +1,11 @@
 // The printed text of what the readers answer: whole answers in a lent buffer.
 #![tactic(auto)]
 
+ghost use Rattle.rules.specs.Verdicts.{accept};
 ghost use Rattle.std.specs.Prelude.{◌≡◌, ◌≤◌, length};
 ghost use Rattle.io.specs.Counts.{IsPrefixLen};
 ghost use Rattle.text.specs.Put.{Put};
 ghost use Rattle.text.specs.Written.{answer_of, buffer_of};
-ghost use Rattle.rules.specs.declared.Verdict.TheVariants.{Accepted};
 ghost use Rattle.block_lines.specs.Lines.{controls_line};
 ghost use Rattle.block_text.specs.Answers.{room, refused_text, table_text, control_by, control_text, map_text, listed_text, streaming_text, probe_text, is_accepted, is_given};
 
@@ -13,7 +13,7 @@ use control::Control;
 use control_map::Map;
 use entities::Table;
 use probe::Probe;
-use rules::Verdict;
+use rules::{Refused, Verdict};
 use streaming::Streaming;
 use text::LINE_MOST;
 
@@ -75,8 +75,8 @@ fn control_read(buf: &mut [u8], verdict: Verdict, t: Table) -> usize
     ensures { Put buf.old 0 (control_by verdict t) result buf.new }
 {
     match verdict {
-        Verdict::Accepted => table(buf, t),
-        Verdict::Refused { number, offset } => refused(buf, number, offset),
+        Ok(()) => table(buf, t),
+        Err(Refused { number, offset }) => refused(buf, number, offset),
     }
 }
 
@@ -98,8 +98,8 @@ fn mapped(buf: &mut [u8], m: Map) -> usize
 {
     let verdict = m.verdict;
     match verdict {
-        Verdict::Accepted => given(buf, m),
-        Verdict::Refused { number, offset } => refused(buf, number, offset),
+        Ok(()) => given(buf, m),
+        Err(Refused { number, offset }) => refused(buf, number, offset),
     }
 }
 
@@ -117,8 +117,8 @@ fn streaming_read(buf: &mut [u8], s: Streaming) -> usize
 {
     let verdict = s.verdict;
     match verdict {
-        Verdict::Accepted => listed(buf, s),
-        Verdict::Refused { number, offset } => refused(buf, number, offset),
+        Ok(()) => listed(buf, s),
+        Err(Refused { number, offset }) => refused(buf, number, offset),
     }
 }
 
@@ -142,14 +142,14 @@ fn probe_read(buf: &mut [u8], verdict: Verdict, p: Probe) -> usize
     ensures { Put buf.old 0 (probe_text verdict p) result buf.new }
 {
     match verdict {
-        Verdict::Accepted => offered(buf, p),
-        Verdict::Refused { number, offset } => refused(buf, number, offset),
+        Ok(()) => offered(buf, p),
+        Err(Refused { number, offset }) => refused(buf, number, offset),
     }
 }
 
 fn offered(buf: &mut [u8], p: Probe) -> usize
     requires { room ≤ length buf.old }
-    ensures { Put buf.old 0 (probe_text Accepted p) result buf.new }
+    ensures { Put buf.old 0 (probe_text accept p) result buf.new }
 {
     let told = text::put(buf, 0, b"accepted\n");
     probe_lines::fields(buf, told, p)
@@ -168,10 +168,7 @@ pub fn refused(buf: &mut [u8], number: u8, offset: usize) -> usize
 pub fn is_accepted(v: Verdict) -> bool
     ensures { result ≡ is_accepted v }
 {
-    match v {
-        Verdict::Accepted => true,
-        Verdict::Refused { .. } => false,
-    }
+    v.is_ok()
 }
 
 // Whether controls were given.

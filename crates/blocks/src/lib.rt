@@ -20,7 +20,7 @@ pub struct Limits {
 }
 
 // Inner: a block of the least length has its wTotalLength.
-// The first rule that the block as a whole breaks; 0 where none is broken.
+// The first rule that the block as a whole breaks; 0 where none is broken. (A Result would have to require that `first` is not 0.)
 pub fn whole_rule(s: &[u8], b: Limits) -> u8
     requires lt_least { (2 < b.least) × (b.total + 1 < b.least) }
     requires first_bound { b.first < 200 }
@@ -48,27 +48,20 @@ pub fn whole_rule(s: &[u8], b: Limits) -> u8
 }
 
 // Inner: a descriptor starts at `at`. Whether bLength is under 3 or past the end.
+#[tactic(auto, unfolding(crate::specs::Blocks::length_broken))]
 pub fn length_broken(s: &[u8], at: usize) -> bool
     requires { at < length s.now }
     ensures { result ≡ length_broken s.now at }
 {
     let len = le::wide(s[at]);
-    if len < 3 {
-        return true;
-    }
-    s.len() - at < len
+    len < 3 || s.len() - at < len
 }
 
 // Inner: a descriptor of at least 3 bytes starts at `at`. Whether its type is not 0x24, or it is a second header.
+#[tactic(auto, unfolding(crate::specs::Blocks::type_broken))]
 pub fn type_broken(s: &[u8], at: usize) -> bool
     requires { at + 2 < length s.now }
     ensures { result ≡ type_broken s.now at }
 {
-    if s[at + 1] != DESCRIPTOR {
-        return true;
-    }
-    if s[at + 2] != HEADER {
-        return false;
-    }
-    at != 0
+    s[at + 1] != DESCRIPTOR || (s[at + 2] == HEADER && at != 0)
 }

@@ -1,4 +1,6 @@
 -- Each number of the ledger that a session shows is the rule's.
+use Rattle.std.specs.Prelude.{None, Some}
+use Rattle.session_rules.specs.Options.{Ended, Stamp}
 use Prim.Native.Nat.{ℕ, ◌+◌, ◌-◌, ◌≤◌, ◌<◌}
 use mathlib.Core.Path.{◌≡◌, refl, sym, ◌∙◌, ap, subst}
 use mathlib.Core.Bool.{Bool, true, false}
@@ -9,15 +11,12 @@ use lib.ListN.{length, drop, get_or-replicate}
 use lib.Dec.{eqb}
 use borrow.Author.Tests.{ne_eqb, eqb-true, eqb-false}
 use Rattle.sizes.specs.declared.Opening.{Opening}
-use Rattle.session_rules.specs.declared.Stamp.{Stamp}
 use Rattle.session_rules.specs.declared.Reading.{Reading}
 use Rattle.session_rules.specs.declared.Reading.TheVariants.{Idle, Unreadable, Readable}
 use Rattle.session_rules.specs.Transfer.{reading_of}
 use Rattle.session_rules.specs.declared.Reason.{Reason}
 use Rattle.session_rules.specs.declared.Phase.{Phase}
 use Rattle.session_rules.specs.declared.Phase.TheVariants.{Fresh, Under, Past}
-use Rattle.session_rules.specs.declared.Ended.{Ended}
-use Rattle.session_rules.specs.declared.Ended.TheVariants.{Nothing, Frame}
 use Rattle.session_rules.specs.declared.Fate.{Fate}
 use Rattle.session_rules.specs.declared.Turn.{Turn}
 use Rattle.session_rules.specs.declared.HandOut.{HandOut}
@@ -54,8 +53,8 @@ Settled Entry.Idle = Unit {0}
 
 module _ (m : Entry → ℕ) (none : (e : Entry) → Settled e → m e ≡ 0) where
   ended-none : (e : Ended) (g : ℕ) (D : List ℕ) → total m (map entry_of (ended_items e g D)) ≡ 0
-  ended-none Nothing g D = refl
-  ended-none (Frame w) g D = rw (none (Entry.Dropped w g) tt)
+  ended-none None g D = refl
+  ended-none (Some w) g D = rw (none (Entry.Dropped w g) tt)
 
   fate-none : (f : Fate) (n : ℕ) (D : List ℕ) → total m (map entry_of (fate_items f n D)) ≡ 0
   fate-none Fate.Idle n D = refl

@@ -1,4 +1,5 @@
 -- Two sessions that are opened alike, with equal tracks and with buffers that agree on the bytes of the frame under way, stay so and answer alike, whatever calls both are given.
+use Rattle.std.specs.Prelude.{Ok}
 use Prim.Native.Nat.{ℕ, ◌-◌, ◌≤◌}
 use mathlib.Core.Path.{◌≡◌, refl, sym, ap, subst, ◌∙◌}
 use mathlib.Core.Bool.{Bool, true, false}
@@ -15,8 +16,6 @@ use Rattle.session_rules.specs.declared.Phase.TheVariants.{Fresh, Under, Past}
 use Rattle.session_rules.specs.declared.Track.{Track}
 use Rattle.session_rules.specs.declared.Turn.{Turn}
 use Rattle.session_rules.specs.Turns.{turn_of, hands_of, out_of, out_by, spoilt_by, spoilt_of, closed_by, closed_of}
-use Rattle.session_rules.specs.declared.Report.{Report}
-use Rattle.session_rules.specs.declared.Closing.{Closing}
 use Rattle.session_rules.specs.Session.{lost_by, lost_of, close_by, close_of}
 use Rattle.session_rules.specs.Call.{Ask}
 use Rattle.session_rules.specs.Calls.{Offer, refusal, offer_with}
@@ -163,7 +162,7 @@ lost-opening : (x : At) → refusal x.session Offer.lost ≡ 0 → (onward x Ask
 unfolding lost_of
 lost-opening x e = ap (λ (k : ℕ). (lost_by k x.session).session.rest.opening) e
 
-lost-said : (x : At) → refusal x.session Offer.lost ≡ 0 → said_of x Ask.lost ≡ Said.noted Report.Noted
+lost-said : (x : At) → refusal x.session Offer.lost ≡ 0 → said_of x Ask.lost ≡ Said.noted (Ok tt)
 unfolding lost_of
 lost-said x e = ap (λ (k : ℕ). Said.noted (lost_by k x.session).report) e
 
@@ -175,7 +174,7 @@ close-opening : (x : At) → refusal x.session Offer.close ≡ 0 → (onward x A
 unfolding close_of
 close-opening x e = ap (λ (k : ℕ). (close_by k x.session).session.rest.opening) e
 
-close-said : (x : At) → refusal x.session Offer.close ≡ 0 → said_of x Ask.close ≡ Said.shut (Closing.Closed (closed_of x.session.rest.track).ended)
+close-said : (x : At) → refusal x.session Offer.close ≡ 0 → said_of x Ask.close ≡ Said.shut (Ok (closed_of x.session.rest.track).ended)
 unfolding close_of
 close-said x e = ap (λ (k : ℕ). Said.shut (close_by k x.session).closing) e
 
@@ -218,7 +217,7 @@ alongside x y Ask.close s p q =
     way = ap (λ (Z : Track). way_at Z x.buffer) (close-track x p) ∙ closed-way x.session.rest.track x.buffer ∙ sym (closed-way y.session.rest.track y.buffer) ∙ ap (λ (Z : Track). way_at Z y.buffer) (sym (close-track y q))
 
     said : said_of x Ask.close ≡ said_of y Ask.close
-    said = close-said x p ∙ ap (λ (Z : Track). Said.shut (Closing.Closed (closed_of Z).ended)) s.track ∙ sym (close-said y q)
+    said = close-said x p ∙ ap (λ (Z : Track). Said.shut (Ok (closed_of Z).ended)) s.track ∙ sym (close-said y q)
 
     handed : handed_at (said_of x Ask.close) x.buffer ≡ handed_at (said_of y Ask.close) y.buffer
     handed = ap (λ (v : Said). handed_at v x.buffer) (close-said x p) ∙ ap (λ (v : Said). handed_at v y.buffer) (sym (close-said y q))

@@ -1,4 +1,6 @@
 -- Each answer is the rule's: what a call says of an ended frame and of its own transfer is what the rule gains by that call.
+use Rattle.std.specs.Prelude.{Err, Ok}
+use Rattle.session_rules.specs.Options.{Ended, Report, Closing}
 use Prim.Native.Nat.{ℕ, zero, suc, ◌-◌}
 use mathlib.Core.Path.{◌≡◌, refl, sym, ◌∙◌, ap, subst}
 use mathlib.Core.Bool.{Bool, true, false}
@@ -12,7 +14,6 @@ use Rattle.session_rules.specs.declared.Reading.TheVariants.{Idle, Unreadable, R
 use Rattle.session_rules.specs.Transfer.{reading_of}
 use Rattle.session_rules.specs.declared.Phase.{Phase}
 use Rattle.session_rules.specs.declared.Phase.TheVariants.{Fresh, Under, Past}
-use Rattle.session_rules.specs.declared.Ended.{Ended}
 use Rattle.session_rules.specs.declared.Fate.{Fate}
 use Rattle.session_rules.specs.declared.Answer.{Answer}
 use Rattle.session_rules.specs.declared.Turn.{Turn}
@@ -20,8 +21,6 @@ use Rattle.session_rules.specs.declared.HandOut.{HandOut}
 use Rattle.session_rules.specs.Track.{handing}
 use Rattle.session_rules.specs.declared.Session.{Session}
 use Rattle.session_rules.specs.declared.Outcome.{Outcome}
-use Rattle.session_rules.specs.declared.Report.{Report}
-use Rattle.session_rules.specs.declared.Closing.{Closing}
 use Rattle.session_rules.specs.Refusals.{take_rows, lost_rows, close_rows}
 use Rattle.session_rules.specs.Session.{fresh, plainly, read_of, took_by, took_of, hands_out, handed_of, met_by, take_by, take_of, lost_by, lost_of, close_by, close_of}
 use Rattle.books.specs.Rule.{Item, frames_by}
@@ -210,25 +209,25 @@ handed-says o xs b t x e =
     )
 
 -- ---- a lost report answers none
-not_noted : (k : ℕ) → Report.Refused k ≡ Report.Noted → ⊥
+not_noted : (k : ℕ) → ◌≡◌ {A = Report} (Err k) (Ok tt) → ⊥
 not_noted k e = let z : ◌≡◌ {A = ℕ} 0 1 = cc in omega arith
 
-pub lost-says : (o : Opening) (xs : List Offer) → (lost_of (after (fresh o) xs)).report ≡ Report.Noted → Gains o (taken (fresh o) xs) Call.lost []
+pub lost-says : (o : Opening) (xs : List Offer) → (lost_of (after (fresh o) xs)).report ≡ Ok tt → Gains o (taken (fresh o) xs) Call.lost []
 unfolding lost_of
 lost-says o xs e = gained o xs Offer.lost Call.lost (go (first_row (lost_rows (after (fresh o) xs))) e) refl [] refl
   where
-    go : (k : ℕ) → (lost_by k (after (fresh o) xs)).report ≡ Report.Noted → k ≡ 0
+    go : (k : ℕ) → (lost_by k (after (fresh o) xs)).report ≡ Ok tt → k ≡ 0
     go zero q = refl
     go (suc k) q = absurd (not_noted (suc k) q)
 
 -- ---- close answers the frame's reason, or none
-not-closed : (k : ℕ) (e : Ended) → Closing.Refused k ≡ Closing.Closed e → ⊥
+not-closed : (k : ℕ) (e : Ended) → ◌≡◌ {A = Closing} (Err k) (Ok e) → ⊥
 not-closed k e q = let z : ◌≡◌ {A = ℕ} 0 1 = cc in omega arith
 
-same_end : (a b : Ended) → Closing.Closed a ≡ Closing.Closed b → a ≡ b
+same_end : (a b : Ended) → ◌≡◌ {A = Closing} (Ok a) (Ok b) → a ≡ b
 same_end a b e = cc
 
-pub close-says : (o : Opening) (xs : List Offer) (e : Ended) → (close_of (after (fresh o) xs)).closing ≡ Closing.Closed e
+pub close-says : (o : Opening) (xs : List Offer) (e : Ended) → (close_of (after (fresh o) xs)).closing ≡ Ok e
     → (n : ℕ) × (d : List ℕ) × Gains o (taken (fresh o) xs) Call.close (ended_items e n d)
 unfolding close_of
 close-says o xs e q =
@@ -238,6 +237,6 @@ close-says o xs e q =
     let g : (closed_of s.rest.track).ended ≡ e = subst (λ (r : Session). (closed_of r.rest.track).ended ≡ e) (after_run (fresh o) xs) f.1 in
     ((closed_of s.rest.track).gone, D, gained o xs Offer.close Call.close f.0 refl (ended_items e (closed_of s.rest.track).gone D) (ap (λ (x : Ended). ended_items x (closed_of s.rest.track).gone D) g))
   where
-    go : (k : ℕ) → (close_by k (after (fresh o) xs)).closing ≡ Closing.Closed e → (k ≡ 0) × ((closed_of (after (fresh o) xs).rest.track).ended ≡ e)
+    go : (k : ℕ) → (close_by k (after (fresh o) xs)).closing ≡ Ok e → (k ≡ 0) × ((closed_of (after (fresh o) xs).rest.track).ended ≡ e)
     go zero r = (refl, same_end _ _ r)
     go (suc k) r = absurd (not-closed (suc k) e r)

@@ -1,4 +1,6 @@
 -- A transfer that begins a frame: from there on a session enters what a fresh one enters.
+use Rattle.std.specs.Prelude.{None, Some}
+use Rattle.session_rules.specs.Options.{Ended}
 use Prim.Native.Nat.{ℕ, ◌-◌}
 use mathlib.Core.Path.{◌≡◌, refl, sym, ap, ◌∙◌}
 use mathlib.Core.Bool.{Bool, true, false, true≢false, beq}
@@ -12,8 +14,6 @@ use Rattle.session_rules.specs.declared.Reading.TheVariants.{Idle, Unreadable, R
 use Rattle.session_rules.specs.Transfer.{reading_of}
 use Rattle.session_rules.specs.declared.Phase.{Phase}
 use Rattle.session_rules.specs.declared.Phase.TheVariants.{Fresh, Under, Past}
-use Rattle.session_rules.specs.declared.Ended.{Ended}
-use Rattle.session_rules.specs.declared.Ended.TheVariants.{Nothing, Frame}
 use Rattle.session_rules.specs.declared.Run.{Run}
 use Rattle.session_rules.specs.declared.Track.{Track}
 use Rattle.session_rules.specs.declared.Turn.{Turn}
@@ -56,13 +56,13 @@ unfolding if_else
 turn-fid o h n Fresh b = ended-fid (ends_of o h) _
 turn-fid o h n (Past f) b = go (same_of f h.fid) refl
   where
-    go : (c : Bool) → same_of f h.fid ≡ c → phase_fid (if_else c (stray_turn f n) (join_turn o (begun_of b h.fid h.still) h n Nothing 0)).track.phase ≡ of h.fid
+    go : (c : Bool) → same_of f h.fid ≡ c → phase_fid (if_else c (stray_turn f n) (join_turn o (begun_of b h.fid h.still) h n None 0)).track.phase ≡ of h.fid
     go true e = ap of (same-fid f h.fid e)
     go false e = ended-fid (ends_of o h) _
 turn-fid o h n (Under x) b = go (same_of x.fid h.fid) refl
   where
     go : (c : Bool) → same_of x.fid h.fid ≡ c →
-        phase_fid (if_else c (join_turn o x h n Nothing 0) (join_turn o (begun_of b h.fid h.still) h n (Frame (why_of x.fault (turned_why o))) x.bytes)).track.phase ≡ of h.fid
+        phase_fid (if_else c (join_turn o x h n None 0) (join_turn o (begun_of b h.fid h.still) h n (Some (why_of x.fault (turned_why o))) x.bytes)).track.phase ≡ of h.fid
     go true e = ended-fid (ends_of o h) _ ∙ ap of (same-fid x.fid h.fid e)
     go false e = ended-fid (ends_of o h) _
 
@@ -151,12 +151,12 @@ NotUnder Fresh = Unit {0}
 NotUnder (Past f) = Unit {0}
 NotUnder (Under x) = ⊥
 
-none-ended : (o : Opening) (h : Header) (n : ℕ) (ph : Phase) → NotUnder ph → (turn_by ph o false h n).answer.ended ≡ Nothing
+none-ended : (o : Opening) (h : Header) (n : ℕ) (ph : Phase) → NotUnder ph → (turn_by ph o false h n).answer.ended ≡ None
 unfolding if_else
 none-ended o h n Fresh p = refl
 none-ended o h n (Past f) p = go (same_of f h.fid)
   where
-    go : (c : Bool) → (if_else c (stray_turn f n) (join_turn o (begun_of false h.fid h.still) h n Nothing 0)).answer.ended ≡ Nothing
+    go : (c : Bool) → (if_else c (stray_turn f n) (join_turn o (begun_of false h.fid h.still) h n None 0)).answer.ended ≡ None
     go true = refl
     go false = refl
 none-ended o h n (Under x) p = absurd p

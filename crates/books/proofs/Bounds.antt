@@ -1,4 +1,6 @@
 -- The bounds of each number, from the rule: none is above what rule 50 allows.
+use Rattle.std.specs.Prelude.{None, Some}
+use Rattle.session_rules.specs.Options.{Fault, Layer, Stamp}
 use Prim.Native.Nat.{ℕ, suc, ◌+◌, ◌*◌, ◌^◌, ◌≤◌, ◌<◌}
 use mathlib.Core.Path.{◌≡◌, refl, ◌∙◌, ap}
 use mathlib.Core.Bool.{Bool, true, false, cond, ◌&&◌}
@@ -11,13 +13,8 @@ use lib.ListN.{length, length-append, length-map}
 use borrow.Author.Tests.{ne_eqb}
 use Rattle.rules.proofs.Firsts.{lt-or-ge}
 use Rattle.sizes.specs.declared.Opening.{Opening}
-use Rattle.session_rules.specs.declared.Stamp.{Stamp}
-use Rattle.session_rules.specs.declared.Stamp.TheVariants.{Absent, At}
-use Rattle.session_rules.specs.declared.Layer.{Layer}
 use Rattle.session_rules.specs.declared.Reason.{Reason}
 use Rattle.session_rules.specs.declared.Reason.TheVariants.{Gap, Error, Clock, Mixed, Long, Cut, Empty}
-use Rattle.session_rules.specs.declared.Fault.{Fault}
-use Rattle.session_rules.specs.declared.Fault.TheVariants.{Sound, Bad}
 use Rattle.session_rules.specs.declared.Account.{Account}
 use Rattle.session_rules.specs.Accounts.{place_of, account_for}
 use Rattle.session_rules.specs.Entry.{Entry}
@@ -53,8 +50,8 @@ part-le k x = go (eqb (line_of x) k)
     go false = omega arith
 
 none-le : (s : Stamp) → no_stamp s ≤ 1
-none-le Absent = omega arith
-none-le (At x) = omega arith
+none-le None = omega arith
+none-le (Some x) = omega arith
 
 untimed-le : (x : Entry) → untimed x ≤ 1
 untimed-le (Entry.Delivered d) = none-le d.stamp
@@ -118,16 +115,16 @@ line_low Cut = omega arith
 line_low Empty = omega arith
 
 verdict-low : (w c : Bool) (q : Fault) (s : Stamp) (y : Layer) (b : Bool) (n : ℕ) → line_of (verdict w c q s y b n) < loose_line
-verdict-low w true (Bad k) s y b n = line_low k
-verdict-low w true Sound s y b n = go (eqb n 0) b
+verdict-low w true (Some k) s y b n = line_low k
+verdict-low w true None s y b n = go (eqb n 0) b
   where
     go : (c b : Bool) → line_of (cond c (Entry.Dropped Empty n) (handed_out b (record { len = n; stamp = s; layer = y }))) < loose_line
     go true b = omega arith
     go false true = omega arith
     go false false = omega arith
 verdict-low true false q s y b n = omega arith
-verdict-low false false (Bad k) s y b n = line_low k
-verdict-low false false Sound s y b n = omega arith
+verdict-low false false (Some k) s y b n = line_low k
+verdict-low false false None s y b n = omega arith
 
 one_none : (k : ℕ) (e : Entry) → (line_of e ≡ k → ⊥) → one_in k e ≡ 0
 one_none k e h = rw (ne_eqb (line_of e) k h)
@@ -214,8 +211,8 @@ between_le f m h (a ∷ []) = omega arith
 between_le f m h (a ∷ b ∷ bs) = omega (arith, h a b, between_le f m h (b ∷ bs))
 
 list-le : (s : Stamp) → length (stamp_list s) ≤ 1
-list-le Absent = omega arith
-list-le (At x) = omega arith
+list-le None = omega arith
+list-le (Some x) = omega arith
 
 stamps-le : (x : Entry) → length (stamps_of x) ≤ 1
 stamps-le (Entry.Delivered d) = list-le d.stamp

@@ -1,4 +1,5 @@
 -- What a taken call answers and writes is what the rule says of the list: over any calls from a fresh session.
+use Rattle.std.specs.Prelude.{None, Some, Ok}
 use Prim.Native.Nat.{ℕ, ◌-◌}
 use mathlib.Core.Path.{◌≡◌, refl, sym, ◌∙◌, ap, subst}
 use mathlib.Core.Bool.{Bool, true, false, cond, true≢false}
@@ -11,17 +12,13 @@ use Rattle.session_rules.specs.declared.Reading.{Reading}
 use Rattle.session_rules.specs.declared.Reading.TheVariants.{Idle, Unreadable, Readable}
 use Rattle.session_rules.specs.Transfer.{reading_of}
 use Rattle.session_rules.specs.declared.Reason.TheVariants.{Gap}
-use Rattle.session_rules.specs.declared.Fault.TheVariants.{Bad}
 use Rattle.session_rules.specs.declared.Phase.{Phase}
 use Rattle.session_rules.specs.declared.Phase.TheVariants.{Fresh, Under, Past}
-use Rattle.session_rules.specs.declared.Ended.TheVariants.{Nothing}
 use Rattle.session_rules.specs.declared.Turn.{Turn}
 use Rattle.session_rules.specs.Turns.{turn_of, hands_by, hands_of, out_of, spoilt_by, spoilt_of, closed_by, closed_of}
 use Rattle.session_rules.specs.Turns as track
 use Rattle.session_rules.specs.declared.Session.{Session}
 use Rattle.session_rules.specs.declared.Outcome.{Outcome}
-use Rattle.session_rules.specs.declared.Report.{Report}
-use Rattle.session_rules.specs.declared.Closing.{Closing}
 use Rattle.session_rules.specs.Session.{fresh, read_of, took_by, took_of, hands_for, hands_out, handed_of, met_by, met_buffer_by, missed_of, take_by, take_of, took_buffer_by, took_buffer, buffer_by, buffer_of, lost_by, lost_of, close_by, close_of}
 use Rattle.session_rules.specs.Call.{Call}
 use Rattle.session_rules.specs.Calls.{Offer, refusal, after, call_of, taken, next_call, run}
@@ -55,7 +52,7 @@ spoilt-tracks o (Under x) (u ∷ us) e =
       spoilt-of x.fid r e.0,
       record {
         going = closed-spoilt o r ∙ p.going;
-        fault₀ = first-or x.fault true Gap ∙ ap (◌or Bad Gap) p.fault₀ ∙ sym (fault-spoilt o u us p.going);
+        fault₀ = first-or x.fault true Gap ∙ ap (◌or Some Gap) p.fault₀ ∙ sym (fault-spoilt o u us p.going);
         still₀ = p.still₀ ∙ sym (still-spoilt r);
         stamp₀ = p.stamp₀ ∙ sym (stamp-spoilt r);
         layer₀ = p.layer₀ ∙ sym (layer-spoilt r);
@@ -265,7 +262,7 @@ module _ (o : Opening) (xs : List Offer) where
         (subst (λ (p : Opening). Turned p h (drop h.len t) (last_run o heard) (last_in (and (events o heard) (readable h (drop h.len t)))) (turn_of p here.rest.track h (length t - h.len))) (run-opening heard (fresh o))
         (read-turned (events o heard) here t h (known (Offer.take b t) ok) n))
 
-    both : {h : Header} {d : List ℕ} {r u : List Seen} {T : Turn} → Turned o h d r u T → T.answer ≡ record { ended = cond (goes_on h r) Nothing (turned_in o r); fate = fate_on o u }
+    both : {h : Header} {d : List ℕ} {r u : List Seen} {T : Turn} → Turned o h d r u T → T.answer ≡ record { ended = cond (goes_on h r) None (turned_in o r); fate = fate_on o u }
     both z = λ i. record { ended = z.ended i; fate = z.fate i }
 
     answered : (r : Reading) → reading_of o t ≡ r → hands_for r here ≡ false → answer_by r here t ≡ answer_for r o heard t
@@ -317,13 +314,13 @@ module _ (o : Opening) (xs : List Offer) where
         ∙ met-writes (hands o heard t) (hands-here (reading_of o t))
 
   -- ---- a lost report, and close
-  pub lost-answers : refusal (after (fresh o) xs) Offer.lost ≡ 0 → (lost_of (after (fresh o) xs)).report ≡ Report.Noted
+  pub lost-answers : refusal (after (fresh o) xs) Offer.lost ≡ 0 → (lost_of (after (fresh o) xs)).report ≡ Ok tt
   unfolding lost_of
   lost-answers ok = ap (λ (k : ℕ). (lost_by k (after (fresh o) xs)).report) ok
 
-  pub close-answers : refusal (after (fresh o) xs) Offer.close ≡ 0 → (close_of (after (fresh o) xs)).closing ≡ Closing.Closed (ending_of o heard)
+  pub close-answers : refusal (after (fresh o) xs) Offer.close ≡ 0 → (close_of (after (fresh o) xs)).closing ≡ Ok (ending_of o heard)
   unfolding close_of closed_of
   close-answers ok =
       ap (λ (n : ℕ). (close_by n (after (fresh o) xs)).closing) ok
-      ∙ ap (λ (s : Session). Closing.Closed (closed_of s.rest.track).ended) (after_run (fresh o) xs)
-      ∙ ap Closing.Closed (closed-right o here.rest.track.phase here.rest.track.gap (last_run o heard) (tracks Offer.close ok))
+      ∙ ap (λ (s : Session). Ok (closed_of s.rest.track).ended) (after_run (fresh o) xs)
+      ∙ ap Ok (closed-right o here.rest.track.phase here.rest.track.gap (last_run o heard) (tracks Offer.close ok))

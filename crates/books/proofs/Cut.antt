@@ -1,4 +1,6 @@
 -- The first run, and what is left of the list after it; and the rule on a list whose first run is part read.
+use Rattle.std.specs.Prelude.{None, Some}
+use Rattle.session_rules.specs.Options.{Fault, Layer, Stamp}
 use Prim.Native.Nat.{ℕ, ◌+◌}
 use mathlib.Core.Path.{◌≡◌, refl, sym, ◌∙◌, ap}
 use mathlib.Core.Bool.{Bool, true, false, cond, not, ◌&&◌, ◌||◌, beq}
@@ -10,13 +12,8 @@ use Rattle.rules.specs.IfElse.{if_else}
 use Rattle.sizes.specs.declared.Opening.{Opening}
 use Rattle.sizes.specs.Framing.{by_eof}
 use Rattle.session_rules.specs.declared.Header.{Header}
-use Rattle.session_rules.specs.declared.Stamp.{Stamp}
-use Rattle.session_rules.specs.declared.Stamp.TheVariants.{Absent, At}
-use Rattle.session_rules.specs.declared.Layer.{Layer}
 use Rattle.session_rules.specs.declared.Reason.{Reason}
 use Rattle.session_rules.specs.declared.Reason.TheVariants.{Gap, Error, Clock, Mixed, Long, Empty}
-use Rattle.session_rules.specs.declared.Fault.{Fault}
-use Rattle.session_rules.specs.declared.Fault.TheVariants.{Sound, Bad}
 use Rattle.session_rules.specs.declared.Run.{Run}
 use Rattle.session_rules.specs.declared.Phase.{Phase}
 use Rattle.session_rules.specs.declared.Phase.TheVariants.{Fresh, Under, Past}
@@ -71,54 +68,54 @@ onward o p (Past f) a m D r rs = pass o p r rs
 onward o p (Under x) a m D r rs = cont o p (x.fault or when a Gap) D x.stamp x.layer x.still m r rs
 
 pub or_assoc : (x y z : Fault) → x or (y or z) ≡ (x or y) or z
-or_assoc Sound y z = refl
-or_assoc (Bad w) y z = refl
+or_assoc None y z = refl
+or_assoc (Some w) y z = refl
 
-pub or_sound : (x : Fault) → x or Sound ≡ x
-or_sound Sound = refl
-or_sound (Bad w) = refl
+pub or_sound : (x : Fault) → x or None ≡ x
+or_sound None = refl
+or_sound (Some w) = refl
 
 pub stamp-assoc : (x y z : Stamp) → x or_stamp (y or_stamp z) ≡ (x or_stamp y) or_stamp z
-stamp-assoc Absent y z = refl
-stamp-assoc (At w) y z = refl
+stamp-assoc None y z = refl
+stamp-assoc (Some w) y z = refl
 
-pub stamp-absent : (x : Stamp) → x or_stamp Absent ≡ x
-stamp-absent Absent = refl
-stamp-absent (At w) = refl
+pub stamp-absent : (x : Stamp) → x or_stamp None ≡ x
+stamp-absent None = refl
+stamp-absent (Some w) = refl
 
 pub layer-assoc : (x y z : Layer) → x then_layer (y then_layer z) ≡ (x then_layer y) then_layer z
-layer-assoc x y Layer.Absent = refl
-layer-assoc x y (Layer.At w) = refl
+layer-assoc x y None = refl
+layer-assoc x y (Some w) = refl
 
-pub absent-layer : (x : Layer) → Layer.Absent then_layer x ≡ x
-absent-layer Layer.Absent = refl
-absent-layer (Layer.At w) = refl
+pub absent-layer : (x : Layer) → None then_layer x ≡ x
+absent-layer None = refl
+absent-layer (Some w) = refl
 
 -- a run of which nothing is read yet
 pub cont-new : (o : Opening) (p : Bool) (t : Seen) (r : List Seen) (rs : List (List Seen))
-    → judged o p ((t ∷ r) ∷ rs) ≡ cont o p (when t.before Gap) [] Absent Layer.Absent t.header.still false (t ∷ r) rs
+    → judged o p ((t ∷ r) ∷ rs) ≡ cont o p (when t.before Gap) [] None None t.header.still false (t ∷ r) rs
 cont-new o p t r rs = rw (absent-layer (last_layer (frame_of o (t ∷ r))))
 
 -- the tracker's words and the rule's
 pub first-or : (q : Fault) (b : Bool) (w : Reason) → first_of q b w ≡ q or when b w
-first-or (Bad v) b w = refl
-first-or Sound true w = refl
-first-or Sound false w = refl
+first-or (Some v) b w = refl
+first-or None true w = refl
+first-or None false w = refl
 
 pub earlier-or : (s t : Stamp) → earlier_of s t ≡ s or_stamp t
-earlier-or Absent t = refl
-earlier-or (At x) t = refl
+earlier-or None t = refl
+earlier-or (Some x) t = refl
 
 pub later-then : (y z : Layer) → later_of y z ≡ y then_layer z
-later-then y Layer.Absent = refl
-later-then y (Layer.At w) = refl
+later-then y None = refl
+later-then y (Some w) = refl
 
 -- a stamp is held to the frame's first, whether that came before it or is its own
 pub clash-or : (s t z : Stamp) → clash_of s t ≡ differs (s or_stamp (t or_stamp z)) t
-clash-or Absent Absent z = refl
-clash-or Absent (At x) z = rw (eq-eqb x x refl)
-clash-or (At y) Absent z = refl
-clash-or (At y) (At x) z = refl
+clash-or None None z = refl
+clash-or None (Some x) z = rw (eq-eqb x x refl)
+clash-or (Some y) None z = refl
+clash-or (Some y) (Some x) z = refl
 
 pub same-beq : (a b : Bool) → same_of a b ≡ beq a b
 same-beq true true = refl
@@ -155,8 +152,8 @@ module _ (o : Opening) (p : Bool) (r : List Seen) (rs : List (List Seen)) where
   end-law : (q : Fault) (s : Stamp) (y : Layer) (b : Bool) (n : ℕ) (D : List ℕ) (way : Bool) (rest : List Item) → n ≡ length D
       → settled way true q s y b D ∷ rest ≡ fate_items (complete_of q n s y b) n D ++ rest
   unfolding if_else
-  end-law (Bad w) s y b n D way rest e = rw e
-  end-law Sound s y b n D way rest e = rw e (go (eqb (length D) 0) b)
+  end-law (Some w) s y b n D way rest e = rw e
+  end-law None s y b n D way rest e = rw e (go (eqb (length D) 0) b)
     where
       d : Delivery
       d = record { len = length D; stamp = s; layer = y }
@@ -194,8 +191,8 @@ module _ (o : Opening) (p : Bool) (r : List Seen) (rs : List (List Seen)) where
         let S : Stamp = x.stamp or_stamp (h.stamp or_stamp z) in
         rw (fault-or o x h (length d) z, earlier-or x.stamp h.stamp, ← stamp-assoc x.stamp h.stamp z, later-then x.layer h.layer, ← layer-assoc x.layer h.layer (last_layer (rest_of o m r)), u, ← or_assoc (x.fault or fault_at o S x.still (length D) h (length d)) (when a Gap) _, ← or_assoc x.fault (fault_at o S x.still (length D) h (length d)) _, length-append D d, append_assoc D d _)
     by-eof true =
-        let S : Stamp = x.stamp or_stamp (h.stamp or_stamp Absent) in
-        rw (fault-or o x h (length d) Absent, earlier-or x.stamp h.stamp, later-then x.layer h.layer, append-nil d, u, or_sound (fault_at o S x.still (length D) h (length d)), stamp-absent h.stamp)
+        let S : Stamp = x.stamp or_stamp (h.stamp or_stamp None) in
+        rw (fault-or o x h (length d) None, earlier-or x.stamp h.stamp, later-then x.layer h.layer, append-nil d, u, or_sound (fault_at o S x.still (length D) h (length d)), stamp-absent h.stamp)
         (end-law (x.fault or fault_at o (x.stamp or_stamp h.stamp) x.still (length D) h (length d)) (x.stamp or_stamp h.stamp) (x.layer then_layer h.layer) x.still (length D + length d) (D ++ d) (p && nothing rs) (strays r ++ judged o p rs) (sym (length-append D d)))
 
     pub take-law : (b : Bool) → cont o p x.fault D x.stamp x.layer x.still false (record { header = h; load = d; before = b; after = a; marked = m } ∷ r) rs

@@ -1,4 +1,6 @@
 -- What every readable transfer's header has, every transfer of each run's frame has; so has the rule's entry of that frame what follows from it, and so have the answers.
+use Rattle.std.specs.Prelude.{None}
+use Rattle.session_rules.specs.Options.{Ended}
 use Prim.Native.Nat.{ℕ, zero, suc}
 use mathlib.Core.Path.{◌≡◌, refl, sym, ◌∙◌, ap, subst}
 use mathlib.Core.Bool.{Bool, true, false, cond, ◌&&◌}
@@ -9,8 +11,6 @@ use Rattle.session_rules.specs.declared.Header.{Header}
 use Rattle.session_rules.specs.declared.Reading.{Reading}
 use Rattle.session_rules.specs.declared.Reading.TheVariants.{Idle, Unreadable, Readable}
 use Rattle.session_rules.specs.Transfer.{reading_of}
-use Rattle.session_rules.specs.declared.Ended.{Ended}
-use Rattle.session_rules.specs.declared.Ended.TheVariants.{Nothing}
 use Rattle.session_rules.specs.declared.Fate.{Fate}
 use Rattle.session_rules.specs.declared.HandOut.{HandOut}
 use Rattle.session_rules.specs.Entry.{Entry}
@@ -109,12 +109,12 @@ module _ (P : Header → Type 0) where
     frames-each cs f = judged-each (is_open cs) (runs (readables false (events o cs))) (runs-each (readables false (events o cs)) (readables-each false (events o cs) f))
 
 -- ---- the answers: every take's, refused or not, and close's
-module _ (o : Opening) (E : Ended → Type 0) (Q : Entry → Type 0) (none : E Nothing) (ends : (e : Entry) → Q e → E (reason_in e)) where
+module _ (o : Opening) (E : Ended → Type 0) (Q : Entry → Type 0) (none : E None) (ends : (e : Entry) → Q e → E (reason_in e)) where
   ended-each : (p l : Bool) (r : List Seen) → Q (frame_entry o p l r) → E (ended_in o p l r)
   ended-each p l [] q = none
   ended-each p l (t ∷ ts) q = go (closed o (frame_of o (t ∷ ts)))
     where
-      go : (b : Bool) → E (cond b Nothing (reason_in (frame_entry o p l (t ∷ ts))))
+      go : (b : Bool) → E (cond b None (reason_in (frame_entry o p l (t ∷ ts))))
       go true = none
       go false = ends (frame_entry o p l (t ∷ ts)) q
 
@@ -129,7 +129,7 @@ module _ (o : Opening) (E : Ended → Type 0) (Q : Entry → Type 0) (none : E N
       answer-each cs t (Unreadable k) = (none, bad k)
       answer-each cs t (Readable h) = (turned (goes_on h (last_run o cs)), go (stray_of o (last_run o (with cs t))))
         where
-          turned : (b : Bool) → E (cond b Nothing (turned_in o (last_run o cs)))
+          turned : (b : Bool) → E (cond b None (turned_in o (last_run o cs)))
           turned true = none
           turned false = ended-each true false (last_run o cs) (frame true false cs)
 

@@ -1,4 +1,5 @@
 -- EVERY OFFER, refused or not: what it answers, what the buffer holds and what the session is after it, from the opening and the offers alone.
+use Rattle.std.specs.Prelude.{Err, Ok}
 use Prim.Native.Nat.{ℕ, zero, suc}
 use mathlib.Core.Path.{◌≡◌, refl, sym, ◌∙◌, ap, subst}
 use mathlib.Core.List.{List}
@@ -8,8 +9,6 @@ use Rattle.sizes.specs.declared.Opening.{Opening}
 use Rattle.session_rules.specs.declared.HandOut.{HandOut}
 use Rattle.session_rules.specs.declared.Session.{Session}
 use Rattle.session_rules.specs.declared.Outcome.{Outcome}
-use Rattle.session_rules.specs.declared.Report.{Report}
-use Rattle.session_rules.specs.declared.Closing.{Closing}
 use Rattle.session_rules.specs.Session.{fresh, take_by, take_of, buffer_by, buffer_of, lost_by, lost_of, close_by, close_of}
 use Rattle.session_rules.specs.Call.{Call}
 use Rattle.session_rules.specs.Calls.{Offer, refusal, next, after, next_call}
@@ -48,15 +47,15 @@ module _ (o : Opening) (xs : List Offer) where
   pub lost-says : (lost_of here).report ≡ lost_says o cs
   unfolding lost_of
   lost-says =
-      by_number _ Report.Noted Report.Refused (refusal here Offer.lost) (refused_by o cs Offer.lost) (refused-listed o xs Offer.lost)
+      by_number _ (Ok tt) Err (refusal here Offer.lost) (refused_by o cs Offer.lost) (refused-listed o xs Offer.lost)
       (λ e. lost-answers o xs e)
       (λ k e. ap (λ (n : ℕ). (lost_by n here).report) e)
 
   pub close-says : (close_of here).closing ≡ close_says o cs
   unfolding close_of
   close-says =
-      by_number _ (Closing.Closed (ending_of o cs)) Closing.Refused (refusal here Offer.close) (refused_by o cs Offer.close) (refused-listed o xs Offer.close)
-      (λ e. close-answers o xs e ∙ ap (λ (l : List Call). Closing.Closed (ending_of o l)) (list-is o xs))
+      by_number _ (Ok (ending_of o cs)) Err (refusal here Offer.close) (refused_by o cs Offer.close) (refused-listed o xs Offer.close)
+      (λ e. close-answers o xs e ∙ ap (λ (l : List Call). Ok (ending_of o l)) (list-is o xs))
       (λ k e. ap (λ (n : ℕ). (close_by n here).closing) e)
 
   pub take-leaves : (b t : List ℕ) → buffer_of here b t ≡ take_leaves o cs b t

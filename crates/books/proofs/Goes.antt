@@ -1,4 +1,6 @@
 -- A call that is not refused: what it says, where it leads and what it leaves in the buffer are functions of the opening, the track and the buffer alone.
+use Rattle.std.specs.Prelude.{None, Some}
+use Rattle.session_rules.specs.Options.{Fault}
 use Prim.Native.Nat.{ℕ, ◌-◌, ◌≤◌}
 use mathlib.Core.Path.{◌≡◌, refl, ap, ◌∙◌}
 use mathlib.Core.Bool.{Bool, true, false}
@@ -13,8 +15,6 @@ use Rattle.sizes.specs.declared.Opening.{Opening}
 use Rattle.session_rules.specs.declared.Reading.{Reading}
 use Rattle.session_rules.specs.declared.Reading.TheVariants.{Idle, Unreadable, Readable}
 use Rattle.session_rules.specs.Transfer.{reading_of}
-use Rattle.session_rules.specs.declared.Fault.{Fault}
-use Rattle.session_rules.specs.declared.Fault.TheVariants.{Sound, Bad}
 use Rattle.session_rules.specs.declared.Phase.{Phase}
 use Rattle.session_rules.specs.declared.Phase.TheVariants.{Fresh, Under, Past}
 use Rattle.session_rules.specs.declared.Track.{Track}
@@ -42,9 +42,9 @@ fit-filled o Fresh f = tt
 fit-filled o (Past g) f = tt
 fit-filled o (Under r) f = go r.fault f.whole
   where
-    go : (q : Fault) → (q ≡ Sound → r.fill ≡ r.bytes) → Snug o.frame q r.fill r.bytes
-    go Sound w = let e : r.fill ≡ r.bytes = w refl in (e, omega (arith, f.within))
-    go (Bad w) k = f.within
+    go : (q : Fault) → (q ≡ None → r.fill ≡ r.bytes) → Snug o.frame q r.fill r.bytes
+    go None w = let e : r.fill ≡ r.bytes = w refl in (e, omega (arith, f.within))
+    go (Some w) k = f.within
 
 pub fine : (s : Session) (b t : List ℕ) → refusal s (Offer.take b t) ≡ 0 → Fine s b
 fine s b t e =

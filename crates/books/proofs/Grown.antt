@@ -1,4 +1,6 @@
 -- One transfer more at the end of a run, and a gap after its last: what the rule says of its frame.
+use Rattle.std.specs.Prelude.{None, Some}
+use Rattle.session_rules.specs.Options.{Fault, Stamp}
 use Prim.Native.Nat.{ℕ, ◌+◌}
 use mathlib.Core.Path.{◌≡◌, refl, sym, ◌∙◌, ap}
 use mathlib.Core.Bool.{Bool, true, false, cond, not, ◌&&◌, ◌||◌, true≢false}
@@ -6,11 +8,7 @@ use mathlib.Core.List.{List, [], ◌∷◌, ◌++◌, append_assoc, append-nil}
 use native.Mathlib.Nat.{add-zero, zero-add, add_assoc}
 use lib.ListN.{length, length-append}
 use Rattle.sizes.specs.declared.Opening.{Opening}
-use Rattle.session_rules.specs.declared.Stamp.{Stamp}
-use Rattle.session_rules.specs.declared.Stamp.TheVariants.{Absent, At}
 use Rattle.session_rules.specs.declared.Reason.TheVariants.{Gap}
-use Rattle.session_rules.specs.declared.Fault.{Fault}
-use Rattle.session_rules.specs.declared.Fault.TheVariants.{Sound, Bad}
 use Rattle.rules.proofs.Rows.{or-second}
 use Rattle.books.specs.Rule.{Seen, eof_of, closes, frame_of, stray_of, closed, data_of, ◌or_stamp◌, first_stamp, ◌then_layer◌, last_layer, still_of, ◌or◌, when, fault_at, gap_after, fault_from, gap_before, fault}
 use Rattle.books.specs.Answer.{earlier}
@@ -112,21 +110,21 @@ layer-more (u ∷ us) t = ap (u.header.layer then_layer◌) (layer-more us t) �
 
 module _ (o : Opening) where
   -- where the frame has no stamp, none differs, whatever the first one will be
-  unstamped : (r : List Seen) (s z : Stamp) (b : Bool) (n : ℕ) → first_stamp r ≡ Absent → fault_from o s b n r ≡ fault_from o z b n r
+  unstamped : (r : List Seen) (s z : Stamp) (b : Bool) (n : ℕ) → first_stamp r ≡ None → fault_from o s b n r ≡ fault_from o z b n r
   unstamped [] s z b n e = refl
   unstamped (t ∷ ts) s z b n e = go t.header.stamp refl e (unstamped ts s z b (n + length t.load))
     where
-      go : (x : Stamp) → t.header.stamp ≡ x → (x or_stamp first_stamp ts) ≡ Absent → (first_stamp ts ≡ Absent → fault_from o s b (n + length t.load) ts ≡ fault_from o z b (n + length t.load) ts)
+      go : (x : Stamp) → t.header.stamp ≡ x → (x or_stamp first_stamp ts) ≡ None → (first_stamp ts ≡ None → fault_from o s b (n + length t.load) ts ≡ fault_from o z b (n + length t.load) ts)
           → fault_from o s b n (t ∷ ts) ≡ fault_from o z b n (t ∷ ts)
-      go Absent q f rec = rw (q, rec f)
-      go (At x) q f rec = cc
+      go None q f rec = rw (q, rec f)
+      go (Some x) q f rec = cc
 
   first-held : (r : List Seen) (s : Stamp) (b : Bool) (n : ℕ) → fault_from o (first_stamp r or_stamp s) b n r ≡ fault_from o (first_stamp r) b n r
   first-held r s b n = go (first_stamp r) refl
     where
       go : (x : Stamp) → first_stamp r ≡ x → fault_from o (x or_stamp s) b n r ≡ fault_from o x b n r
-      go Absent e = unstamped r s Absent b n e
-      go (At x) e = refl
+      go None e = unstamped r s None b n e
+      go (Some x) e = refl
 
   abbrev own : Stamp → Bool → ℕ → Seen → Fault
   own s b n t = fault_at o s b n t.header (length t.load) or when (gap_after o t) Gap
@@ -185,29 +183,29 @@ still-spoilt [] = refl
 still-spoilt (t ∷ []) = refl
 still-spoilt (t ∷ (u ∷ us)) = refl
 
-gap-once : (a : Fault) (e m c : Bool) → ((e || m) || false) ≡ false → a or (when (not e && (c || not m)) Gap or Sound) ≡ (a or (when (not e && c) Gap or Sound)) or Bad Gap
+gap-once : (a : Fault) (e m c : Bool) → ((e || m) || false) ≡ false → a or (when (not e && (c || not m)) Gap or None) ≡ (a or (when (not e && c) Gap or None)) or Some Gap
 gap-once a true m c e = absurd (true≢false e)
 gap-once a false true c e = absurd (true≢false e)
-gap-once Sound false false true e = refl
-gap-once Sound false false false e = refl
-gap-once (Bad w) false false c e = refl
+gap-once None false false true e = refl
+gap-once None false false false e = refl
+gap-once (Some w) false false c e = refl
 
-from-spoilt : (o : Opening) (s : Stamp) (b : Bool) (n : ℕ) (t : Seen) (ts : List Seen) → closed o (t ∷ ts) ≡ false → fault_from o s b n (spoil_last (t ∷ ts)) ≡ fault_from o s b n (t ∷ ts) or Bad Gap
+from-spoilt : (o : Opening) (s : Stamp) (b : Bool) (n : ℕ) (t : Seen) (ts : List Seen) → closed o (t ∷ ts) ≡ false → fault_from o s b n (spoil_last (t ∷ ts)) ≡ fault_from o s b n (t ∷ ts) or Some Gap
 from-spoilt o s b n t [] e = gap-once (fault_at o s b n t.header (length t.load)) (eof_of o t.header) t.marked t.after e
 from-spoilt o s b n t (u ∷ us) e =
     let a : Fault = fault_at o s b n t.header (length t.load) in
     let g : Fault = when (gap_after o t) Gap in
     let f : Fault = fault_from o s b (n + length t.load) (u ∷ us) in
     ap (λ (y : Fault). a or (g or y)) (from-spoilt o s b (n + length t.load) u us (or-second (closes o t) (closed o (u ∷ us)) e))
-    ∙ ap (a or◌) (or_assoc g f (Bad Gap))
-    ∙ or_assoc a (g or f) (Bad Gap)
+    ∙ ap (a or◌) (or_assoc g f (Some Gap))
+    ∙ or_assoc a (g or f) (Some Gap)
 
 before-spoilt : (r : List Seen) → gap_before (spoil_last r) ≡ gap_before r
 before-spoilt [] = refl
 before-spoilt (t ∷ []) = refl
 before-spoilt (t ∷ (u ∷ us)) = refl
 
-pub fault-spoilt : (o : Opening) (t : Seen) (ts : List Seen) → closed o (t ∷ ts) ≡ false → fault o (spoil_last (t ∷ ts)) ≡ fault o (t ∷ ts) or Bad Gap
+pub fault-spoilt : (o : Opening) (t : Seen) (ts : List Seen) → closed o (t ∷ ts) ≡ false → fault o (spoil_last (t ∷ ts)) ≡ fault o (t ∷ ts) or Some Gap
 fault-spoilt o t ts e =
     let r : List Seen = t ∷ ts in
     let b : Bool = t.header.still in
@@ -215,7 +213,7 @@ fault-spoilt o t ts e =
     ∙ ap (λ (c : Bool). when t.before Gap or fault_from o (first_stamp (spoil_last r)) c 0 (spoil_last r)) (still-spoilt r)
     ∙ ap (λ (s : Stamp). when t.before Gap or fault_from o s b 0 (spoil_last r)) (stamp-spoilt r)
     ∙ ap (when t.before Gap or◌) (from-spoilt o (first_stamp r) b 0 t ts e)
-    ∙ or_assoc (when t.before Gap) (fault_from o (first_stamp r) b 0 r) (Bad Gap)
+    ∙ or_assoc (when t.before Gap) (fault_from o (first_stamp r) b 0 r) (Some Gap)
 
 -- ---- a mark after the last transfer closes the run
 or-true : (b : Bool) → (b || true) ≡ true

@@ -1,4 +1,6 @@
 -- Handed out exactly when the list says so; and with D1 set never.
+use Rattle.std.specs.Prelude.{None, Some}
+use Rattle.session_rules.specs.Options.{Fault}
 use Prim.Native.Nat.{ℕ}
 use mathlib.Core.Path.{◌≡◌, refl, sym, ◌∙◌, ap, subst}
 use mathlib.Core.Bool.{Bool, true, false, cond, not, ◌&&◌, ◌||◌, true≢false}
@@ -14,8 +16,6 @@ use Rattle.session_rules.specs.declared.Header.{Header}
 use Rattle.session_rules.specs.declared.Reading.{Reading}
 use Rattle.session_rules.specs.declared.Reading.TheVariants.{Idle, Unreadable, Readable}
 use Rattle.session_rules.specs.Transfer.{reading_of}
-use Rattle.session_rules.specs.declared.Fault.{Fault}
-use Rattle.session_rules.specs.declared.Fault.TheVariants.{Sound, Bad}
 use Rattle.session_rules.specs.declared.Answer.{Answer}
 use Rattle.session_rules.specs.declared.HandOut.{HandOut}
 use Rattle.session_rules.specs.declared.Phase.{Phase}
@@ -42,15 +42,15 @@ use Rattle.books.proofs.Answers.{handed-answer, heard-more}
 use Rattle.books.proofs.ByList.{hands-as, transfer-answers}
 
 -- ---- the rule's test, and what it says
-sound-is : (q : Fault) → is_sound q ≡ true → q ≡ Sound
-sound-is Sound e = refl
-sound-is (Bad w) e = absurd (true≢false (sym e))
+sound-is : (q : Fault) → is_sound q ≡ true → q ≡ None
+sound-is None e = refl
+sound-is (Some w) e = absurd (true≢false (sym e))
 
 not-true : (b : Bool) → not b ≡ true → b ≡ false
 not-true true e = sym e
 not-true false e = refl
 
-is-sound : (q : Fault) → q ≡ Sound → is_sound q ≡ true
+is-sound : (q : Fault) → q ≡ None → is_sound q ≡ true
 is-sound q e = rw e
 
 module _ (o : Opening) (cs : List Call) (t : List ℕ) where
@@ -82,7 +82,7 @@ module _ (o : Opening) (cs : List Call) (t : List ℕ) where
   pub hands-parts : hands o cs t ≡ true → HandsOut o cs t (out_of o r)
   hands-parts e = parts (reading_of o t) refl e
 
-  four : (a b c : Bool) (q : Fault) (k : Bool) → a ≡ false → b ≡ true → c ≡ false → q ≡ Sound → k ≡ false → (not a && (b && (not c && (is_sound q && not k)))) ≡ true
+  four : (a b c : Bool) (q : Fault) (k : Bool) → a ≡ false → b ≡ true → c ≡ false → q ≡ None → k ≡ false → (not a && (b && (not c && (is_sound q && not k)))) ≡ true
   four a b c q k e f g h i = rw (e, f, g, h, i)
 
   hands-all : (x : HandOut) → HandsOut o cs t x → hands o cs t ≡ true

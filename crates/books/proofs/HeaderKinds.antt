@@ -1,4 +1,6 @@
 -- The old kind of header reports no layer; the VP8 kind has no stills and no mixed, and none of its frames is untimed.
+use Rattle.std.specs.Prelude.{None, Some}
+use Rattle.session_rules.specs.Options.{Ended, Fault, Layer, Stamp}
 use Prim.Native.Nat.{ℕ, zero, suc}
 use mathlib.Core.Path.{◌≡◌, refl, sym, ◌∙◌, ap, subst}
 use mathlib.Core.Bool.{Bool, true, false, cond, ◌&&◌}
@@ -9,14 +11,9 @@ use lib.Dec.{eqb}
 use Rattle.sizes.specs.declared.Opening.{Opening}
 use Rattle.sizes.specs.declared.HeaderKind.TheVariants.{Old, Vp8}
 use Rattle.session_rules.specs.declared.Header.{Header}
-use Rattle.session_rules.specs.declared.Stamp.{Stamp}
-use Rattle.session_rules.specs.declared.Layer.{Layer}
 use Rattle.session_rules.proofs.OldKind.{no-layer}
 use Rattle.session_rules.proofs.Vp8.{no-still, its-stamp}
 use Rattle.session_rules.specs.declared.Reason.TheVariants.{Empty}
-use Rattle.session_rules.specs.declared.Fault.{Fault}
-use Rattle.session_rules.specs.declared.Fault.TheVariants.{Sound, Bad}
-use Rattle.session_rules.specs.declared.Ended.{Ended}
 use Rattle.session_rules.specs.declared.HandOut.{HandOut}
 use Rattle.session_rules.specs.declared.Ledger.{Ledger}
 use Rattle.session_rules.specs.Entry.{Entry}
@@ -35,23 +32,23 @@ use Rattle.books.proofs.Stills.{still-clear, judged-film}
 
 -- ---- the old kind: no layer
 abbrev Layerless : Header → Type 0
-Layerless h = h.layer ≡ Layer.Absent
+Layerless h = h.layer ≡ None
 
-layer-none : (r : List Seen) → EachSeen Layerless r → last_layer r ≡ Layer.Absent
+layer-none : (r : List Seen) → EachSeen Layerless r → last_layer r ≡ None
 layer-none [] c = refl
 layer-none (t ∷ ts) c = ap (t.header.layer then_layer◌) (layer-none ts c.1) ∙ c.0
 
-verdict-none : (w c : Bool) (q : Fault) (s : Stamp) (y : Layer) (b : Bool) (n : ℕ) → y ≡ Layer.Absent → NoLayer (verdict w c q s y b n)
-verdict-none w true (Bad k) s y b n e = tt
-verdict-none w true Sound s y b n e = go (eqb n 0) b
+verdict-none : (w c : Bool) (q : Fault) (s : Stamp) (y : Layer) (b : Bool) (n : ℕ) → y ≡ None → NoLayer (verdict w c q s y b n)
+verdict-none w true (Some k) s y b n e = tt
+verdict-none w true None s y b n e = go (eqb n 0) b
   where
     go : (c b : Bool) → NoLayer (cond c (Entry.Dropped Empty n) (handed_out b (record { len = n; stamp = s; layer = y })))
     go true b = tt
     go false true = e
     go false false = e
 verdict-none true false q s y b n e = tt
-verdict-none false false (Bad k) s y b n e = tt
-verdict-none false false Sound s y b n e = tt
+verdict-none false false (Some k) s y b n e = tt
+verdict-none false false None s y b n e = tt
 
 fate-none : (e : Entry) → NoLayer e → FateNoLayer (fate_in e)
 fate-none (Entry.Delivered d) q = q
@@ -79,7 +76,7 @@ module _ (o : Opening) (old : o.kind ≡ Old) where
 
   pub reports-none : (xs : List Offer) (b t : List ℕ) → ReportsNone (take_of (after (fresh o) xs) (length b) t).outcome
   reports-none =
-      takes-each o (λ (e : Ended). Unit {0}) NoLayer tt (λ e q. tt) frame-none (λ (f : HandOut). f.delivery.layer ≡ Layer.Absent) FateNoLayer
+      takes-each o (λ (e : Ended). Unit {0}) NoLayer tt (λ e q. tt) frame-none (λ (f : HandOut). f.delivery.layer ≡ None) FateNoLayer
       (λ cs. layer-none (frame_of o (last_run o cs)) (last_frame Layerless o cs (layerless cs))) fate-none tt tt (λ k. tt)
 
 -- ---- the VP8 kind: always a stamp
@@ -87,23 +84,23 @@ abbrev Stamped : Header → Type 0
 Stamped h = no_stamp h.stamp ≡ 0
 
 first-stamped : (s r : Stamp) → no_stamp s ≡ 0 → no_stamp (s or_stamp r) ≡ 0
-first-stamped Stamp.Absent r e = absurd (omega arith)
-first-stamped (Stamp.At x) r e = refl
+first-stamped None r e = absurd (omega arith)
+first-stamped (Some x) r e = refl
 
 verdict-timed : (w c : Bool) (q : Fault) (s : Stamp) (y : Layer) (b : Bool) (n : ℕ) → no_stamp s ≡ 0 → Timed (verdict w c q s y b n)
-verdict-timed w true (Bad k) s y b n e = refl
-verdict-timed w true Sound s y b n e = go (eqb n 0) b
+verdict-timed w true (Some k) s y b n e = refl
+verdict-timed w true None s y b n e = go (eqb n 0) b
   where
     go : (c b : Bool) → Timed (cond c (Entry.Dropped Empty n) (handed_out b (record { len = n; stamp = s; layer = y })))
     go true b = refl
     go false true = refl
     go false false = e
 verdict-timed true false q s y b n e = refl
-verdict-timed false false (Bad k) s y b n e = refl
-verdict-timed false false Sound s y b n e = refl
+verdict-timed false false (Some k) s y b n e = refl
+verdict-timed false false None s y b n e = refl
 
 -- a frame of no transfer has no data, and is not delivered
-empty-timed : (o : Opening) (way c : Bool) → Timed (verdict way c (fault o []) Stamp.Absent Layer.Absent false 0)
+empty-timed : (o : Opening) (way c : Bool) → Timed (verdict way c (fault o []) None None false 0)
 empty-timed o true true = refl
 empty-timed o false true = refl
 empty-timed o true false = refl

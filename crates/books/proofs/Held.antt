@@ -1,4 +1,6 @@
 -- With one buffer that nobody else writes: as long as the frame under way has no fault, the buffer begins with its data.
+use Rattle.std.specs.Prelude.{None, Some}
+use Rattle.session_rules.specs.Options.{Fault}
 use Prim.Native.Nat.{ℕ, ◌+◌, ◌≤◌}
 use mathlib.Core.Path.{◌≡◌, refl, sym, ◌∙◌, ap, subst}
 use mathlib.Core.Bool.{Bool, true, false, cond, true≢false}
@@ -12,8 +14,6 @@ use Rattle.sizes.specs.declared.Opening.{Opening}
 use Rattle.session_rules.specs.declared.Header.{Header}
 use Rattle.session_rules.specs.declared.Reason.{Reason}
 use Rattle.session_rules.specs.declared.Reason.TheVariants.{Gap, Error, Clock, Mixed, Long}
-use Rattle.session_rules.specs.declared.Fault.{Fault}
-use Rattle.session_rules.specs.declared.Fault.TheVariants.{Sound, Bad}
 use Rattle.books.specs.Rule.{Seen, same, frame_of, stray_of, closed, data_of, first_stamp, still_of, ◌or◌, when, differs, mixes, fault_at, gap_after, fault}
 use Rattle.books.specs.Answer.{earlier, written_by, written_in}
 use Rattle.books.proofs.OneMore.{seen_with, spoil_last, mark_last, grown}
@@ -21,23 +21,23 @@ use Rattle.books.proofs.Grown.{and, frame-whole, stray-whole, frame-more, stray-
 
 -- the buffer begins with the data of a run that nothing closes and that has no fault yet
 abbrev pub Held : Opening → List Seen → List ℕ → Type 0
-Held o r B = closed o r ≡ false → fault o r ≡ Sound → take (length (data_of r)) B ≡ data_of r
+Held o r B = closed o r ≡ false → fault o r ≡ None → take (length (data_of r)) B ≡ data_of r
 
 -- what a run's last transfer leaves: a frame without fault that it is the last of, complete or not, stands at the buffer's beginning
 pub record Left (o : Opening) (r : List Seen) (B : List ℕ) : Type 0 where
-  pub frame : stray_of o r ≡ [] → fault o (frame_of o r) ≡ Sound → take (length (data_of (frame_of o r))) B ≡ data_of (frame_of o r)
+  pub frame : stray_of o r ≡ [] → fault o (frame_of o r) ≡ None → take (length (data_of (frame_of o r))) B ≡ data_of (frame_of o r)
   pub room : o.frame ≤ length B
 
 -- ---- no fault of two is no fault of either
-sound-first : (p q : Fault) → p or q ≡ Sound → p ≡ Sound
-sound-first Sound q e = refl
-sound-first (Bad w) q e = cc
+sound-first : (p q : Fault) → p or q ≡ None → p ≡ None
+sound-first None q e = refl
+sound-first (Some w) q e = cc
 
-sound-second : (p q : Fault) → p or q ≡ Sound → q ≡ Sound
-sound-second Sound q e = e
-sound-second (Bad w) q e = cc
+sound-second : (p q : Fault) → p or q ≡ None → q ≡ None
+sound-second None q e = e
+sound-second (Some w) q e = cc
 
-sound-when : (b : Bool) (w : Reason) → when b w ≡ Sound → b ≡ false
+sound-when : (b : Bool) (w : Reason) → when b w ≡ None → b ≡ false
 sound-when true w e = cc
 sound-when false w e = refl
 
@@ -50,15 +50,15 @@ module _ (o : Opening) (h : Header) (d : List ℕ) (b : Bool) (B : List ℕ) (ro
   t = seen_with h d b
 
   -- a frame that goes on, or begins, without fault
-  module _ (r : List Seen) (going : closed o r ≡ false) (held : so_far o t r ≡ Sound → take (length (data_of r)) B ≡ data_of r) where
+  module _ (r : List Seen) (going : closed o r ≡ false) (held : so_far o t r ≡ None → take (length (data_of r)) B ≡ data_of r) where
     abbrev at : ℕ
     at = length (data_of r)
 
     abbrev own : Fault
     own = fault_at o (first_stamp (and r t)) (still_of (and r t)) at h (length d)
 
-    module _ (sound : fault o (and r t) ≡ Sound) where
-      parts : so_far o t r or (own or when (gap_after o t) Gap) ≡ Sound
+    module _ (sound : fault o (and r t) ≡ None) where
+      parts : so_far o t r or (own or when (gap_after o t) Gap) ≡ None
       parts = sym (fault-more o r t) ∙ sound
 
       before : take at B ≡ data_of r
@@ -86,9 +86,9 @@ module _ (o : Opening) (h : Header) (d : List ℕ) (b : Bool) (B : List ℕ) (ro
         ∙ ap (λ (l : List Seen). written_by [] (fault o (and r t)) (length (data_of l)) d B) (earlier_more r t)
 
     put : (q : Fault) → fault o (and r t) ≡ q
-        → (fault o (and r t) ≡ Sound → take (length (data_of (and r t))) (written_by [] q at d B) ≡ data_of (and r t)) × (o.frame ≤ length (written_by [] q at d B))
-    put Sound e = (λ f. pasted f, rw (long e) room₀)
-    put (Bad w) e = (λ f. cc, room₀)
+        → (fault o (and r t) ≡ None → take (length (data_of (and r t))) (written_by [] q at d B) ≡ data_of (and r t)) × (o.frame ≤ length (written_by [] q at d B))
+    put None e = (λ f. pasted f, rw (long e) room₀)
+    put (Some w) e = (λ f. cc, room₀)
 
     joined : Left o (and r t) (written_in o (and r t) d B)
     joined =
@@ -130,7 +130,7 @@ left-held o r B l e f = subst (λ (g : List Seen). take (length (data_of g)) B �
 
 pub spoilt-held : (o : Opening) (r : List Seen) (B : List ℕ) → Held o r B → Held o (spoil_last r) B
 spoilt-held o [] B held = held
-spoilt-held o (u ∷ us) B held = λ e f. cc (sound-second (fault o (u ∷ us)) (Bad Gap) (sym (fault-spoilt o u us (sym (closed-spoilt o (u ∷ us)) ∙ e)) ∙ f))
+spoilt-held o (u ∷ us) B held = λ e f. cc (sound-second (fault o (u ∷ us)) (Some Gap) (sym (fault-spoilt o u us (sym (closed-spoilt o (u ∷ us)) ∙ e)) ∙ f))
 
 -- after a mark nothing is held: the frame is handed out
 pub marked-held : (o : Opening) (r : List Seen) (B : List ℕ) → Held o (mark_last r) B

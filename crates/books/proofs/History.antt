@@ -1,4 +1,6 @@
 -- Over all the calls taken: the items that the answers enter are the rule's, and the ledger is what they post.
+use Rattle.std.specs.Prelude.{None, Some}
+use Rattle.session_rules.specs.Options.{Ended, Fault}
 use Prim.Native.Nat.{ℕ, ◌+◌, ◌-◌}
 use mathlib.Core.Path.{◌≡◌, refl, sym, ◌∙◌, ap}
 use mathlib.Core.Bool.{Bool, true, false, not, true≢false}
@@ -12,13 +14,9 @@ use Rattle.session_rules.specs.declared.Header.{Header}
 use Rattle.session_rules.specs.declared.Reading.{Reading}
 use Rattle.session_rules.specs.declared.Reading.TheVariants.{Idle, Unreadable, Readable}
 use Rattle.session_rules.specs.Transfer.{reading_of}
-use Rattle.session_rules.specs.declared.Fault.{Fault}
-use Rattle.session_rules.specs.declared.Fault.TheVariants.{Sound, Bad}
 use Rattle.session_rules.specs.declared.Reason.TheVariants.{Cut}
 use Rattle.session_rules.specs.declared.Phase.{Phase}
 use Rattle.session_rules.specs.declared.Phase.TheVariants.{Fresh, Under, Past}
-use Rattle.session_rules.specs.declared.Ended.{Ended}
-use Rattle.session_rules.specs.declared.Ended.TheVariants.{Nothing, Frame}
 use Rattle.session_rules.specs.declared.Fate.{Fate}
 use Rattle.session_rules.specs.declared.Answer.{Answer}
 use Rattle.session_rules.specs.declared.Turn.{Turn}
@@ -91,9 +89,9 @@ close-end o Fresh b D e = refl
 close-end o (Past f) b D e = refl
 close-end o (Under x) b D e = go x.fault
   where
-    go : (q : Fault) → cont o false (q or Sound) D x.stamp x.layer x.still false [] [] ≡ ended_items (Frame (why_of q Cut)) x.bytes D
-    go Sound = rw (append-nil D, e, and-false (not (by_eof o)))
-    go (Bad w) = rw (append-nil D, e, and-false (not (by_eof o)))
+    go : (q : Fault) → cont o false (q or None) D x.stamp x.layer x.still false [] [] ≡ ended_items (Some (why_of q Cut)) x.bytes D
+    go None = rw (append-nil D, e, and-false (not (by_eof o)))
+    go (Some w) = rw (append-nil D, e, and-false (not (by_eof o)))
 
 closed-afoot : (ph : Phase) (b : Bool) (D : List ℕ) → afoot (closed_by ph b).track.phase D ≡ []
 closed-afoot Fresh b D = refl
@@ -105,12 +103,12 @@ unfolding if_else
 turn_gap o h n Fresh b = refl
 turn_gap o h n (Past f) b = go (same_of f h.fid)
   where
-    go : (c : Bool) → (if_else c (stray_turn f n) (join_turn o (begun_of b h.fid h.still) h n Nothing 0)).track.gap ≡ false
+    go : (c : Bool) → (if_else c (stray_turn f n) (join_turn o (begun_of b h.fid h.still) h n None 0)).track.gap ≡ false
     go true = refl
     go false = refl
 turn_gap o h n (Under x) b = go (same_of x.fid h.fid)
   where
-    go : (c : Bool) → (if_else c (join_turn o x h n Nothing 0) (join_turn o (begun_of b h.fid h.still) h n (Frame (why_of x.fault (turned_why o))) x.bytes)).track.gap ≡ false
+    go : (c : Bool) → (if_else c (join_turn o x h n None 0) (join_turn o (begun_of b h.fid h.still) h n (Some (why_of x.fault (turned_why o))) x.bytes)).track.gap ≡ false
     go true = refl
     go false = refl
 
@@ -212,8 +210,8 @@ posted s D [] = []
 posted s D (c ∷ cs) = call_posted s D c ++ posted (next_call s c) (data_next s D c) cs
 
 ended-posts : (l : Ledger) (e : Ended) (g : ℕ) (D : List ℕ) → ended_of l e g ≡ posts l (map entry_of (ended_items e g D))
-ended-posts l Nothing g D = refl
-ended-posts l (Frame w) g D = refl
+ended-posts l None g D = refl
+ended-posts l (Some w) g D = refl
 
 fated-posts : (l : Ledger) (f : Fate) (n : ℕ) (D : List ℕ) → Framed f → fated_of l f n ≡ posts l (map entry_of (fate_items f n D))
 fated-posts l Fate.Idle n D h = absurd h

@@ -1,4 +1,6 @@
 -- What the tracker's turn enters, with the data D that the frame under way has had so far and the data E that the transfer's frame has with it.
+use Rattle.std.specs.Prelude.{None, Some}
+use Rattle.session_rules.specs.Options.{Fault, Layer, Stamp}
 use Prim.Native.Nat.{ℕ}
 use mathlib.Core.Bool.{Bool, true, false, cond, beq}
 use mathlib.Core.List.{List, [], ◌++◌}
@@ -6,13 +8,8 @@ use lib.Dec.{eqb}
 use Rattle.rules.specs.IfElse.{if_else}
 use Rattle.sizes.specs.declared.Opening.{Opening}
 use Rattle.session_rules.specs.declared.Header.{Header}
-use Rattle.session_rules.specs.declared.Stamp.{Stamp}
-use Rattle.session_rules.specs.declared.Layer.{Layer}
 use Rattle.session_rules.specs.declared.Reason.TheVariants.{Empty}
-use Rattle.session_rules.specs.declared.Fault.{Fault}
-use Rattle.session_rules.specs.declared.Fault.TheVariants.{Sound, Bad}
 use Rattle.session_rules.specs.declared.Run.{Run}
-use Rattle.session_rules.specs.declared.Ended.TheVariants.{Nothing, Frame}
 use Rattle.session_rules.specs.declared.Fate.{Fate}
 use Rattle.session_rules.specs.declared.Phase.{Phase}
 use Rattle.session_rules.specs.declared.Phase.TheVariants.{Fresh, Under, Past}
@@ -42,8 +39,8 @@ Framed (Fate.Unreadable k) = ⊥
 
 complete-framed : (q : Fault) (n : ℕ) (s : Stamp) (y : Layer) (b : Bool) → Framed (complete_of q n s y b)
 unfolding if_else
-complete-framed (Bad w) n s y b = tt
-complete-framed Sound n s y b = go (eqb n 0) b
+complete-framed (Some w) n s y b = tt
+complete-framed None n s y b = go (eqb n 0) b
   where
     go : (c b : Bool) → Framed (if_else c (Fate.Dropped Empty) (if_else b (Fate.Still (record { len = n; stamp = s; layer = y })) (Fate.Delivered (record { len = n; stamp = s; layer = y }))))
     go true b = tt
@@ -59,11 +56,11 @@ unfolding if_else
 turn-framed o h n Fresh b = fate-framed (ends_of o h) (joined_of o (begun_of b h.fid h.still) h n)
 turn-framed o h n (Past f) b = go (same_of f h.fid)
   where
-    go : (c : Bool) → Framed (if_else c (stray_turn f n) (join_turn o (begun_of b h.fid h.still) h n Nothing 0)).answer.fate
+    go : (c : Bool) → Framed (if_else c (stray_turn f n) (join_turn o (begun_of b h.fid h.still) h n None 0)).answer.fate
     go true = tt
     go false = fate-framed (ends_of o h) (joined_of o (begun_of b h.fid h.still) h n)
 turn-framed o h n (Under x) b = go (same_of x.fid h.fid)
   where
-    go : (c : Bool) → Framed (if_else c (join_turn o x h n Nothing 0) (join_turn o (begun_of b h.fid h.still) h n (Frame (why_of x.fault (turned_why o))) x.bytes)).answer.fate
+    go : (c : Bool) → Framed (if_else c (join_turn o x h n None 0) (join_turn o (begun_of b h.fid h.still) h n (Some (why_of x.fault (turned_why o))) x.bytes)).answer.fate
     go true = fate-framed (ends_of o h) (joined_of o x h n)
     go false = fate-framed (ends_of o h) (joined_of o (begun_of b h.fid h.still) h n)

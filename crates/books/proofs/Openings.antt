@@ -1,4 +1,6 @@
 -- Sessions that are opened alike read, hand out and turn alike: of the framing byte only D1 is looked at.
+use Rattle.std.specs.Prelude.{None, Some}
+use Rattle.session_rules.specs.Options.{Ended}
 use Prim.Native.Nat.{ℕ, ◌+◌}
 use mathlib.Core.Path.{◌≡◌, refl, sym, ap, subst}
 use mathlib.Core.Bool.{Bool, false, not, ◌&&◌}
@@ -14,8 +16,6 @@ use Rattle.session_rules.specs.declared.Run.{Run}
 use Rattle.session_rules.specs.declared.Phase.{Phase}
 use Rattle.session_rules.specs.declared.Phase.TheVariants.{Fresh, Under, Past}
 use Rattle.session_rules.specs.declared.Track.{Track}
-use Rattle.session_rules.specs.declared.Ended.{Ended}
-use Rattle.session_rules.specs.declared.Ended.TheVariants.{Nothing, Frame}
 use Rattle.session_rules.specs.Turns.{same_of, ready_of, why_of, begun_of, joined_of, written_of, phase_of, fate_of, join_turn, stray_turn, turn_by, turn_of, hands_by, hands_of}
 use Rattle.books.specs.Alike.{OpenedAlike}
 
@@ -59,11 +59,11 @@ module _ (o p : Opening) (a : OpenedAlike o p) where
       }
 
   turn_by_lem : (h : Header) (n : ℕ) (gap : Bool) (ph : Phase) → turn_by ph o gap h n ≡ turn_by ph p gap h n
-  turn_by_lem h n gap Fresh = join-alike (begun_of gap h.fid h.still) h n Nothing 0
-  turn_by_lem h n gap (Past f) = ap (if_else (same_of f h.fid) (stray_turn f n)) (join-alike (begun_of gap h.fid h.still) h n Nothing 0)
+  turn_by_lem h n gap Fresh = join-alike (begun_of gap h.fid h.still) h n None 0
+  turn_by_lem h n gap (Past f) = ap (if_else (same_of f h.fid) (stray_turn f n)) (join-alike (begun_of gap h.fid h.still) h n None 0)
   turn_by_lem h n gap (Under r) =
-      (λ i. if_else (same_of r.fid h.fid) (join-alike r h n Nothing 0 i)
-      (join-alike (begun_of gap h.fid h.still) h n (Frame (why_of r.fault (if_else (a.framing i) Cut Empty))) r.bytes i))
+      (λ i. if_else (same_of r.fid h.fid) (join-alike r h n None 0 i)
+      (join-alike (begun_of gap h.fid h.still) h n (Some (why_of r.fault (if_else (a.framing i) Cut Empty))) r.bytes i))
 
   pub turn-alike : (T : Track) (h : Header) (n : ℕ) → turn_of o T h n ≡ turn_of p T h n
   unfolding turn_of

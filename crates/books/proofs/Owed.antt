@@ -1,4 +1,6 @@
 -- One call: what the rule owes before it is what the answer enters, and what the rule owes after it.
+use Rattle.std.specs.Prelude.{None, Some}
+use Rattle.session_rules.specs.Options.{Fault, Layer, Stamp}
 use Prim.Native.Nat.{ℕ, ◌+◌}
 use mathlib.Core.Path.{◌≡◌, refl, sym, ◌∙◌, ap}
 use mathlib.Core.Bool.{Bool, true, false, cond, not, ◌&&◌, true≢false, beq}
@@ -10,16 +12,10 @@ use Rattle.rules.specs.IfElse.{if_else}
 use Rattle.sizes.specs.declared.Opening.{Opening}
 use Rattle.sizes.specs.Framing.{by_eof}
 use Rattle.session_rules.specs.declared.Header.{Header}
-use Rattle.session_rules.specs.declared.Stamp.{Stamp}
-use Rattle.session_rules.specs.declared.Stamp.TheVariants.{Absent}
-use Rattle.session_rules.specs.declared.Layer.{Layer}
 use Rattle.session_rules.specs.declared.Reason.TheVariants.{Gap, Cut, Empty}
-use Rattle.session_rules.specs.declared.Fault.{Fault}
-use Rattle.session_rules.specs.declared.Fault.TheVariants.{Sound, Bad}
 use Rattle.session_rules.specs.declared.Run.{Run}
 use Rattle.session_rules.specs.declared.Phase.{Phase}
 use Rattle.session_rules.specs.declared.Phase.TheVariants.{Fresh, Under, Past}
-use Rattle.session_rules.specs.declared.Ended.TheVariants.{Nothing, Frame}
 use Rattle.session_rules.specs.declared.Turn.{Turn}
 use Rattle.session_rules.specs.declared.Delivery.{Delivery}
 use Rattle.session_rules.specs.Track.{handing}
@@ -47,7 +43,7 @@ onward-owed : (o : Opening) (p e : Bool) (x : Run) (D : List ℕ) (es : List Eve
 onward-owed o p true x D es = refl
 onward-owed o p false x D es = refl
 
-pub begun-fault : (b : Bool) → first_of Sound b Gap ≡ when b Gap
+pub begun-fault : (b : Bool) → first_of None b Gap ≡ when b Gap
 begun-fault true = refl
 begun-fault false = refl
 
@@ -78,25 +74,25 @@ module _ (o : Opening) (p : Bool) (h : Header) (d : List ℕ) (es : List Event) 
   start-new b =
       ap (judged o p) (runs-cut (seen b) (readables false es))
       ∙ cont-new o p (seen b) (first h.fid (readables false es)) (runs (later h.fid (readables false es)))
-      ∙ ap (λ (q : Fault). cont o p q [] Absent Layer.Absent h.still false (seen b ∷ first h.fid (readables false es)) (runs (later h.fid (readables false es)))) (sym (begun-fault b))
+      ∙ ap (λ (q : Fault). cont o p q [] None None h.still false (seen b ∷ first h.fid (readables false es)) (runs (later h.fid (readables false es)))) (sym (begun-fault b))
       ∙ go_on b (begun_of b h.fid h.still) [] refl
 
   -- a frame that another FID ends, and that is not handed out
   turn-new : (b : Bool) (x : Run) (D : List ℕ) → x.bytes ≡ length D → (not (by_eof o) && ready_of x.fault x.bytes) ≡ false
-      → cont o p (x.fault or Sound) D x.stamp x.layer x.still false [] (runs (readables b (readable h d ∷ es))) ≡ ended_items (Frame (why_of x.fault (turned_why o))) x.bytes D ++ thereby (begun_of b h.fid h.still) []
+      → cont o p (x.fault or None) D x.stamp x.layer x.still false [] (runs (readables b (readable h d ∷ es))) ≡ ended_items (Some (why_of x.fault (turned_why o))) x.bytes D ++ thereby (begun_of b h.fid h.still) []
   unfolding if_else
   turn-new b x D e n = rw (ap nothing (runs-cut (seen b) (readables false es)), and-false p, append-nil D, e) (go (by_eof o) x.fault (rw e at n))
     where
       go : (c : Bool) (q : Fault) → (not c && ready_of q (length D)) ≡ false
-          → settled false (not c && true) ((q or Sound) or Sound) (x.stamp or_stamp Absent) x.layer x.still D ∷ judged o p (runs (readables b (readable h d ∷ es)))
+          → settled false (not c && true) ((q or None) or None) (x.stamp or_stamp None) x.layer x.still D ∷ judged o p (runs (readables b (readable h d ∷ es)))
           ≡ record { entry = Entry.Dropped (why_of q (if_else c Cut Empty)) (length D); load = D } ∷ thereby (begun_of b h.fid h.still) []
-      go true Sound n = ap (record { entry = Entry.Dropped Cut (length D); load = D } ∷◌) (start-new b)
-      go c (Bad w) n = rw (settled-bad c) (ap (record { entry = Entry.Dropped w (length D); load = D } ∷◌) (start-new b))
+      go true None n = ap (record { entry = Entry.Dropped Cut (length D); load = D } ∷◌) (start-new b)
+      go c (Some w) n = rw (settled-bad c) (ap (record { entry = Entry.Dropped w (length D); load = D } ∷◌) (start-new b))
         where
-          settled-bad : (c : Bool) → settled false (not c && true) (Bad w) (x.stamp or_stamp Absent) x.layer x.still D ≡ record { entry = Entry.Dropped w (length D); load = D }
+          settled-bad : (c : Bool) → settled false (not c && true) (Some w) (x.stamp or_stamp None) x.layer x.still D ≡ record { entry = Entry.Dropped w (length D); load = D }
           settled-bad true = refl
           settled-bad false = refl
-      go false Sound n = rw (not-false (eqb (length D) 0) n) (ap (record { entry = Entry.Dropped Empty (length D); load = D } ∷◌) (start-new b))
+      go false None n = rw (not-false (eqb (length D) 0) n) (ap (record { entry = Entry.Dropped Empty (length D); load = D } ∷◌) (start-new b))
 
   -- what a turn makes, with the data so far, and what is owed after it
   abbrev then : Turn → List ℕ → List ℕ → List Item
@@ -110,14 +106,14 @@ module _ (o : Opening) (p : Bool) (h : Header) (d : List ℕ) (es : List Event) 
   read-law (Past f) b D e n = rw (same-beq f h.fid) (go (beq f h.fid))
     where
       go : (c : Bool) → pass o p (cond c (seen b ∷ first f (readables false es)) []) (runs (cond c (later f (readables false es)) (seen b ∷ readables false es)))
-          ≡ then (if_else c (stray_turn f (length d)) (join_turn o (begun_of b h.fid h.still) h (length d) Nothing 0)) D ([] ++ d)
+          ≡ then (if_else c (stray_turn f (length d)) (join_turn o (begun_of b h.fid h.still) h (length d) None 0)) D ([] ++ d)
       go true = refl
       go false = start-new b
   read-law (Under x) b D e n = rw (same-beq x.fid h.fid) (go (beq x.fid h.fid) (rw (same-beq x.fid h.fid) at n))
     where
       go : (c : Bool) → (not (by_eof o) && (not c && ready_of x.fault x.bytes)) ≡ false
-          → cont o p (x.fault or Sound) D x.stamp x.layer x.still false (cond c (seen b ∷ first x.fid (readables false es)) []) (runs (cond c (later x.fid (readables false es)) (seen b ∷ readables false es)))
-          ≡ then (if_else c (join_turn o x h (length d) Nothing 0) (join_turn o (begun_of b h.fid h.still) h (length d) (Frame (why_of x.fault (turned_why o))) x.bytes)) D (cond c D [] ++ d)
+          → cont o p (x.fault or None) D x.stamp x.layer x.still false (cond c (seen b ∷ first x.fid (readables false es)) []) (runs (cond c (later x.fid (readables false es)) (seen b ∷ readables false es)))
+          ≡ then (if_else c (join_turn o x h (length d) None 0) (join_turn o (begun_of b h.fid h.still) h (length d) (Some (why_of x.fault (turned_why o))) x.bytes)) D (cond c D [] ++ d)
       go true m = rw or_sound (go_on b x D e)
       go false m = turn-new b x D e m
 
@@ -125,11 +121,11 @@ module _ (o : Opening) (p : Bool) (h : Header) (d : List ℕ) (es : List Event) 
 abbrev pub Whole : Phase → Type 0
 Whole Fresh = ⊥
 Whole (Past f) = ⊥
-Whole (Under x) = (x.fault ≡ Sound) × (x.bytes ≡ 0 → ⊥)
+Whole (Under x) = (x.fault ≡ None) × (x.bytes ≡ 0 → ⊥)
 
-ready-whole : (q : Fault) (n : ℕ) → ready_of q n ≡ true → (q ≡ Sound) × (n ≡ 0 → ⊥)
-ready-whole Sound n e = (refl, λ z. true≢false (sym e ∙ ap not (eq-eqb n 0 z)))
-ready-whole (Bad w) n e = absurd (true≢false (sym e))
+ready-whole : (q : Fault) (n : ℕ) → ready_of q n ≡ true → (q ≡ None) × (n ≡ 0 → ⊥)
+ready-whole None n e = (refl, λ z. true≢false (sym e ∙ ap not (eq-eqb n 0 z)))
+ready-whole (Some w) n e = absurd (true≢false (sym e))
 
 pub and_both : (a b : Bool) → (a && b) ≡ true → (a ≡ true) × (b ≡ true)
 and_both true b e = (refl, e)
@@ -144,7 +140,7 @@ hands-whole (Under x) o h e = ready-whole x.fault x.bytes (and_both (not (same_o
 abbrev pub out_items : Phase → List ℕ → List Item
 out_items ph D = fate_items (handing (out_by ph false).frame.still (out_by ph false).frame.delivery) (out_by ph false).frame.delivery.len D
 
-handed-law : (way : Bool) (q : Fault) (s : Stamp) (y : Layer) (b : Bool) (D : List ℕ) (rest : List Item) → q ≡ Sound → (length D ≡ 0 → ⊥)
+handed-law : (way : Bool) (q : Fault) (s : Stamp) (y : Layer) (b : Bool) (D : List ℕ) (rest : List Item) → q ≡ None → (length D ≡ 0 → ⊥)
     → settled way true q s y b D ∷ rest ≡ fate_items (handing b (record { len = length D; stamp = s; layer = y })) (length D) D ++ rest
 handed-law way q s y b D rest e n = rw (e, ne_eqb (length D) 0 n) (go b)
   where
@@ -162,7 +158,7 @@ mark-law o p (Past f) b D es e w = absurd w
 mark-law o p (Under x) b D es e w =
     let rs : List (List Seen) = runs (later x.fid (readables b es)) in
     rw (append-nil D, stamp-absent x.stamp, e)
-    (handed-law (p && nothing rs) ((x.fault or Sound) or Sound) x.stamp x.layer x.still D (pass o p (first x.fid (readables b es)) rs) (rw w.0 refl) (λ z. w.1 (e ∙ z)))
+    (handed-law (p && nothing rs) ((x.fault or None) or None) x.stamp x.layer x.still D (pass o p (first x.fid (readables b es)) rs) (rw w.0 refl) (λ z. w.1 (e ∙ z)))
 
 -- an idle transfer changes nothing owed; an unreadable or lost one spoils
 pub idle-law : (o : Opening) (p : Bool) (ph : Phase) (b : Bool) (D : List ℕ) (es : List Event) → owed o p ph b D (idle ∷ es) ≡ owed o p ph b D es
@@ -175,10 +171,10 @@ spoil-law o p Fresh b D es = refl
 spoil-law o p (Past f) b D es = refl
 spoil-law o p (Under x) b D es = go x.fault
   where
-    go : (q : Fault) → cont o p (q or Bad Gap) D x.stamp x.layer x.still (marks es) (first x.fid (readables true es)) (runs (later x.fid (readables true es)))
+    go : (q : Fault) → cont o p (q or Some Gap) D x.stamp x.layer x.still (marks es) (first x.fid (readables true es)) (runs (later x.fid (readables true es)))
         ≡ cont o p (first_of q true Gap or when (spoiled es) Gap) D x.stamp x.layer x.still (marks es) (first x.fid (readables true es)) (runs (later x.fid (readables true es)))
-    go Sound = refl
-    go (Bad w) = refl
+    go None = refl
+    go (Some w) = refl
 
 pub unread-law : (o : Opening) (p : Bool) (ph : Phase) (b : Bool) (D : List ℕ) (n : ℕ) (es : List Event) → owed o p ph b D (unreadable n ∷ es) ≡ owed o p ph b D (missing ∷ es)
 unread-law o p Fresh b D n es = refl
@@ -200,11 +196,11 @@ unfolding if_else
 read-holds o h d Fresh b D e = phase-holds o h d (begun_of b h.fid h.still) [] (ends_of o h) refl
 read-holds o h d (Past f) b D e = go (same_of f h.fid)
   where
-    go : (c : Bool) → Holds (if_else c (stray_turn f (length d)) (join_turn o (begun_of b h.fid h.still) h (length d) Nothing 0)).track.phase ([] ++ d)
+    go : (c : Bool) → Holds (if_else c (stray_turn f (length d)) (join_turn o (begun_of b h.fid h.still) h (length d) None 0)).track.phase ([] ++ d)
     go true = tt
     go false = phase-holds o h d (begun_of b h.fid h.still) [] (ends_of o h) refl
 read-holds o h d (Under x) b D e = rw (same-beq x.fid h.fid) (go (beq x.fid h.fid))
   where
-    go : (c : Bool) → Holds (if_else c (join_turn o x h (length d) Nothing 0) (join_turn o (begun_of b h.fid h.still) h (length d) (Frame (why_of x.fault (turned_why o))) x.bytes)).track.phase (cond c D [] ++ d)
+    go : (c : Bool) → Holds (if_else c (join_turn o x h (length d) None 0) (join_turn o (begun_of b h.fid h.still) h (length d) (Some (why_of x.fault (turned_why o))) x.bytes)).track.phase (cond c D [] ++ d)
     go true = phase-holds o h d x D (ends_of o h) e
     go false = phase-holds o h d (begun_of b h.fid h.still) [] (ends_of o h) refl

@@ -1,4 +1,6 @@
 -- With D1 clear no frame is passed over: one without fault and with data, whose run is not the last, has its mark.
+use Rattle.std.specs.Prelude.{None}
+use Rattle.session_rules.specs.Options.{Fault}
 use Prim.Native.Nat.{ℕ}
 use mathlib.Core.Path.{◌≡◌, refl, sym, ◌∙◌}
 use mathlib.Core.Bool.{Bool, true, false, cond, not, ◌&&◌, true≢false}
@@ -10,8 +12,6 @@ use borrow.Author.Tests.{ne_eqb}
 use Rattle.sizes.specs.declared.Opening.{Opening}
 use Rattle.sizes.specs.Framing.{by_eof}
 use Rattle.session_rules.specs.declared.Header.{Header}
-use Rattle.session_rules.specs.declared.Fault.{Fault}
-use Rattle.session_rules.specs.declared.Fault.TheVariants.{Sound}
 use Rattle.session_rules.specs.declared.Phase.{Phase}
 use Rattle.session_rules.specs.declared.Phase.TheVariants.{Fresh, Under, Past}
 use Rattle.session_rules.specs.Turns.{hands_by}
@@ -27,7 +27,7 @@ closed-marks o e [] = refl
 closed-marks o e (t ∷ ts) = rw (e, closed-marks o e ts)
 
 -- all that a hand-out asks
-pub every : (a b c : Bool) (q : Fault) (k : Bool) → a ≡ false → b ≡ false → c ≡ false → q ≡ Sound → k ≡ false → (not a && (not b && (not c && (is_sound q && not k)))) ≡ true
+pub every : (a b c : Bool) (q : Fault) (k : Bool) → a ≡ false → b ≡ false → c ≡ false → q ≡ None → k ≡ false → (not a && (not b && (not c && (is_sound q && not k)))) ≡ true
 every a b c q k e f g h i = rw (e, f, g, h, i)
 
 module _ (o : Opening) where
@@ -59,7 +59,7 @@ module _ (o : Opening) where
   turned-marked c h d b (Past f) u us e n s = λ q v. sym (closed-marks o c (u ∷ us)) ∙ e.1
   turned-marked c h d b (Under x) u us e n s = λ q v. absurd (true≢false (sym (all q v) ∙ sym (hands-right o h (Under x) (u ∷ us) e) ∙ n))
     where
-      all : fault o (frame_of o (u ∷ us)) ≡ Sound → (length (data_of (frame_of o (u ∷ us))) ≡ 0 → ⊥) → hands_in o h (u ∷ us) ≡ true
+      all : fault o (frame_of o (u ∷ us)) ≡ None → (length (data_of (frame_of o (u ∷ us))) ≡ 0 → ⊥) → hands_in o h (u ∷ us) ≡ true
       all q v =
           let f : List Seen = frame_of o (u ∷ us) in
           every (by_eof o) (same u (seen_with h d b)) (closed o (u ∷ us)) (fault o f) (eqb (length (data_of f)) 0) c s e.1.going q (ne_eqb (length (data_of f)) 0 v)

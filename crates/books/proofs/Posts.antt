@@ -1,4 +1,6 @@
 -- What a list of entries, posted one after the other, comes to at each place of the ledger.
+use Rattle.std.specs.Prelude.{None, Some}
+use Rattle.session_rules.specs.Options.{Stamp}
 use Prim.Native.Nat.{ℕ, ◌+◌, ◌-◌, ◌*◌, ◌^◌, ◌≤◌, ◌<◌}
 use mathlib.Core.Path.{◌≡◌, refl, sym, ◌∙◌, ap}
 use mathlib.Core.Bool.{Bool, true, false, cond}
@@ -8,8 +10,6 @@ use native.Mathlib.Omega.{arith}
 use lib.Dec.{ltb, eqb}
 use borrow.Author.Tests.{ne_eqb}
 use Rattle.rules.specs.IfElse.{if_else}
-use Rattle.session_rules.specs.declared.Stamp.{Stamp}
-use Rattle.session_rules.specs.declared.Stamp.TheVariants.{Absent, At}
 use Rattle.session_rules.specs.declared.Reason.{Reason}
 use Rattle.session_rules.specs.declared.Delivery.{Delivery}
 use Rattle.session_rules.specs.declared.Account.{Account}
@@ -24,13 +24,13 @@ use Rattle.session_rules.specs.Accounts.{account_count, place_of, account_for, c
 
 -- ---- the time
 abbrev pub since : (ℕ → ℕ → ℕ) → Stamp → Stamp → ℕ
-since f a Absent = 0
-since f Absent (At b) = 0
-since f (At a) (At b) = f a b
+since f a None = 0
+since f None (Some b) = 0
+since f (Some a) (Some b) = f a b
 
 abbrev pub latest : Stamp → Stamp → Stamp
-latest a Absent = a
-latest a (At b) = At b
+latest a None = a
+latest a (Some b) = Some b
 
 abbrev time_gain : Stamp → Stamp → ℕ → ℕ
 time_gain a s p = cond (eqb ticks_at p) (since forward a s) 0 + (cond (eqb backward_at p) (since back a s) 0 + cond (eqb untimed_at p) (no_stamp s) 0)
@@ -57,31 +57,31 @@ stepped-sized l a b e = go (ltb (ahead_of a b) (2 ^ 31))
     go false = plus-sized l backward_at 1 e
 
 timed-at : (l : Ledger) (a s : Stamp) (p : ℕ) → Sized l → at p (timed_by a l s) ≡ at p l + time_gain a s p
-timed-at l a Absent p e = plus-at l untimed_at 1 p e (omega arith) ∙ ap (at p l +◌) (sym (rw (zero-cond (eqb ticks_at p), zero-cond (eqb backward_at p)) (zero-add _ ∙ zero-add _)))
-timed-at l Absent (At b) p e = sym (rw (zero-cond (eqb ticks_at p), zero-cond (eqb backward_at p), zero-cond (eqb untimed_at p)) (add-zero _))
-timed-at l (At a) (At b) p e = stepped-at l a b p e ∙ ap (at p l +◌) (sym (rw (zero-cond (eqb untimed_at p)) (ap (cond (eqb ticks_at p) (forward a b) 0 +◌) (add-zero _))))
+timed-at l a None p e = plus-at l untimed_at 1 p e (omega arith) ∙ ap (at p l +◌) (sym (rw (zero-cond (eqb ticks_at p), zero-cond (eqb backward_at p)) (zero-add _ ∙ zero-add _)))
+timed-at l None (Some b) p e = sym (rw (zero-cond (eqb ticks_at p), zero-cond (eqb backward_at p), zero-cond (eqb untimed_at p)) (add-zero _))
+timed-at l (Some a) (Some b) p e = stepped-at l a b p e ∙ ap (at p l +◌) (sym (rw (zero-cond (eqb untimed_at p)) (ap (cond (eqb ticks_at p) (forward a b) 0 +◌) (add-zero _))))
 
 timed-sized : (l : Ledger) (a s : Stamp) → Sized l → Sized (timed_by a l s)
-timed-sized l a Absent e = plus-sized l untimed_at 1 e
-timed-sized l Absent (At b) e = e
-timed-sized l (At a) (At b) e = stepped-sized l a b e
+timed-sized l a None e = plus-sized l untimed_at 1 e
+timed-sized l None (Some b) e = e
+timed-sized l (Some a) (Some b) e = stepped-sized l a b e
 
 timed-last : (l : Ledger) (a s : Stamp) → l.last ≡ a → (timed_by a l s).last ≡ latest a s
-timed-last l a Absent e = plus-last l untimed_at 1 ∙ e
-timed-last l Absent (At b) e = refl
-timed-last l (At a) (At b) e = refl
+timed-last l a None e = plus-last l untimed_at 1 ∙ e
+timed-last l None (Some b) e = refl
+timed-last l (Some a) (Some b) e = refl
 
 -- ---- an entry
 abbrev pub stamp_in : Entry → Stamp
 stamp_in (Entry.Delivered d) = d.stamp
-stamp_in (Entry.Still d) = Absent
-stamp_in (Entry.Dropped w n) = Absent
-stamp_in (Entry.UnderWay n) = Absent
-stamp_in (Entry.Stray n) = Absent
-stamp_in (Entry.Unreadable n) = Absent
-stamp_in (Entry.Headers n) = Absent
-stamp_in Entry.Lost = Absent
-stamp_in Entry.Idle = Absent
+stamp_in (Entry.Still d) = None
+stamp_in (Entry.Dropped w n) = None
+stamp_in (Entry.UnderWay n) = None
+stamp_in (Entry.Stray n) = None
+stamp_in (Entry.Unreadable n) = None
+stamp_in (Entry.Headers n) = None
+stamp_in Entry.Lost = None
+stamp_in Entry.Idle = None
 
 abbrev pub gain : ℕ → Stamp → Entry → ℕ
 gain p a (Entry.Delivered d) = entry_gain (place_of Account.Delivered) d.len p + time_gain a d.stamp p
@@ -178,13 +178,13 @@ place-law p m f l (e ∷ es) z =
 
 -- a place where the steps count
 abbrev pub from : Stamp → List ℕ → List ℕ
-from Absent l = l
-from (At a) l = a ∷ l
+from None l = l
+from (Some a) l = a ∷ l
 
 since-law : (f : ℕ → ℕ → ℕ) (a s : Stamp) (l : List ℕ) → since f a s + between f (from (latest a s) l) ≡ between f (from a (stamp_list s ++ l))
-since-law f a Absent l = zero-add _
-since-law f Absent (At b) l = zero-add _
-since-law f (At a) (At b) l = refl
+since-law f a None l = zero-add _
+since-law f None (Some b) l = zero-add _
+since-law f (Some a) (Some b) l = refl
 
 abbrev since_entry : (ℕ → ℕ → ℕ) → Stamp → Entry → ℕ
 since_entry f a e = since f a (stamp_in e)
@@ -201,8 +201,8 @@ entry-law f a Entry.Lost l = zero-add _
 entry-law f a Entry.Idle l = zero-add _
 
 between-nil : (f : ℕ → ℕ → ℕ) (a : Stamp) → between f (from a []) ≡ 0
-between-nil f Absent = refl
-between-nil f (At a) = refl
+between-nil f None = refl
+between-nil f (Some a) = refl
 
 pub step-law : (p : ℕ) (f : ℕ → ℕ → ℕ) → ((a : Stamp) (e : Entry) → gain p a e ≡ since f a (stamp_in e)) → (l : Ledger) (es : List Entry) → Sized l
     → at p (posts l es) ≡ at p l + between f (from l.last (stamps es))
@@ -216,9 +216,9 @@ step-law p f g l (e ∷ es) z =
 
 -- and the last stamp, which the next step is taken from
 last-from : (a s : Stamp) (l : List ℕ) → last_stamped (from (latest a s) l) ≡ last_stamped (from a (stamp_list s ++ l))
-last-from a Absent l = refl
-last-from Absent (At b) l = refl
-last-from (At a) (At b) l = refl
+last-from a None l = refl
+last-from None (Some b) l = refl
+last-from (Some a) (Some b) l = refl
 
 entry-last : (a : Stamp) (e : Entry) (l : List ℕ) → last_stamped (from (last_after a e) l) ≡ last_stamped (from a (stamps_of e ++ l))
 entry-last a (Entry.Delivered d) l = last-from a d.stamp l
@@ -232,8 +232,8 @@ entry-last a Entry.Lost l = refl
 entry-last a Entry.Idle l = refl
 
 last-nil : (a : Stamp) → a ≡ last_stamped (from a [])
-last-nil Absent = refl
-last-nil (At x) = refl
+last-nil None = refl
+last-nil (Some x) = refl
 
 pub last-law : (l : Ledger) (es : List Entry) → (posts l es).last ≡ last_stamped (from l.last (stamps es))
 last-law l [] = last-nil l.last

@@ -1,4 +1,6 @@
 -- What specs/Statement states, proved.
+use Rattle.session_rules.specs.Options.{Start}
+use Rattle.std.specs.Prelude.{Err, Ok}
 use Prim.Native.Nat.{ℕ, zero, suc, ◌≤◌}
 use mathlib.Core.Path.{◌≡◌, refl, ◌∙◌, ap, subst}
 use mathlib.Core.Bool.{true, false}
@@ -13,7 +15,6 @@ use Rattle.session_rules.proofs.OldKind as old
 use Rattle.session_rules.proofs.Vp8Kind as vp8
 use Rattle.session_rules.specs.Track.{handing}
 use Rattle.session_rules.specs.declared.Session.{Session}
-use Rattle.session_rules.specs.declared.Start.{Start}
 use Rattle.session_rules.specs.declared.Outcome.{Outcome}
 use Rattle.session_rules.specs.Refusals.{taken_most, opening_rows, ledger_of}
 use Rattle.rules.proofs.Rows.{none_row}
@@ -47,18 +48,18 @@ use Rattle.session_rules.specs.Calls.{Offer, refusal, after, taken, run, offers,
 use Rattle.books.specs.Statement.{reached, NoInputStops, FramesAreWhole, NothingGoesMissing, CamerasWithoutEof, StillsAndKinds, Statement}
 
 -- ---- openings
-start-open : (o : Opening) (room : ℕ) → (open_of o room).start ≡ Start.Open → ((open_of o room).session ≡ fresh o) × (sizes_broken o ≡ false)
+start-open : (o : Opening) (room : ℕ) → (open_of o room).start ≡ Ok tt → ((open_of o room).session ≡ fresh o) × (sizes_broken o ≡ false)
 unfolding open_of opening_rows sizes_broken
 start-open o room e = let d = (open-open-exactly o room).0 e in rw (none_row (opening_rows o room) d) (refl, rw (d.0, d.1.0))
 
-start-refused : (o : Opening) (room k : ℕ) → (open_of o room).start ≡ Start.Refused k → (xs : List Offer) (x : Offer) → refusal (after (open_of o room).session xs) x ≡ 50
+start-refused : (o : Opening) (room k : ℕ) → (open_of o room).start ≡ Err k → (xs : List Offer) (x : Offer) → refusal (after (open_of o room).session xs) x ≡ 50
 unfolding open_of
 start-refused o room k e xs x = go (first_row (opening_rows o room)) e
   where
-    no : Start.Open ≡ Start.Refused k → ⊥
+    no : ◌≡◌ {A = Start} (Ok tt) (Err k) → ⊥
     no q = let z : ◌≡◌ {A = ℕ} 0 1 = cc in omega arith
 
-    go : (n : ℕ) → (open_by n o).start ≡ Start.Refused k → refusal (after (open_by n o).session xs) x ≡ 50
+    go : (n : ℕ) → (open_by n o).start ≡ Err k → refusal (after (open_by n o).session xs) x ≡ 50
     go zero q = absurd (no q)
     go (suc n) q = none-taken xs x
 

@@ -1,4 +1,6 @@
 -- The bytes of the rule's entries are the bytes received, and the byte accounts hold them all.
+use Rattle.std.specs.Prelude.{None, Some}
+use Rattle.session_rules.specs.Options.{Fault, Layer, Stamp}
 use Prim.Native.Nat.{ℕ, ◌+◌, ◌≤◌}
 use mathlib.Core.Path.{◌≡◌, refl, ◌∙◌, ap}
 use mathlib.Core.Bool.{Bool, true, false, cond, ◌&&◌}
@@ -7,15 +9,11 @@ use native.Mathlib.Omega.{arith}
 use lib.ListN.{length, length-append, length-drop}
 use lib.Dec.{eqb}
 use Rattle.sizes.specs.declared.Opening.{Opening}
-use Rattle.session_rules.specs.declared.Stamp.{Stamp}
-use Rattle.session_rules.specs.declared.Layer.{Layer}
 use Rattle.session_rules.specs.declared.Reading.{Reading}
 use Rattle.session_rules.specs.declared.Reading.TheVariants.{Idle, Unreadable, Readable}
 use Rattle.session_rules.specs.Transfer.{reading_of}
 use Rattle.session_rules.proofs.Readings.{idle-exactly, readable-fits}
 use Rattle.session_rules.specs.declared.Reason.TheVariants.{Gap, Error, Clock, Mixed, Long, Cut, Empty}
-use Rattle.session_rules.specs.declared.Fault.{Fault}
-use Rattle.session_rules.specs.declared.Fault.TheVariants.{Sound, Bad}
 use Rattle.session_rules.specs.declared.Account.{Account}
 use Rattle.session_rules.specs.Entry.{Entry}
 use Rattle.books.specs.Rule.{Event, idle, unreadable, missing, readable, mark, event_by, events, is_open, Seen, readables, same, ahead, runs, closes, frame_of, stray_of, complete, data_of, first_stamp, last_layer, still_of, fault, Item, handed_out, verdict, strays, judge, nothing, judged, frames_by, loose, entry_of, entries, bytes_in, part_in, total, received}
@@ -62,16 +60,16 @@ events-got o (Call.close ∷ cs) = refl
 
 -- ---- the rule's bytes
 verdict-bytes : (w c : Bool) (q : Fault) (s : Stamp) (y : Layer) (b : Bool) (n : ℕ) → bytes_in (verdict w c q s y b n) ≡ n
-verdict-bytes w true (Bad k) s y b n = refl
-verdict-bytes w true Sound s y b n = go (eqb n 0) b
+verdict-bytes w true (Some k) s y b n = refl
+verdict-bytes w true None s y b n = go (eqb n 0) b
   where
     go : (c b : Bool) → bytes_in (cond c (Entry.Dropped Empty n) (handed_out b (record { len = n; stamp = s; layer = y }))) ≡ n
     go true b = refl
     go false true = refl
     go false false = refl
 verdict-bytes true false q s y b n = refl
-verdict-bytes false false (Bad k) s y b n = refl
-verdict-bytes false false Sound s y b n = refl
+verdict-bytes false false (Some k) s y b n = refl
+verdict-bytes false false None s y b n = refl
 
 abbrev bytes_of_items : List Item → ℕ
 bytes_of_items xs = total bytes_in (map entry_of xs)

@@ -1,4 +1,6 @@
 -- 7. The ledger sample of document 01, about the rule and about the session; and samples of document 02, Two, Ten and Twelve.
+use Rattle.std.specs.Prelude.{None, Some}
+use Rattle.session_rules.specs.Options.{Layer}
 use Prim.Native.Nat.{ℕ}
 use mathlib.Core.Path.{◌≡◌, refl}
 use mathlib.Core.Bool.{cond, false}
@@ -10,13 +12,10 @@ use Rattle.sizes.specs.Sizes.{frame_size_broken, payload_size_broken, sizes_brok
 use Rattle.sizes.specs.declared.Opening.{Opening}
 use Rattle.sizes.specs.declared.HeaderKind.TheVariants.{Old, Vp8}
 use Rattle.sizes.specs.Framing.{by_eof}
-use Rattle.session_rules.specs.declared.Stamp.{Stamp}
 use Rattle.session_rules.specs.declared.Reason.{Reason}
-use Rattle.session_rules.specs.declared.Ended.{Ended}
 use Rattle.session_rules.specs.declared.Fate.{Fate}
 use Rattle.session_rules.specs.declared.Answer.{Answer}
 use Rattle.books.specs.Answer.{answer_of, with, hands, outcome_of, ending_of}
-use Rattle.session_rules.specs.declared.Layer.{Layer}
 use Rattle.session_rules.specs.Layouts.{header_layout}
 use Rattle.session_rules.specs.Transfer.{flag_of, layer_place, need_of, rows_by, stamp_of, layer_of, header_by, reading_of}
 use Rattle.session_rules.specs.Ledger.{plus_of, timed_of, post_of, shown_of}
@@ -67,14 +66,14 @@ answers_from cs [] = []
 answers_from cs (t ∷ ts) = answer_of opening cs t ∷ answers_from (with cs t) ts
 
 abbrev only : Fate → Answer
-only f = record { ended = Ended.Nothing; fate = f }
+only f = record { ended = None; fate = f }
 
 pub answers-by-rule : answers_from [] transfers
     ≡ only Fate.Kept
-    ∷ only (Fate.Delivered (record { len = 3; stamp = Stamp.Absent; layer = Layer.Absent }))
+    ∷ only (Fate.Delivered (record { len = 3; stamp = None; layer = None }))
     ∷ only Fate.Stray
     ∷ only Fate.Kept
-    ∷ record { ended = Ended.Frame Reason.Cut; fate = Fate.Kept }
+    ∷ record { ended = Some Reason.Cut; fate = Fate.Kept }
     ∷ only (Fate.Unreadable 61)
     ∷ only (Fate.Dropped Reason.Gap)
     ∷ []
@@ -112,7 +111,7 @@ unfolding if_else any_below frame_size_broken payload_size_broken by_eof header_
 stills-by-session = refl
 
 -- what its still, its mixed frame and an empty still answer
-pub still-answer : answer_of opening [] (0x06 ∷ 0xA7 ∷ 0x07 ∷ 0x00 ∷ 0x00 ∷ 0x00 ∷ 0x73 ∷ []) ≡ only (Fate.Still (record { len = 1; stamp = Stamp.At 7; layer = Layer.Absent }))
+pub still-answer : answer_of opening [] (0x06 ∷ 0xA7 ∷ 0x07 ∷ 0x00 ∷ 0x00 ∷ 0x00 ∷ 0x73 ∷ []) ≡ only (Fate.Still (record { len = 1; stamp = Some 7; layer = None }))
 unfolding if_else by_eof header_layout flag_of layer_place need_of rows_by stamp_of layer_of header_by reading_of
 still-answer = refl
 
@@ -189,10 +188,10 @@ abbrev kept : Outcome
 kept = Outcome.Taken (only Fate.Kept)
 
 abbrev handed-film : ℕ → Outcome
-handed-film n = Outcome.Handed (record { still = false; delivery = record { len = n; stamp = Stamp.Absent; layer = Layer.Absent } })
+handed-film n = Outcome.Handed (record { still = false; delivery = record { len = n; stamp = None; layer = None } })
 
 abbrev kept-after : Reason → Outcome
-kept-after w = Outcome.Taken (record { ended = Ended.Frame w; fate = Fate.Kept })
+kept-after w = Outcome.Taken (record { ended = Some w; fate = Fate.Kept })
 
 pub no-eof-outcomes : outcomes_from no-eof [] asked
     ≡ kept
@@ -209,7 +208,7 @@ pub no-eof-outcomes : outcomes_from no-eof [] asked
 unfolding if_else by_eof header_layout flag_of layer_place need_of rows_by stamp_of layer_of header_by reading_of
 no-eof-outcomes = refl
 
-pub no-eof-close : ending_of no-eof (Call.transfer (0x02 ∷ 0x80 ∷ 0xEE ∷ []) ∷ []) ≡ Ended.Frame Reason.Cut
+pub no-eof-close : ending_of no-eof (Call.transfer (0x02 ∷ 0x80 ∷ 0xEE ∷ []) ∷ []) ≡ Some Reason.Cut
 unfolding if_else by_eof header_layout flag_of layer_place need_of rows_by stamp_of layer_of header_by reading_of
 no-eof-close = refl
 
@@ -228,17 +227,17 @@ outcomes_by s (Ask.lost ∷ more) = outcomes_by (lost_of s).session more
 outcomes_by s (Ask.close ∷ more) = []
 
 abbrev delivered : ℕ → Layer → Outcome
-delivered n y = Outcome.Taken (only (Fate.Delivered (record { len = n; stamp = Stamp.At 16; layer = y })))
+delivered n y = Outcome.Taken (only (Fate.Delivered (record { len = n; stamp = Some 16; layer = y })))
 
 -- the first transfer has a layer, the second none, the last another
 abbrev three-sent : List Ask
 three-sent = sent 0x0A 0x84 (0x34 ∷ 0x12 ∷ 0xAA ∷ []) ∷ sent 0x08 0x04 (0xBB ∷ []) ∷ sent 0x0A 0x86 (0x78 ∷ 0x56 ∷ 0xCC ∷ []) ∷ []
 
-pub last-layer-by-rule : outcomes_from (vp8 3) [] three-sent ≡ kept ∷ kept ∷ delivered 3 (Layer.At 22136) ∷ []
+pub last-layer-by-rule : outcomes_from (vp8 3) [] three-sent ≡ kept ∷ kept ∷ delivered 3 (Some 22136) ∷ []
 unfolding if_else by_eof header_layout flag_of layer_place need_of rows_by stamp_of layer_of header_by reading_of
 last-layer-by-rule = refl
 
-pub last-layer-by-session : outcomes_by (fresh (vp8 3)) three-sent ≡ kept ∷ kept ∷ delivered 3 (Layer.At 22136) ∷ []
+pub last-layer-by-session : outcomes_by (fresh (vp8 3)) three-sent ≡ kept ∷ kept ∷ delivered 3 (Some 22136) ∷ []
 unfolding if_else any_below frame_size_broken payload_size_broken by_eof header_layout flag_of layer_place need_of rows_by stamp_of layer_of header_by reading_of turn_of spoilt_of closed_of plus_of timed_of post_of shown_of sizes_broken fill_broken accounts_broken counts_broken rule50 read_of took_of hands_out hands_of handed_of out_of take_of lost_of close_of
 last-layer-by-session = refl
 
@@ -246,11 +245,11 @@ last-layer-by-session = refl
 abbrev two-sent : List Ask
 two-sent = sent 0x0A 0x84 (0x34 ∷ 0x12 ∷ 0xAA ∷ []) ∷ sent 0x08 0x06 (0xBB ∷ []) ∷ []
 
-pub only-layer-by-rule : outcomes_from (vp8 3) [] two-sent ≡ kept ∷ delivered 2 (Layer.At 4660) ∷ []
+pub only-layer-by-rule : outcomes_from (vp8 3) [] two-sent ≡ kept ∷ delivered 2 (Some 4660) ∷ []
 unfolding if_else by_eof header_layout flag_of layer_place need_of rows_by stamp_of layer_of header_by reading_of
 only-layer-by-rule = refl
 
-pub only-layer-by-session : outcomes_by (fresh (vp8 3)) two-sent ≡ kept ∷ delivered 2 (Layer.At 4660) ∷ []
+pub only-layer-by-session : outcomes_by (fresh (vp8 3)) two-sent ≡ kept ∷ delivered 2 (Some 4660) ∷ []
 unfolding if_else any_below frame_size_broken payload_size_broken by_eof header_layout flag_of layer_place need_of rows_by stamp_of layer_of header_by reading_of turn_of spoilt_of closed_of plus_of timed_of post_of shown_of sizes_broken fill_broken accounts_broken counts_broken rule50 read_of took_of hands_out hands_of handed_of out_of take_of lost_of close_of
 only-layer-by-session = refl
 
@@ -258,11 +257,11 @@ only-layer-by-session = refl
 abbrev intra-sent : List Ask
 intra-sent = sent 0x08 0x24 (0xAA ∷ []) ∷ sent 0x08 0x06 (0xBB ∷ []) ∷ []
 
-pub intra-frame-by-rule : outcomes_from (vp8 3) [] intra-sent ≡ kept ∷ delivered 2 Layer.Absent ∷ []
+pub intra-frame-by-rule : outcomes_from (vp8 3) [] intra-sent ≡ kept ∷ delivered 2 None ∷ []
 unfolding if_else by_eof header_layout flag_of layer_place need_of rows_by stamp_of layer_of header_by reading_of
 intra-frame-by-rule = refl
 
-pub intra-frame-by-session : outcomes_by (fresh (vp8 3)) intra-sent ≡ kept ∷ delivered 2 Layer.Absent ∷ []
+pub intra-frame-by-session : outcomes_by (fresh (vp8 3)) intra-sent ≡ kept ∷ delivered 2 None ∷ []
 unfolding if_else any_below frame_size_broken payload_size_broken by_eof header_layout flag_of layer_place need_of rows_by stamp_of layer_of header_by reading_of turn_of spoilt_of closed_of plus_of timed_of post_of shown_of sizes_broken fill_broken accounts_broken counts_broken rule50 read_of took_of hands_out hands_of handed_of out_of take_of lost_of close_of
 intra-frame-by-session = refl
 
@@ -272,7 +271,7 @@ turned-sent =
     sent 0x0A 0x84 (0x34 ∷ 0x12 ∷ 0xAA ∷ []) ∷ sent 0x08 0x04 (0xBB ∷ []) ∷ sent 0x08 0x05 (0xCC ∷ []) ∷ sent 0x08 0x05 (0xCC ∷ []) ∷ []
 
 abbrev handed-layer : Outcome
-handed-layer = Outcome.Handed (record { still = false; delivery = record { len = 2; stamp = Stamp.At 16; layer = Layer.At 4660 } })
+handed-layer = Outcome.Handed (record { still = false; delivery = record { len = 2; stamp = Some 16; layer = Some 4660 } })
 
 pub handed-layer-by-rule : outcomes_from (vp8 1) [] turned-sent ≡ kept ∷ kept ∷ handed-layer ∷ kept ∷ []
 unfolding if_else by_eof header_layout flag_of layer_place need_of rows_by stamp_of layer_of header_by reading_of

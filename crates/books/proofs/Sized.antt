@@ -1,4 +1,6 @@
 -- Whatever is called, a ledger keeps all its numbers.
+use Rattle.std.specs.Prelude.{None, Some}
+use Rattle.session_rules.specs.Options.{Ended}
 use Prim.Native.Nat.{ℕ, zero, suc, ◌-◌}
 use mathlib.Core.Bool.{Bool, true, false}
 use mathlib.Core.List.{List}
@@ -7,8 +9,6 @@ use Rattle.rules.specs.Numbered.{first_row}
 use Rattle.session_rules.specs.declared.Reading.{Reading}
 use Rattle.session_rules.specs.declared.Reading.TheVariants.{Idle, Unreadable, Readable}
 use Rattle.session_rules.specs.Transfer.{reading_of}
-use Rattle.session_rules.specs.declared.Ended.{Ended}
-use Rattle.session_rules.specs.declared.Ended.TheVariants.{Nothing, Frame}
 use Rattle.session_rules.specs.declared.Fate.{Fate}
 use Rattle.session_rules.specs.declared.Turn.{Turn}
 use Rattle.session_rules.specs.declared.HandOut.{HandOut}
@@ -26,8 +26,8 @@ use Rattle.session_rules.specs.Calls.{Offer, next}
 
 module _ (s : Session) (z : Sized (posted_of s)) where
   ended-sized : (e : Ended) (gone : ℕ) (l : Ledger) → Sized l → Sized (ended_of l e gone)
-  ended-sized Nothing gone l h = h
-  ended-sized (Frame why) gone l h = post-sized l (Entry.Dropped why gone) h
+  ended-sized None gone l h = h
+  ended-sized (Some why) gone l h = post-sized l (Entry.Dropped why gone) h
 
   fated-sized : (f : Fate) (n : ℕ) (l : Ledger) → Sized l → Sized (fated_of l f n)
   fated-sized Fate.Idle n l h = post-sized l Entry.Idle h

@@ -1,4 +1,6 @@
 -- A session reached from a fresh one is never refused by 50.
+use Rattle.std.specs.Prelude.{None, Some}
+use Rattle.session_rules.specs.Options.{Fault}
 use Prim.Native.Nat.{ℕ, zero, suc, ◌+◌, ◌-◌, ◌*◌, ◌^◌, ◌≤◌, ◌<◌}
 use mathlib.Core.Path.{◌≡◌, refl, sym, ◌∙◌, subst, ap}
 use mathlib.Core.Bool.{Bool, true, false, cond, ◌||◌}
@@ -17,12 +19,9 @@ use Rattle.session_rules.specs.declared.Reading.TheVariants.{Idle, Unreadable, R
 use Rattle.session_rules.specs.Transfer.{reading_of}
 use Rattle.session_rules.specs.declared.Reason.{Reason}
 use Rattle.session_rules.specs.declared.Reason.TheVariants.{Gap, Error, Clock, Mixed, Long}
-use Rattle.session_rules.specs.declared.Fault.{Fault}
-use Rattle.session_rules.specs.declared.Fault.TheVariants.{Sound, Bad}
 use Rattle.session_rules.specs.declared.Run.{Run}
 use Rattle.session_rules.specs.declared.Phase.{Phase}
 use Rattle.session_rules.specs.declared.Phase.TheVariants.{Fresh, Under, Past}
-use Rattle.session_rules.specs.declared.Ended.TheVariants.{Nothing, Frame}
 use Rattle.session_rules.specs.declared.Session.{Session}
 use Rattle.session_rules.specs.Refusals.{record_broken, ledger_of, take_rows}
 use Rattle.session_rules.specs.Session.{fresh, read_of, took_by, took_of, hands_out, handed_of}
@@ -41,8 +40,8 @@ use Rattle.session_rules.specs.Calls.{Offer, refusal, next, after, call_of, unle
 
 -- ---- fill: within the frame, and in a frame without fault its bytes
 abbrev pub Snug : ℕ → Fault → ℕ → ℕ → Type 0
-Snug frame Sound fill bytes = (fill ≡ bytes) × (bytes ≤ frame)
-Snug frame (Bad w) fill bytes = fill ≤ frame
+Snug frame None fill bytes = (fill ≡ bytes) × (bytes ≤ frame)
+Snug frame (Some w) fill bytes = fill ≤ frame
 
 abbrev pub Fit : ℕ → Phase → Type 0
 Fit frame Fresh = Unit {0}
@@ -50,8 +49,8 @@ Fit frame (Past f) = Unit {0}
 Fit frame (Under x) = Snug frame x.fault x.fill x.bytes
 
 snug-spoilt : (frame : ℕ) (q : Fault) (w : Reason) (fill bytes : ℕ) → Snug frame q fill bytes → Snug frame (first_of q true w) fill bytes
-snug-spoilt frame Sound w fill bytes e = omega arith
-snug-spoilt frame (Bad v) w fill bytes e = e
+snug-spoilt frame None w fill bytes e = omega arith
+snug-spoilt frame (Some v) w fill bytes e = e
 
 -- the tracker's fault once a transfer has joined, from its four tests
 abbrev pub fault_by : Fault → Bool → Bool → Bool → Bool → Fault
@@ -59,14 +58,14 @@ fault_by q i c m l = first_of (first_of (first_of (first_of q i Error) c Clock) 
 
 pub snug-joined : (frame : ℕ) (q : Fault) (i c m l : Bool) (fill bytes n : ℕ) → ltb frame (bytes + n) ≡ l → Snug frame q fill bytes
     → Snug frame (fault_by q i c m l) (filled_of (fault_by q i c m l) fill n) (bytes + n)
-snug-joined frame (Bad w) i c m l fill bytes n g e = e
-snug-joined frame Sound true c m l fill bytes n g e = omega arith
-snug-joined frame Sound false true m l fill bytes n g e = omega arith
-snug-joined frame Sound false false true l fill bytes n g e = omega arith
-snug-joined frame Sound false false false true fill bytes n g e = omega arith
-snug-joined frame Sound false false false false fill bytes n g e = (omega arith, ltb-false frame (bytes + n) g)
+snug-joined frame (Some w) i c m l fill bytes n g e = e
+snug-joined frame None true c m l fill bytes n g e = omega arith
+snug-joined frame None false true m l fill bytes n g e = omega arith
+snug-joined frame None false false true l fill bytes n g e = omega arith
+snug-joined frame None false false false true fill bytes n g e = omega arith
+snug-joined frame None false false false false fill bytes n g e = (omega arith, ltb-false frame (bytes + n) g)
 
-pub snug-begun : (frame : ℕ) (b : Bool) → Snug frame (first_of Sound b Gap) 0 0
+pub snug-begun : (frame : ℕ) (b : Bool) → Snug frame (first_of None b Gap) 0 0
 snug-begun frame true = omega arith
 snug-begun frame false = (refl, omega arith)
 
@@ -80,12 +79,12 @@ unfolding if_else
 fit-turn o h n Fresh b f = fit-join o h n (begun_of b h.fid h.still) (ends_of o h) (snug-begun o.frame b)
 fit-turn o h n (Past g) b f = go (same_of g h.fid)
   where
-    go : (c : Bool) → Fit o.frame (if_else c (stray_turn g n) (join_turn o (begun_of b h.fid h.still) h n Nothing 0)).track.phase
+    go : (c : Bool) → Fit o.frame (if_else c (stray_turn g n) (join_turn o (begun_of b h.fid h.still) h n None 0)).track.phase
     go true = tt
     go false = fit-join o h n (begun_of b h.fid h.still) (ends_of o h) (snug-begun o.frame b)
 fit-turn o h n (Under x) b f = go (same_of x.fid h.fid)
   where
-    go : (c : Bool) → Fit o.frame (if_else c (join_turn o x h n Nothing 0) (join_turn o (begun_of b h.fid h.still) h n (Frame (why_of x.fault (turned_why o))) x.bytes)).track.phase
+    go : (c : Bool) → Fit o.frame (if_else c (join_turn o x h n None 0) (join_turn o (begun_of b h.fid h.still) h n (Some (why_of x.fault (turned_why o))) x.bytes)).track.phase
     go true = fit-join o h n x (ends_of o h) f
     go false = fit-join o h n (begun_of b h.fid h.still) (ends_of o h) (snug-begun o.frame b)
 
@@ -129,8 +128,8 @@ fill-fits frame (Past g) f = refl
 fill-fits frame (Under x) f = go x.fault f
   where
     go : (q : Fault) → Snug frame q x.fill x.bytes → (ltb frame x.fill || unequal q x.fill x.bytes) ≡ false
-    go Sound e = rw (le-ltb frame x.fill (omega arith), eq-eqb x.fill x.bytes e.0)
-    go (Bad w) e = rw (le-ltb frame x.fill e)
+    go None e = rw (le-ltb frame x.fill (omega arith), eq-eqb x.fill x.bytes e.0)
+    go (Some w) e = rw (le-ltb frame x.fill e)
 
 -- ---- the opening and the transfers taken
 pub run-opening : (cs : List Call) (s : Session) → (run s cs).rest.opening ≡ s.rest.opening

@@ -1,4 +1,6 @@
 -- Where no readable transfer has the still bit, no frame is a still or mixed, and both accounts are zero.
+use Rattle.std.specs.Prelude.{None, Some}
+use Rattle.session_rules.specs.Options.{Fault, Layer, Stamp}
 use Prim.Native.Nat.{ℕ, ◌+◌}
 use mathlib.Core.Path.{◌≡◌, refl, sym, ◌∙◌, ap}
 use mathlib.Core.Bool.{Bool, true, false, cond, true≢false}
@@ -10,12 +12,8 @@ use lib.Dec.{eqb, ltb}
 use borrow.Author.Tests.{ne_eqb}
 use Rattle.sizes.specs.declared.Opening.{Opening}
 use Rattle.session_rules.specs.declared.Header.{Header}
-use Rattle.session_rules.specs.declared.Stamp.{Stamp}
-use Rattle.session_rules.specs.declared.Layer.{Layer}
 use Rattle.session_rules.specs.declared.Reason.{Reason}
 use Rattle.session_rules.specs.declared.Reason.TheVariants.{Gap, Error, Clock, Mixed, Long, Cut, Empty}
-use Rattle.session_rules.specs.declared.Fault.{Fault}
-use Rattle.session_rules.specs.declared.Fault.TheVariants.{Sound, Bad}
 use Rattle.session_rules.specs.declared.Account.{Account}
 use Rattle.session_rules.specs.declared.Ledger.{Ledger}
 use Rattle.session_rules.specs.Accounts.{place_of, account_for}
@@ -35,12 +33,12 @@ still-clear (t ∷ ts) c = c.0
 
 -- ---- so its frame is not mixed
 abbrev NotMixed : Fault → Type 0
-NotMixed Sound = Unit {0}
-NotMixed (Bad w) = w ≡ Mixed → ⊥
+NotMixed None = Unit {0}
+NotMixed (Some w) = w ≡ Mixed → ⊥
 
 or-not : (p q : Fault) → NotMixed p → NotMixed q → NotMixed (p or q)
-or-not Sound q a b = b
-or-not (Bad w) q a b = a
+or-not None q a b = b
+or-not (Some w) q a b = a
 
 -- the other reasons
 abbrev is_mixed : Reason → Bool
@@ -77,16 +75,16 @@ fault-not o r c = or-not (when (gap_before r) Gap) _ (when-not (gap_before r) Ga
 
 -- ---- and no still
 verdict-film : (w c : Bool) (q : Fault) (s : Stamp) (y : Layer) (b : Bool) (n : ℕ) → NotMixed q → b ≡ false → NoStill (verdict w c q s y b n)
-verdict-film w true (Bad k) s y b n h e = h
-verdict-film w true Sound s y true n h e = absurd (true≢false e)
-verdict-film w true Sound s y false n h e = go (eqb n 0)
+verdict-film w true (Some k) s y b n h e = h
+verdict-film w true None s y true n h e = absurd (true≢false e)
+verdict-film w true None s y false n h e = go (eqb n 0)
   where
     go : (c : Bool) → NoStill (cond c (Entry.Dropped Empty n) (Entry.Delivered (record { len = n; stamp = s; layer = y })))
     go true = other Empty refl
     go false = tt
 verdict-film true false q s y b n h e = tt
-verdict-film false false (Bad k) s y b n h e = h
-verdict-film false false Sound s y b n h e = other Cut refl
+verdict-film false false (Some k) s y b n h e = h
+verdict-film false false None s y b n h e = other Cut refl
 
 pub judged-film : (o : Opening) (way c : Bool) (f : List Seen) → Clear f → NoStill (verdict way c (fault o f) (first_stamp f) (last_layer f) (still_of f) (length (data_of f)))
 judged-film o way c f k = verdict-film way c (fault o f) (first_stamp f) (last_layer f) (still_of f) (length (data_of f)) (fault-not o f k) (still-clear f k)

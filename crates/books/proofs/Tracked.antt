@@ -1,4 +1,6 @@
 -- The tracker and the last run of the list: what each turn answers and writes is what the rule says of the last run.
+use Rattle.std.specs.Prelude.{None, Some}
+use Rattle.session_rules.specs.Options.{Ended, Fault, Layer, Stamp}
 use Prim.Native.Nat.{ℕ, ◌+◌}
 use mathlib.Core.Path.{◌≡◌, refl, sym, ◌∙◌, ap, subst}
 use mathlib.Core.Bool.{Bool, true, false, cond, not, ◌&&◌, ◌||◌, beq}
@@ -10,17 +12,10 @@ use Rattle.rules.specs.IfElse.{if_else}
 use Rattle.sizes.specs.declared.Opening.{Opening}
 use Rattle.sizes.specs.Framing.{by_eof}
 use Rattle.session_rules.specs.declared.Header.{Header}
-use Rattle.session_rules.specs.declared.Stamp.{Stamp}
-use Rattle.session_rules.specs.declared.Stamp.TheVariants.{Absent}
-use Rattle.session_rules.specs.declared.Layer.{Layer}
 use Rattle.session_rules.specs.declared.Reason.TheVariants.{Gap, Cut, Empty}
-use Rattle.session_rules.specs.declared.Fault.{Fault}
-use Rattle.session_rules.specs.declared.Fault.TheVariants.{Sound, Bad}
 use Rattle.session_rules.specs.declared.Run.{Run}
 use Rattle.session_rules.specs.declared.Phase.{Phase}
 use Rattle.session_rules.specs.declared.Phase.TheVariants.{Fresh, Under, Past}
-use Rattle.session_rules.specs.declared.Ended.{Ended}
-use Rattle.session_rules.specs.declared.Ended.TheVariants.{Nothing, Frame}
 use Rattle.session_rules.specs.declared.Fate.{Fate}
 use Rattle.session_rules.specs.declared.Delivery.{Delivery}
 use Rattle.session_rules.specs.declared.Turn.{Turn}
@@ -66,8 +61,8 @@ Tracks o (Past f) r = Of f r × (closed o r ≡ true)
 -- ---- the tracker's words and the rule's
 complete-same : (q : Fault) (s : Stamp) (y : Layer) (b : Bool) (n : ℕ) → complete_of q n s y b ≡ fate_in (verdict true true q s y b n)
 unfolding if_else
-complete-same (Bad w) s y b n = refl
-complete-same Sound s y b n = go (eqb n 0) b
+complete-same (Some w) s y b n = refl
+complete-same None s y b n = go (eqb n 0) b
   where
     d : Delivery
     d = record { len = n; stamp = s; layer = y }
@@ -82,9 +77,9 @@ fate-same true y = complete-same y.fault y.stamp y.layer y.still y.bytes
 fate-same false y = refl
 
 -- where no fault comes with a transfer, there was none before it, and all the data is written
-filled : (frame : ℕ) (q : Fault) (i c m l : Bool) (fill bytes : ℕ) → Snug frame q fill bytes → fault_by q i c m l ≡ Sound → fill ≡ bytes
-filled frame Sound i c m l fill bytes g e = g.0
-filled frame (Bad w) i c m l fill bytes g e = cc
+filled : (frame : ℕ) (q : Fault) (i c m l : Bool) (fill bytes : ℕ) → Snug frame q fill bytes → fault_by q i c m l ≡ None → fill ≡ bytes
+filled frame None i c m l fill bytes g e = g.0
+filled frame (Some w) i c m l fill bytes g e = cc
 
 -- ---- a transfer joins a frame
 module _ (o : Opening) (h : Header) (d : List ℕ) (b : Bool) where
@@ -111,8 +106,8 @@ module _ (o : Opening) (h : Header) (d : List ℕ) (b : Bool) where
 
     joined-fault : y.fault ≡ fault o (and r t)
     joined-fault =
-        fault-or o x h n Absent
-        ∙ ap (λ (c : Bool). x.fault or fault_at o (x.stamp or_stamp (h.stamp or_stamp Absent)) c x.bytes h n) p.still₀
+        fault-or o x h n None
+        ∙ ap (λ (c : Bool). x.fault or fault_at o (x.stamp or_stamp (h.stamp or_stamp None)) c x.bytes h n) p.still₀
         ∙ ap (λ (s : Stamp). x.fault or fault_at o s (still_of (and r t)) x.bytes h n) (ap (x.stamp or_stamp◌) (stamp-absent h.stamp) ∙ ap (◌or_stamp h.stamp) p.stamp₀ ∙ sym (stamp-more r t))
         ∙ ap (λ (k : ℕ). x.fault or fault_at o (first_stamp (and r t)) (still_of (and r t)) k h n) p.bytes₀
         ∙ ap (◌or fault_at o (first_stamp (and r t)) (still_of (and r t)) (length (data_of r)) h n) p.fault₀
@@ -149,9 +144,9 @@ module _ (o : Opening) (h : Header) (d : List ℕ) (b : Bool) where
         go false e = (f, record { going = joined-eof ∙ e; fault₀ = joined-fault; still₀ = p.still₀; stamp₀ = joined-stamp; layer₀ = joined-layer; bytes₀ = joined_bytes })
 
     -- its data is written as the rule says
-    put : (B : List ℕ) (f : Fault) → (f ≡ Sound → x.fill ≡ length (data_of r)) → paste B x.fill d (track.written_of f n) ≡ written_by [] f (length (data_of r)) d B
-    put B Sound e = ap (λ (k : ℕ). paste B k d n) (e refl)
-    put B (Bad w) e = sym (paste-zero B x.fill d)
+    put : (B : List ℕ) (f : Fault) → (f ≡ None → x.fill ≡ length (data_of r)) → paste B x.fill d (track.written_of f n) ≡ written_by [] f (length (data_of r)) d B
+    put B None e = ap (λ (k : ℕ). paste B k d n) (e refl)
+    put B (Some w) e = sym (paste-zero B x.fill d)
 
     joined-written : Snug o.frame x.fault x.fill x.bytes → (B : List ℕ) → paste B x.fill d (track.written_of y.fault n) ≡ written_in o (and r t) d B
     joined-written g B =
@@ -162,45 +157,45 @@ module _ (o : Opening) (h : Header) (d : List ℕ) (b : Bool) where
         ∙ ap (λ (ts : List Seen). written_by ts (fault o (frame_of o (and r t))) (length (data_of (earlier (frame_of o (and r t))))) d B) (sym (stray-none o r t p.going))
 
 -- ---- a frame that is ended
-pub part-closed : (o : Opening) (x : Run) (u : Seen) (us : List Seen) → Part o (fault o (u ∷ us)) u.header.still x (u ∷ us) → ended_in o false true (u ∷ us) ≡ Frame (why_of x.fault Cut)
+pub part-closed : (o : Opening) (x : Run) (u : Seen) (us : List Seen) → Part o (fault o (u ∷ us)) u.header.still x (u ∷ us) → ended_in o false true (u ∷ us) ≡ Some (why_of x.fault Cut)
 part-closed o x u us p =
     let r : List Seen = u ∷ us in
     let f : List Seen = frame_of o r in
-    ap (λ (c : Bool). cond (closed o f) Nothing (reason_in (verdict false c (fault o f) (first_stamp f) (last_layer f) (still_of f) (length (data_of f))))) (complete-last o f)
-    ∙ ap (λ (c : Bool). cond c Nothing (reason_in (verdict false c (fault o f) (first_stamp f) (last_layer f) (still_of f) (length (data_of f))))) (closed-frame o r ∙ p.going)
+    ap (λ (c : Bool). cond (closed o f) None (reason_in (verdict false c (fault o f) (first_stamp f) (last_layer f) (still_of f) (length (data_of f))))) (complete-last o f)
+    ∙ ap (λ (c : Bool). cond c None (reason_in (verdict false c (fault o f) (first_stamp f) (last_layer f) (still_of f) (length (data_of f))))) (closed-frame o r ∙ p.going)
     ∙ reason-same (fault o f) (first_stamp f) (last_layer f) (still_of f) (length (data_of f))
-    ∙ ap (λ (g : List Seen). Frame (why_of (fault o g) Cut)) (frame-whole o r p.going)
-    ∙ ap (λ (q : Fault). Frame (why_of q Cut)) (sym p.fault₀)
+    ∙ ap (λ (g : List Seen). Some (why_of (fault o g) Cut)) (frame-whole o r p.going)
+    ∙ ap (λ (q : Fault). Some (why_of q Cut)) (sym p.fault₀)
   where
-    reason-same : (q : Fault) (s : Stamp) (y : Layer) (b : Bool) (k : ℕ) → reason_in (verdict false false q s y b k) ≡ Frame (why_of q Cut)
-    reason-same Sound s y b k = refl
-    reason-same (Bad w) s y b k = refl
+    reason-same : (q : Fault) (s : Stamp) (y : Layer) (b : Bool) (k : ℕ) → reason_in (verdict false false q s y b k) ≡ Some (why_of q Cut)
+    reason-same None s y b k = refl
+    reason-same (Some w) s y b k = refl
 
 -- by another FID: with D1 clear it is complete, and would have been handed out without a fault and with data
-turned_same : (c : Bool) (q : Fault) (s : Stamp) (y : Layer) (b : Bool) (k : ℕ) → (not c && ready_of q k) ≡ false → reason_in (verdict false (not c && true) q s y b k) ≡ Frame (why_of q (if_else c Cut Empty))
+turned_same : (c : Bool) (q : Fault) (s : Stamp) (y : Layer) (b : Bool) (k : ℕ) → (not c && ready_of q k) ≡ false → reason_in (verdict false (not c && true) q s y b k) ≡ Some (why_of q (if_else c Cut Empty))
 unfolding if_else
-turned_same true Sound s y b k n = refl
-turned_same true (Bad w) s y b k n = refl
-turned_same false (Bad w) s y b k n = refl
-turned_same false Sound s y b k n = rw (not-false (eqb k 0) n)
+turned_same true None s y b k n = refl
+turned_same true (Some w) s y b k n = refl
+turned_same false (Some w) s y b k n = refl
+turned_same false None s y b k n = rw (not-false (eqb k 0) n)
 
 part_turned : (o : Opening) (x : Run) (u : Seen) (us : List Seen) → Part o (fault o (u ∷ us)) u.header.still x (u ∷ us) → (not (by_eof o) && ready_of x.fault x.bytes) ≡ false
-    → turned_in o (u ∷ us) ≡ Frame (why_of x.fault (turned_why o))
+    → turned_in o (u ∷ us) ≡ Some (why_of x.fault (turned_why o))
 part_turned o x u us p n =
     let r : List Seen = u ∷ us in
     let f : List Seen = frame_of o r in
-    ap (λ (c : Bool). cond c Nothing (reason_in (verdict false (c || (not (by_eof o) && true)) (fault o f) (first_stamp f) (last_layer f) (still_of f) (length (data_of f))))) (closed-frame o r ∙ p.going)
+    ap (λ (c : Bool). cond c None (reason_in (verdict false (c || (not (by_eof o) && true)) (fault o f) (first_stamp f) (last_layer f) (still_of f) (length (data_of f))))) (closed-frame o r ∙ p.going)
     ∙ ap (λ (g : List Seen). reason_in (verdict false (not (by_eof o) && true) (fault o g) (first_stamp g) (last_layer g) (still_of g) (length (data_of g)))) (frame-whole o r p.going)
     ∙ ap (λ (q : Fault). reason_in (verdict false (not (by_eof o) && true) q (first_stamp r) (last_layer r) (still_of r) (length (data_of r)))) (sym p.fault₀)
     ∙ ap (λ (k : ℕ). reason_in (verdict false (not (by_eof o) && true) x.fault (first_stamp r) (last_layer r) (still_of r) k)) (sym p.bytes₀)
     ∙ turned_same (by_eof o) x.fault (first_stamp r) (last_layer r) (still_of r) x.bytes n
 
-pub past-ended : (o : Opening) (open₀ last : Bool) (u : Seen) (us : List Seen) → closed o (u ∷ us) ≡ true → ended_in o open₀ last (u ∷ us) ≡ Nothing
-past-ended o open₀ last u us e = ap (λ (c : Bool). cond c Nothing (reason_in (frame_entry o open₀ last (u ∷ us)))) (closed-frame o (u ∷ us) ∙ e)
+pub past-ended : (o : Opening) (open₀ last : Bool) (u : Seen) (us : List Seen) → closed o (u ∷ us) ≡ true → ended_in o open₀ last (u ∷ us) ≡ None
+past-ended o open₀ last u us e = ap (λ (c : Bool). cond c None (reason_in (frame_entry o open₀ last (u ∷ us)))) (closed-frame o (u ∷ us) ∙ e)
 
 -- ---- ONE TURN: what it answers, leaves and writes
 pub record Turned (o : Opening) (h : Header) (d : List ℕ) (r s : List Seen) (T : Turn) : Type 0 where
-  pub ended : T.answer.ended ≡ cond (goes_on h r) Nothing (turned_in o r)
+  pub ended : T.answer.ended ≡ cond (goes_on h r) None (turned_in o r)
   pub fate : T.answer.fate ≡ fate_on o s
   pub tracks : Tracks o T.track.phase s
   pub written : (B : List ℕ) → paste B T.at d T.len ≡ written_in o s d B
@@ -217,7 +212,7 @@ module _ (o : Opening) (h : Header) (d : List ℕ) (b : Bool) where
   begun-part : Part o (when b Gap) h.still (begun_of b h.fid h.still) []
   begun-part = record { going = refl; fault₀ = begun-fault b; still₀ = refl; stamp₀ = refl; layer₀ = refl; bytes₀ = refl }
 
-  begun-turned : (r : List Seen) (ended : Ended) (gone : ℕ) → ended ≡ cond (goes_on h r) Nothing (turned_in o r) → Turned o h d r (t o h d b ∷ []) (join_turn o (begun_of b h.fid h.still) h (length d) ended gone)
+  begun-turned : (r : List Seen) (ended : Ended) (gone : ℕ) → ended ≡ cond (goes_on h r) None (turned_in o r) → Turned o h d r (t o h d b ∷ []) (join_turn o (begun_of b h.fid h.still) h (length d) ended gone)
   begun-turned r ended gone e =
       let x : Run = begun_of b h.fid h.still in
       record {
@@ -228,9 +223,9 @@ module _ (o : Opening) (h : Header) (d : List ℕ) (b : Bool) where
       }
 
   joined-turned : (x : Run) (u : Seen) (us : List Seen) → u.header.fid ≡ x.fid → Part o (fault o (u ∷ us)) u.header.still x (u ∷ us) → Snug o.frame x.fault x.fill x.bytes
-      → goes_on h (u ∷ us) ≡ true → Turned o h d (u ∷ us) (and (u ∷ us) (t o h d b)) (join_turn o x h (length d) Nothing 0)
+      → goes_on h (u ∷ us) ≡ true → Turned o h d (u ∷ us) (and (u ∷ us) (t o h d b)) (join_turn o x h (length d) None 0)
   joined-turned x u us f p g e = record {
-    ended = sym (ap (λ (c : Bool). cond c Nothing (turned_in o (u ∷ us))) e);
+    ended = sym (ap (λ (c : Bool). cond c None (turned_in o (u ∷ us))) e);
     fate = joined-fate o h d b x (u ∷ us) p;
     tracks = joined-tracks o h d b x (u ∷ us) p f;
     written = joined-written o h d b x (u ∷ us) p g;
@@ -242,7 +237,7 @@ module _ (o : Opening) (h : Header) (d : List ℕ) (b : Bool) where
       let r : List Seen = u ∷ us in
       let z : Seen = t o h d b in
       record {
-        ended = sym (ap (λ (c : Bool). cond c Nothing (turned_in o r)) e);
+        ended = sym (ap (λ (c : Bool). cond c None (turned_in o r)) e);
         fate = stray-fate (stray_of o r) z (frame_entry o true true (and r z)) ∙ ap (λ (ts : List Seen). fate_by ts (frame_entry o true true (and r z))) (sym (stray-more o r z w));
         tracks = (q, closed-more o r z ∙ ap (◌|| closes o z) w);
         written = λ B. sym (paste-zero B 0 d) ∙ stray-written (stray_of o r) z (fault o (frame_of o (and r z))) (length (data_of (earlier (frame_of o (and r z))))) d B
@@ -254,26 +249,26 @@ module _ (o : Opening) (h : Header) (d : List ℕ) (b : Bool) where
 
   pub turn-right : (ph : Phase) (r : List Seen) → Tracks o ph r → Fit o.frame ph → hands_by ph o h ≡ false → Turned o h d r (grown r (t o h d b)) (turn_by ph o b h (length d))
   unfolding if_else
-  turn-right Fresh r e g n = subst (λ (l : List Seen). Turned o h d l (grown l (t o h d b)) (turn_by Fresh o b h (length d))) (sym e) (begun-turned [] Nothing 0 refl)
+  turn-right Fresh r e g n = subst (λ (l : List Seen). Turned o h d l (grown l (t o h d b)) (turn_by Fresh o b h (length d))) (sym e) (begun-turned [] None 0 refl)
   turn-right (Under x) [] e g n = absurd e.0
   turn-right (Under x) (u ∷ us) e g n = rw (same-run x.fid u e.0) (go (beq u.header.fid h.fid) refl (rw (same-run x.fid u e.0) at n))
     where
       go : (c : Bool) → goes_on h (u ∷ us) ≡ c → (not (by_eof o) && (not c && ready_of x.fault x.bytes)) ≡ false → Turned o h d (u ∷ us) (cond c (and (u ∷ us) (t o h d b)) (t o h d b ∷ []))
-          (if_else c (join_turn o x h (length d) Nothing 0) (join_turn o (begun_of b h.fid h.still) h (length d) (Frame (why_of x.fault (turned_why o))) x.bytes))
+          (if_else c (join_turn o x h (length d) None 0) (join_turn o (begun_of b h.fid h.still) h (length d) (Some (why_of x.fault (turned_why o))) x.bytes))
       go true q m = joined-turned x u us e.0 e.1 g q
-      go false q m = begun-turned (u ∷ us) (Frame (why_of x.fault (turned_why o))) x.bytes (sym (ap (λ (c : Bool). cond c Nothing (turned_in o (u ∷ us))) q ∙ part_turned o x u us e.1 m))
+      go false q m = begun-turned (u ∷ us) (Some (why_of x.fault (turned_why o))) x.bytes (sym (ap (λ (c : Bool). cond c None (turned_in o (u ∷ us))) q ∙ part_turned o x u us e.1 m))
   turn-right (Past f) [] e g n = absurd e.0
   turn-right (Past f) (u ∷ us) e g n = rw (same-run f u e.0) (go (beq u.header.fid h.fid) refl)
     where
       go : (c : Bool) → goes_on h (u ∷ us) ≡ c → Turned o h d (u ∷ us) (cond c (and (u ∷ us) (t o h d b)) (t o h d b ∷ []))
-          (if_else c (stray_turn f (length d)) (join_turn o (begun_of b h.fid h.still) h (length d) Nothing 0))
+          (if_else c (stray_turn f (length d)) (join_turn o (begun_of b h.fid h.still) h (length d) None 0))
       go true q = stray-turned f u us e.0 e.1 q
-      go false q = begun-turned (u ∷ us) Nothing 0 (sym (ap (λ (c : Bool). cond c Nothing (turned_in o (u ∷ us))) q ∙ past-ended o true false u us e.1))
+      go false q = begun-turned (u ∷ us) None 0 (sym (ap (λ (c : Bool). cond c None (turned_in o (u ∷ us))) q ∙ past-ended o true false u us e.1))
 
 -- ---- THE HAND-OUT: the tracker finds it where the rule does, and hands out the rule's frame
 ready-same : (q : Fault) (n : ℕ) → ready_of q n ≡ (is_sound q && not (eqb n 0))
-ready-same Sound n = refl
-ready-same (Bad w) n = refl
+ready-same None n = refl
+ready-same (Some w) n = refl
 
 pub hands-right : (o : Opening) (h : Header) (ph : Phase) (r : List Seen) → Tracks o ph r → hands_by ph o h ≡ hands_in o h r
 hands-right o h Fresh r e = sym (rw e (and-false (not (by_eof o))))

@@ -1,4 +1,6 @@
 -- What a call leaves at the front of the buffer: of two buffers that agree on the bytes of the frame under way, the bytes of the frame that is handed out and of the one under way after it are the same.
+use Rattle.std.specs.Prelude.{None, Some}
+use Rattle.session_rules.specs.Options.{Ended, Fault, Layer, Stamp}
 use Prim.Native.Nat.{ℕ, ◌+◌, ◌≤◌}
 use mathlib.Core.Path.{◌≡◌, refl, sym, ap, ◌∙◌}
 use mathlib.Core.Bool.{Bool, true, false, not, ◌&&◌, true≢false}
@@ -11,15 +13,9 @@ use Rattle.rules.specs.IfElse.{if_else}
 use Rattle.sizes.specs.declared.Opening.{Opening}
 use Rattle.sizes.specs.Framing.{by_eof}
 use Rattle.session_rules.specs.declared.Header.{Header}
-use Rattle.session_rules.specs.declared.Stamp.{Stamp}
-use Rattle.session_rules.specs.declared.Layer.{Layer}
-use Rattle.session_rules.specs.declared.Fault.{Fault}
-use Rattle.session_rules.specs.declared.Fault.TheVariants.{Sound, Bad}
 use Rattle.session_rules.specs.declared.Run.{Run}
 use Rattle.session_rules.specs.declared.Phase.{Phase}
 use Rattle.session_rules.specs.declared.Phase.TheVariants.{Fresh, Under, Past}
-use Rattle.session_rules.specs.declared.Ended.{Ended}
-use Rattle.session_rules.specs.declared.Ended.TheVariants.{Nothing, Frame}
 use Rattle.session_rules.specs.declared.Reason.TheVariants.{Empty}
 use Rattle.session_rules.specs.declared.Delivery.{Delivery}
 use Rattle.session_rules.specs.declared.Fate.{Fate}
@@ -29,8 +25,8 @@ use Rattle.books.proofs.Sound.{Snug, Fit, snug-joined, snug-begun}
 use Rattle.books.specs.Alike.{fate_length, fill_of}
 
 snug-within : (frame : ℕ) (q : Fault) (fill bytes : ℕ) → Snug frame q fill bytes → fill ≤ frame
-snug-within frame Sound fill bytes e = omega arith
-snug-within frame (Bad w) fill bytes e = e
+snug-within frame None fill bytes e = omega arith
+snug-within frame (Some w) fill bytes e = e
 
 -- two buffers with room for the frame that agree on its first `fill` bytes
 pub record Agree (frame fill : ℕ) (A B : List ℕ) : Type 0 where
@@ -41,15 +37,15 @@ pub record Agree (frame fill : ℕ) (A B : List ℕ) : Type 0 where
 -- n bytes of data more, written if there is no fault
 pub more : (q : Fault) (fill n : ℕ) (d A B : List ℕ) → fill ≤ length A → fill ≤ length B → n ≤ length d → take fill A ≡ take fill B
     → take (filled_of q fill n) (paste A fill d (written_of q n)) ≡ take (filled_of q fill n) (paste B fill d (written_of q n))
-more Sound fill n d A B a b k e = take-paste A fill d n a k ∙ ap (λ (l : List ℕ). l ++ take n d) e ∙ sym (take-paste B fill d n b k)
-more (Bad w) fill n d A B a b k e = ap (take fill) (sym (paste-zero A fill d)) ∙ e ∙ ap (take fill) (paste-zero B fill d)
+more None fill n d A B a b k e = take-paste A fill d n a k ∙ ap (λ (l : List ℕ). l ++ take n d) e ∙ sym (take-paste B fill d n b k)
+more (Some w) fill n d A B a b k e = ap (take fill) (sym (paste-zero A fill d)) ∙ e ∙ ap (take fill) (paste-zero B fill d)
 
 -- the bytes of a complete frame
 pub complete-bytes : (frame : ℕ) (q : Fault) (fill bytes : ℕ) (s : Stamp) (y : Layer) (b : Bool) (A B : List ℕ) → Snug frame q fill bytes → take fill A ≡ take fill B
     → take (fate_length (complete_of q bytes s y b)) A ≡ take (fate_length (complete_of q bytes s y b)) B
 unfolding if_else
-complete-bytes frame (Bad w) fill bytes s y b A B g e = refl
-complete-bytes frame Sound fill bytes s y b A B g e = go (eqb bytes 0) b
+complete-bytes frame (Some w) fill bytes s y b A B g e = refl
+complete-bytes frame None fill bytes s y b A B g e = go (eqb bytes 0) b
   where
     whole : take bytes A ≡ take bytes B
     whole = ap (λ (k : ℕ). take k A) (sym g.0) ∙ e ∙ ap (λ (k : ℕ). take k B) g.0
@@ -99,17 +95,17 @@ module _ (o : Opening) (h : Header) (n : ℕ) (d A B : List ℕ) (k : n ≤ leng
 
   pub turn-leaves : (ph : Phase) (gap : Bool) → Fit o.frame ph → take (fill_of ph) A ≡ take (fill_of ph) B → Leaves (turn_by ph o gap h n) d A B
   unfolding if_else
-  turn-leaves Fresh gap g e = begun-leaves gap Nothing 0
+  turn-leaves Fresh gap g e = begun-leaves gap None 0
   turn-leaves (Under r) gap g e = go (same_of r.fid h.fid)
     where
-      go : (c : Bool) → Leaves (if_else c (join_turn o r h n Nothing 0) (join_turn o (begun_of gap h.fid h.still) h n (Frame (why_of r.fault (turned_why o))) r.bytes)) d A B
-      go true = join-leaves r Nothing 0 g e
-      go false = begun-leaves gap (Frame (why_of r.fault (turned_why o))) r.bytes
+      go : (c : Bool) → Leaves (if_else c (join_turn o r h n None 0) (join_turn o (begun_of gap h.fid h.still) h n (Some (why_of r.fault (turned_why o))) r.bytes)) d A B
+      go true = join-leaves r None 0 g e
+      go false = begun-leaves gap (Some (why_of r.fault (turned_why o))) r.bytes
   turn-leaves (Past f) gap g e = go (same_of f h.fid)
     where
-      go : (c : Bool) → Leaves (if_else c (stray_turn f n) (join_turn o (begun_of gap h.fid h.still) h n Nothing 0)) d A B
+      go : (c : Bool) → Leaves (if_else c (stray_turn f n) (join_turn o (begun_of gap h.fid h.still) h n None 0)) d A B
       go true = record { way = refl; handed = refl }
-      go false = begun-leaves gap Nothing 0
+      go false = begun-leaves gap None 0
 
 -- a frame that is handed out has no fault, so that its bytes are those written
 never : (a b : Bool) → (a && (b && false)) ≡ true → ⊥
@@ -124,5 +120,5 @@ out-bytes o h (Past f) gap A B g p e = refl
 out-bytes o h (Under r) gap A B g p e = go r.fault g p
   where
     go : (q : Fault) → Snug o.frame q r.fill r.bytes → (not (by_eof o) && (not (same_of r.fid h.fid) && ready_of q r.bytes)) ≡ true → take r.bytes A ≡ take r.bytes B
-    go Sound s p = ap (λ (m : ℕ). take m A) (sym s.0) ∙ e ∙ ap (λ (m : ℕ). take m B) s.0
-    go (Bad w) s p = absurd (never (not (by_eof o)) (not (same_of r.fid h.fid)) p)
+    go None s p = ap (λ (m : ℕ). take m A) (sym s.0) ∙ e ∙ ap (λ (m : ℕ). take m B) s.0
+    go (Some w) s p = absurd (never (not (by_eof o)) (not (same_of r.fid h.fid)) p)

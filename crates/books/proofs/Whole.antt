@@ -1,4 +1,6 @@
 -- With one buffer that nobody else writes, a frame handed out, delivered or a still, is whole: the buffer's first bytes are its payload bytes, in order.
+use Rattle.std.specs.Prelude.{None, Some}
+use Rattle.session_rules.specs.Options.{Fault}
 use Prim.Native.Nat.{ℕ, zero, suc, ◌≤◌}
 use mathlib.Core.Path.{◌≡◌, refl, sym, ◌∙◌, ap, subst}
 use mathlib.Core.Bool.{Bool, true, false, cond, true≢false}
@@ -11,8 +13,6 @@ use Rattle.session_rules.specs.declared.Reading.{Reading}
 use Rattle.session_rules.specs.declared.Reading.TheVariants.{Idle, Unreadable, Readable}
 use Rattle.session_rules.specs.Transfer.{reading_of}
 use Rattle.session_rules.specs.declared.Reason.TheVariants.{Empty}
-use Rattle.session_rules.specs.declared.Fault.{Fault}
-use Rattle.session_rules.specs.declared.Fault.TheVariants.{Sound, Bad}
 use Rattle.session_rules.specs.declared.Delivery.{Delivery}
 use Rattle.session_rules.specs.declared.Fate.{Fate}
 use Rattle.session_rules.specs.declared.HandOut.{HandOut}
@@ -58,7 +58,7 @@ buffer-refused s B Ask.close k e = refl
 record Delivers (o : Opening) (r : List Seen) (b : Bool) (d : Delivery) : Type 0 where
   pub alone : stray_of o r ≡ []
   pub ended : closed o (frame_of o r) ≡ true
-  pub sound : fault o (frame_of o r) ≡ Sound
+  pub sound : fault o (frame_of o r) ≡ None
   pub bit : still_of (frame_of o r) ≡ b
   pub size : d.len ≡ length (data_of (frame_of o r))
   pub stamp : d.stamp ≡ first_stamp (frame_of o r)
@@ -218,8 +218,8 @@ delivers o r b d = go (stray_of o r) refl (complete o true (frame_of o r)) refl 
         → fate_by ts (verdict true c q x.stamp x.layer k x.len) ≡ handing b d → Delivers o r b d
     go (t ∷ ts) u c v q w e = absurd (not-handed Fate.Stray b d refl e)
     go [] u false v q w e = absurd (not-handed Fate.Kept b d refl e)
-    go [] u true v (Bad y) w e = absurd (not-handed (Fate.Dropped y) b d refl e)
-    go [] u true v Sound w e = full (eqb x.len 0) e
+    go [] u true v (Some y) w e = absurd (not-handed (Fate.Dropped y) b d refl e)
+    go [] u true v None w e = full (eqb x.len 0) e
       where
         full : (c : Bool) → fate_in (cond c (Entry.Dropped Empty x.len) (handed_out k x)) ≡ handing b d → Delivers o r b d
         full true f = absurd (not-handed (Fate.Dropped Empty) b d refl f)

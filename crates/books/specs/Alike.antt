@@ -1,4 +1,5 @@
 -- TWO SESSIONS, each with one buffer that nobody else writes, that are given the same calls: where each is, and all that a caller hears of its calls.
+use Rattle.session_rules.specs.Options.{Report, Closing}
 use Rattle.std.specs.Prelude.{ℕ, ◌≡◌, List, [], ◌∷◌, length, take}
 use Rattle.sizes.specs.declared.Opening.{Opening}
 use Rattle.sizes.specs.Framing.{by_eof}
@@ -7,8 +8,6 @@ use Rattle.session_rules.specs.declared.Phase.TheVariants.{Fresh, Under, Past}
 use Rattle.session_rules.specs.declared.Fate.{Fate}
 use Rattle.session_rules.specs.declared.Session.{Session}
 use Rattle.session_rules.specs.declared.Outcome.{Outcome}
-use Rattle.session_rules.specs.declared.Report.{Report}
-use Rattle.session_rules.specs.declared.Closing.{Closing}
 use Rattle.session_rules.specs.Session.{take_of, lost_of, close_of}
 use Rattle.session_rules.specs.Call.{Ask}
 use Rattle.session_rules.specs.Calls.{refusal, next, offer_with, buffer_next}

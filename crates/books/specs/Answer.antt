@@ -1,6 +1,7 @@
 -- Document 01, "The answer has two parts" and what is written, with document 02, "Two": which call hands a frame out. All from the list alone. `cs` are the calls taken
 -- before this one.
-use Rattle.std.specs.Prelude.{ℕ, Bool, true, false, cond, not, ◌&&◌, List, [], ◌∷◌, ◌++◌, length, drop, eqb}
+use Rattle.session_rules.specs.Options.{Ended, Fault}
+use Rattle.std.specs.Prelude.{ℕ, Bool, true, false, cond, not, ◌&&◌, List, [], ◌∷◌, ◌++◌, length, drop, eqb, None, Some}
 use Rattle.std.specs.Bool.{beq}
 use Rattle.std.proofs.Math.Seq.{paste}
 use Rattle.sizes.specs.declared.Opening.{Opening}
@@ -9,10 +10,6 @@ use Rattle.session_rules.specs.declared.Header.{Header}
 use Rattle.session_rules.specs.declared.Reading.{Reading}
 use Rattle.session_rules.specs.declared.Reading.TheVariants.{Idle, Unreadable, Readable}
 use Rattle.session_rules.specs.Transfer.{reading_of}
-use Rattle.session_rules.specs.declared.Fault.{Fault}
-use Rattle.session_rules.specs.declared.Fault.TheVariants.{Sound, Bad}
-use Rattle.session_rules.specs.declared.Ended.{Ended}
-use Rattle.session_rules.specs.declared.Ended.TheVariants.{Nothing, Frame}
 use Rattle.session_rules.specs.declared.Fate.{Fate}
 use Rattle.session_rules.specs.declared.Answer.{Answer}
 use Rattle.session_rules.specs.declared.HandOut.{HandOut}
@@ -38,20 +35,20 @@ frame_entry o open₀ last r =
 
 -- "WHAT BECAME OF A FRAME ENDED": its reason, or none
 abbrev pub reason_in : Entry → Ended
-reason_in (Entry.Dropped w n) = Frame w
-reason_in (Entry.Delivered d) = Nothing
-reason_in (Entry.Still d) = Nothing
-reason_in (Entry.UnderWay n) = Nothing
-reason_in (Entry.Stray n) = Nothing
-reason_in (Entry.Unreadable n) = Nothing
-reason_in (Entry.Headers n) = Nothing
-reason_in Entry.Lost = Nothing
-reason_in Entry.Idle = Nothing
+reason_in (Entry.Dropped w n) = Some w
+reason_in (Entry.Delivered d) = None
+reason_in (Entry.Still d) = None
+reason_in (Entry.UnderWay n) = None
+reason_in (Entry.Stray n) = None
+reason_in (Entry.Unreadable n) = None
+reason_in (Entry.Headers n) = None
+reason_in Entry.Lost = None
+reason_in Entry.Idle = None
 
 -- of a run's frame: one with its own EOF, or its mark, was ended by that, and is not ended again
 abbrev pub ended_in : Opening → Bool → Bool → List Seen → Ended
-ended_in o open₀ last [] = Nothing
-ended_in o open₀ last (t ∷ ts) = cond (closed o (frame_of o (t ∷ ts))) Nothing (reason_in (frame_entry o open₀ last (t ∷ ts)))
+ended_in o open₀ last [] = None
+ended_in o open₀ last (t ∷ ts) = cond (closed o (frame_of o (t ∷ ts))) None (reason_in (frame_entry o open₀ last (t ∷ ts)))
 
 -- by a transfer of the other FID: the run is not the last any more
 abbrev pub turned_in : Opening → List Seen → Ended
@@ -91,10 +88,10 @@ abbrev pub with : List Call → List ℕ → List Call
 with cs t = cs ++ (Call.transfer t ∷ [])
 
 abbrev pub answer_for : Reading → Opening → List Call → List ℕ → Answer
-answer_for Idle o cs t = record { ended = Nothing; fate = Fate.Idle }
-answer_for (Unreadable k) o cs t = record { ended = Nothing; fate = Fate.Unreadable k }
+answer_for Idle o cs t = record { ended = None; fate = Fate.Idle }
+answer_for (Unreadable k) o cs t = record { ended = None; fate = Fate.Unreadable k }
 answer_for (Readable h) o cs t =
-    record { ended = cond (goes_on h (last_run o cs)) Nothing (turned_in o (last_run o cs)); fate = fate_on o (last_run o (with cs t)) }
+    record { ended = cond (goes_on h (last_run o cs)) None (turned_in o (last_run o cs)); fate = fate_on o (last_run o (with cs t)) }
 
 abbrev pub answer_of : Opening → List Call → List ℕ → Answer
 answer_of o cs t = answer_for (reading_of o t) o cs t
@@ -106,8 +103,8 @@ turns h [] = false
 turns h (t ∷ ts) = not (beq t.header.fid h.fid)
 
 abbrev pub is_sound : Fault → Bool
-is_sound Sound = true
-is_sound (Bad w) = false
+is_sound None = true
+is_sound (Some w) = false
 
 abbrev pub hands_in : Opening → Header → List Seen → Bool
 hands_in o h r =
@@ -140,8 +137,8 @@ earlier (t ∷ []) = []
 earlier (t ∷ (u ∷ us)) = t ∷ earlier (u ∷ us)
 
 abbrev pub written_by : List Seen → Fault → ℕ → List ℕ → List ℕ → List ℕ
-written_by [] Sound at d buffer = paste buffer at d (length d)
-written_by [] (Bad w) at d buffer = buffer
+written_by [] None at d buffer = paste buffer at d (length d)
+written_by [] (Some w) at d buffer = buffer
 written_by (t ∷ ts) q at d buffer = buffer
 
 abbrev pub written_in : Opening → List Seen → List ℕ → List ℕ → List ℕ

@@ -1,11 +1,9 @@
 -- What is demanded of a session after any calls: the words of specs/Statement.antt.
-use Rattle.std.specs.Prelude.{ℕ, ◌+◌, ◌≡◌, Bool, true, false, List, [], ◌∷◌, ◌++◌, map, length, get_or, take}
+use Rattle.session_rules.specs.Options.{Ended}
+use Rattle.std.specs.Prelude.{ℕ, ◌+◌, ◌≡◌, Bool, true, false, List, [], ◌∷◌, ◌++◌, map, length, get_or, take, None, Some}
 use Rattle.sizes.specs.declared.Opening.{Opening}
 use Rattle.session_rules.specs.declared.Header.{Header}
 use Rattle.session_rules.specs.declared.Reason.TheVariants.{Mixed}
-use Rattle.session_rules.specs.declared.Fault.TheVariants.{Sound}
-use Rattle.session_rules.specs.declared.Ended.{Ended}
-use Rattle.session_rules.specs.declared.Ended.TheVariants.{Nothing, Frame}
 use Rattle.session_rules.specs.declared.Fate.{Fate}
 use Rattle.session_rules.specs.declared.Answer.{Answer}
 use Rattle.session_rules.specs.declared.Delivery.{Delivery}
@@ -38,8 +36,8 @@ all_bytes l = over (λ a. bytes_of l (place_of a)) accounts
 
 -- WHAT AN ANSWER SAYS: the frame that was ended, and the transfer's own fate, as items of the rule
 abbrev pub ended_items : Ended → ℕ → List ℕ → List Item
-ended_items Nothing n d = []
-ended_items (Frame why) n d = record { entry = Entry.Dropped why n; load = d } ∷ []
+ended_items None n d = []
+ended_items (Some why) n d = record { entry = Entry.Dropped why n; load = d } ∷ []
 
 abbrev pub fate_items : Fate → ℕ → List ℕ → List Item
 fate_items Fate.Idle n d = []
@@ -77,7 +75,7 @@ pub record Says (o : Opening) (cs : List Call) (c : Call) (a : Answer) : Type 0 
 -- its payload bytes, in order, as many as the delivery says, the delivery's stamp is the frame's first and its layer the frame's last.
 pub record Whole (o : Opening) (cs : List Call) (b : Bool) (d : Delivery) (buffer : List ℕ) : Type 0 where
   pub ended : closed o (frame_of o (last_run o cs)) ≡ true
-  pub sound : fault o (frame_of o (last_run o cs)) ≡ Sound
+  pub sound : fault o (frame_of o (last_run o cs)) ≡ None
   pub alone : stray_of o (last_run o cs) ≡ []
   pub bit : still_of (frame_of o (last_run o cs)) ≡ b
   pub payload : take d.len buffer ≡ data_of (frame_of o (last_run o cs))

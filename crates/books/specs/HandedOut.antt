@@ -1,11 +1,10 @@
 -- Document 02, Two: what is demanded of hand-outs, the words of specs/Statement.antt.
-use Rattle.std.specs.Prelude.{ℕ, ◌≡◌, Bool, true, false, not, ◌&&◌, ◌||◌, List, [], ◌∷◌, length, take}
+use Rattle.std.specs.Prelude.{ℕ, ◌≡◌, Bool, true, false, not, ◌&&◌, ◌||◌, List, [], ◌∷◌, length, take, None}
 use Rattle.sizes.specs.declared.Opening.{Opening}
 use Rattle.sizes.specs.Framing.{by_eof}
 use Rattle.session_rules.specs.declared.Header.{Header}
 use Rattle.session_rules.specs.declared.Reading.TheVariants.{Readable}
 use Rattle.session_rules.specs.Transfer.{reading_of}
-use Rattle.session_rules.specs.declared.Fault.TheVariants.{Sound}
 use Rattle.session_rules.specs.declared.HandOut.{HandOut}
 use Rattle.session_rules.specs.Call.{Call}
 use Rattle.books.specs.Rule.{events, Seen, readables, runs, closes, frame_of, closed, complete, data_of, gap_after, fault}
@@ -19,7 +18,7 @@ pub record HandsOut (o : Opening) (cs : List Call) (t : List ℕ) (x : HandOut) 
   pub reads : reading_of o t ≡ Readable header
   pub other : turns header (last_run o cs) ≡ true
   pub unmarked : closed o (last_run o cs) ≡ false
-  pub sound : fault o (frame_of o (last_run o cs)) ≡ Sound
+  pub sound : fault o (frame_of o (last_run o cs)) ≡ None
   pub some : length (data_of (frame_of o (last_run o cs))) ≡ 0 → ⊥
   pub frame : x ≡ out_of o (last_run o cs)
 
@@ -35,7 +34,7 @@ marked_in [] = false
 marked_in (t ∷ ts) = t.marked || marked_in ts
 
 abbrev pub HasMark : Opening → List Seen → Type 0
-HasMark o r = fault o (frame_of o r) ≡ Sound → (length (data_of (frame_of o r)) ≡ 0 → ⊥) → marked_in r ≡ true
+HasMark o r = fault o (frame_of o r) ≡ None → (length (data_of (frame_of o r)) ≡ 0 → ⊥) → marked_in r ≡ true
 
 abbrev pub Passed : Opening → List (List Seen) → Type 0
 Passed o [] = Unit {0}

@@ -1,16 +1,13 @@
 -- Document 02, Twelve: what is demanded of each kind of header, the words of specs/Statement.antt. The frame rule itself names no kind.
-use Rattle.std.specs.Prelude.{◌≡◌, false, List, map, get_or}
+use Rattle.session_rules.specs.Options.{Ended, Closing}
+use Rattle.std.specs.Prelude.{◌≡◌, false, List, map, get_or, None, Some, Err, Ok}
 use Rattle.sizes.specs.declared.Opening.{Opening}
-use Rattle.session_rules.specs.declared.Layer.{Layer}
 use Rattle.session_rules.specs.declared.Reason.TheVariants.{Mixed}
-use Rattle.session_rules.specs.declared.Ended.{Ended}
-use Rattle.session_rules.specs.declared.Ended.TheVariants.{Nothing, Frame}
 use Rattle.session_rules.specs.declared.Fate.{Fate}
 use Rattle.session_rules.specs.declared.HandOut.{HandOut}
 use Rattle.session_rules.specs.declared.Ledger.{Ledger}
 use Rattle.session_rules.specs.Accounts.{untimed_at}
 use Rattle.session_rules.specs.Entry.{Entry}
-use Rattle.session_rules.specs.declared.Closing.{Closing}
 use Rattle.session_rules.specs.declared.Outcome.{Outcome}
 use Rattle.session_rules.specs.Call.{Call}
 use Rattle.books.specs.Rule.{entry_of, frames_by, untimed}
@@ -18,8 +15,8 @@ use Rattle.books.specs.Demands.{EachEntry}
 
 -- NO LAYER IS REPORTED: no delivered frame and no still of the list has one
 abbrev pub NoLayer : Entry → Type 0
-NoLayer (Entry.Delivered d) = d.layer ≡ Layer.Absent
-NoLayer (Entry.Still d) = d.layer ≡ Layer.Absent
+NoLayer (Entry.Delivered d) = d.layer ≡ None
+NoLayer (Entry.Still d) = d.layer ≡ None
 NoLayer (Entry.Dropped w n) = Unit {0}
 NoLayer (Entry.UnderWay n) = Unit {0}
 NoLayer (Entry.Stray n) = Unit {0}
@@ -47,8 +44,8 @@ OutcomeHas A E B (Outcome.Handed x) = A x
 
 -- no layer
 abbrev pub FateNoLayer : Fate → Type 0
-FateNoLayer (Fate.Delivered d) = d.layer ≡ Layer.Absent
-FateNoLayer (Fate.Still d) = d.layer ≡ Layer.Absent
+FateNoLayer (Fate.Delivered d) = d.layer ≡ None
+FateNoLayer (Fate.Still d) = d.layer ≡ None
 FateNoLayer (Fate.Dropped w) = Unit {0}
 FateNoLayer Fate.Idle = Unit {0}
 FateNoLayer Fate.Kept = Unit {0}
@@ -56,7 +53,7 @@ FateNoLayer Fate.Stray = Unit {0}
 FateNoLayer (Fate.Unreadable k) = Unit {0}
 
 abbrev pub ReportsNone : Outcome → Type 0
-ReportsNone x = OutcomeHas (λ (f : HandOut). f.delivery.layer ≡ Layer.Absent) (λ (e : Ended). Unit {0}) FateNoLayer x
+ReportsNone x = OutcomeHas (λ (f : HandOut). f.delivery.layer ≡ None) (λ (e : Ended). Unit {0}) FateNoLayer x
 
 -- no still, and no mixed frame
 abbrev pub FateNoStill : Fate → Type 0
@@ -69,12 +66,12 @@ FateNoStill Fate.Stray = Unit {0}
 FateNoStill (Fate.Unreadable k) = Unit {0}
 
 abbrev pub EndedNotMixed : Ended → Type 0
-EndedNotMixed Nothing = Unit {0}
-EndedNotMixed (Frame w) = w ≡ Mixed → ⊥
+EndedNotMixed None = Unit {0}
+EndedNotMixed (Some w) = w ≡ Mixed → ⊥
 
 abbrev pub ClosesNoStill : Closing → Type 0
-ClosesNoStill (Closing.Refused k) = Unit {0}
-ClosesNoStill (Closing.Closed e) = EndedNotMixed e
+ClosesNoStill (Err k) = Unit {0}
+ClosesNoStill (Ok e) = EndedNotMixed e
 
 abbrev pub AnswersNoStill : Outcome → Type 0
 AnswersNoStill x = OutcomeHas (λ (f : HandOut). f.still ≡ false) EndedNotMixed FateNoStill x

@@ -1,14 +1,13 @@
 -- ANY OFFERS, from the opening and the offers alone: which are refused, and by which number (document 01, "Numbers", 50 to 53 and 55); how the others stand in the list; and what every
 -- offer answers and writes. Nothing of the session. `cs` is the list so far.
-use Rattle.std.specs.Prelude.{ℕ, zero, suc, ◌+◌, cond, not, List, [], ◌∷◌, ◌++◌, length, ltb, eqb}
+use Rattle.session_rules.specs.Options.{Report, Closing}
+use Rattle.std.specs.Prelude.{ℕ, zero, suc, ◌+◌, cond, not, List, [], ◌∷◌, ◌++◌, length, ltb, eqb, Err, Ok}
 use Rattle.rules.specs.Numbered.{Row, row, first_row}
 use Rattle.sizes.specs.declared.Opening.{Opening}
 use Rattle.sizes.specs.Sizes.{sizes_broken}
 use Rattle.session_rules.specs.Rule50.{transfer_most}
 use Rattle.session_rules.specs.Refusals.{taken_most}
 use Rattle.session_rules.specs.declared.Outcome.{Outcome}
-use Rattle.session_rules.specs.declared.Report.{Report}
-use Rattle.session_rules.specs.declared.Closing.{Closing}
 use Rattle.session_rules.specs.Call.{Call, transfer, lost, handed, close}
 use Rattle.session_rules.specs.Calls.{Offer, unless}
 use Rattle.books.specs.Rule.{is_open}
@@ -61,10 +60,10 @@ abbrev pub take_says : Opening → List Call → List ℕ → List ℕ → Outco
 take_says o cs buffer t = refused_or (refused_by o cs (Offer.take buffer t)) Outcome.Refused (outcome_of o cs t)
 
 abbrev pub lost_says : Opening → List Call → Report
-lost_says o cs = refused_or (refused_by o cs Offer.lost) Report.Refused Report.Noted
+lost_says o cs = refused_or (refused_by o cs Offer.lost) Err (Ok tt)
 
 abbrev pub close_says : Opening → List Call → Closing
-close_says o cs = refused_or (refused_by o cs Offer.close) Closing.Refused (Closing.Closed (ending_of o cs))
+close_says o cs = refused_or (refused_by o cs Offer.close) Err (Ok (ending_of o cs))
 
 abbrev pub take_leaves : Opening → List Call → List ℕ → List ℕ → List ℕ
 take_leaves o cs buffer t = refused_or (refused_by o cs (Offer.take buffer t)) (λ k. buffer) (written_of o cs t buffer)

@@ -1,20 +1,16 @@
 -- Document 01, "The frame rule, from the list alone", "Steps" and the accounts, with document 02, "Two" (cameras that send no EOF), "Ten" (stills) and "Twelve" (layers). List functions only:
 -- no state, and nothing of the session but the reading of one transfer. The framing byte is read in two places: whether EOF counts, and what a run that is not the last makes of its frame.
-use Rattle.std.specs.Prelude.{ℕ, ◌+◌, ◌-◌, ◌%◌, ◌^◌, Bool, true, false, cond, not, ◌&&◌, ◌||◌, List, [], ◌∷◌, ◌++◌, map, length, drop, ltb, eqb}
+use Rattle.session_rules.specs.Options.{Fault, Layer, Stamp}
+use Rattle.std.specs.Prelude.{ℕ, ◌+◌, ◌-◌, ◌%◌, ◌^◌, Bool, true, false, cond, not, ◌&&◌, ◌||◌, List, [], ◌∷◌, ◌++◌, map, length, drop, ltb, eqb, None, Some}
 use Rattle.std.specs.Bool.{beq}
 use Rattle.sizes.specs.declared.Opening.{Opening}
 use Rattle.sizes.specs.Framing.{by_eof}
 use Rattle.session_rules.specs.declared.Header.{Header}
-use Rattle.session_rules.specs.declared.Stamp.{Stamp}
-use Rattle.session_rules.specs.declared.Stamp.TheVariants.{Absent, At}
-use Rattle.session_rules.specs.declared.Layer.{Layer}
 use Rattle.session_rules.specs.declared.Reading.{Reading}
 use Rattle.session_rules.specs.declared.Reading.TheVariants.{Idle, Unreadable, Readable}
 use Rattle.session_rules.specs.Transfer.{reading_of}
 use Rattle.session_rules.specs.declared.Reason.{Reason}
 use Rattle.session_rules.specs.declared.Reason.TheVariants.{Gap, Error, Clock, Mixed, Long, Cut, Empty}
-use Rattle.session_rules.specs.declared.Fault.{Fault}
-use Rattle.session_rules.specs.declared.Fault.TheVariants.{Sound, Bad}
 use Rattle.session_rules.specs.declared.Delivery.{Delivery}
 use Rattle.session_rules.specs.declared.Account.{Account}
 use Rattle.session_rules.specs.Accounts.{accounts, account_count, place_of, account_for}
@@ -128,21 +124,21 @@ data_of (t ∷ ts) = t.load ++ data_of ts
 -- its first stamp
 infixr 30 ◌or_stamp◌
 abbrev pub ◌or_stamp◌ : Stamp → Stamp → Stamp
-Absent or_stamp s = s
-At x or_stamp s = At x
+None or_stamp s = s
+Some x or_stamp s = Some x
 
 abbrev pub first_stamp : List Seen → Stamp
-first_stamp [] = Absent
+first_stamp [] = None
 first_stamp (t ∷ ts) = t.header.stamp or_stamp first_stamp ts
 
 -- its layer: that of its last transfer that has one
 infixr 30 ◌then_layer◌
 abbrev pub ◌then_layer◌ : Layer → Layer → Layer
-x then_layer Layer.Absent = x
-x then_layer Layer.At y = Layer.At y
+x then_layer None = x
+x then_layer Some y = Some y
 
 abbrev pub last_layer : List Seen → Layer
-last_layer [] = Layer.Absent
+last_layer [] = None
 last_layer (t ∷ ts) = t.header.layer then_layer last_layer ts
 
 -- its still bit: that of its first transfer
@@ -154,18 +150,18 @@ still_of (t ∷ ts) = t.header.still
 -- after one of it that has no EOF, and before its mark.
 infixr 30 ◌or◌
 abbrev pub ◌or◌ : Fault → Fault → Fault
-Sound or y = y
-Bad w or y = Bad w
+None or y = y
+Some w or y = Some w
 
 abbrev pub when : Bool → Reason → Fault
-when true w = Bad w
-when false w = Sound
+when true w = Some w
+when false w = None
 
 -- clock: the frame's first stamp, and a stamp that differs from it
 abbrev pub differs : Stamp → Stamp → Bool
-differs s Absent = false
-differs Absent (At y) = false
-differs (At x) (At y) = not (eqb x y)
+differs s None = false
+differs None (Some y) = false
+differs (Some x) (Some y) = not (eqb x y)
 
 -- mixed: the frame's still bit, and one that differs from it
 abbrev pub mixes : Bool → Bool → Bool
@@ -180,7 +176,7 @@ abbrev pub gap_after : Opening → Seen → Bool
 gap_after o t = not (eof_of o t.header) && t.after
 
 abbrev pub fault_from : Opening → Stamp → Bool → ℕ → List Seen → Fault
-fault_from o s b n [] = Sound
+fault_from o s b n [] = None
 fault_from o s b n (t ∷ ts) =
     fault_at o s b n t.header (length t.load) or when (gap_after o t) Gap or fault_from o s b (n + length t.load) ts
 
@@ -203,11 +199,11 @@ handed_out true d = Entry.Still d
 handed_out false d = Entry.Delivered d
 
 abbrev pub verdict : Bool → Bool → Fault → Stamp → Layer → Bool → ℕ → Entry
-verdict way true (Bad w) s y b n = Entry.Dropped w n
-verdict way true Sound s y b n = cond (eqb n 0) (Entry.Dropped Empty n) (handed_out b (record { len = n; stamp = s; layer = y }))
+verdict way true (Some w) s y b n = Entry.Dropped w n
+verdict way true None s y b n = cond (eqb n 0) (Entry.Dropped Empty n) (handed_out b (record { len = n; stamp = s; layer = y }))
 verdict true false q s y b n = Entry.UnderWay n
-verdict false false (Bad w) s y b n = Entry.Dropped w n
-verdict false false Sound s y b n = Entry.Dropped Cut n
+verdict false false (Some w) s y b n = Entry.Dropped w n
+verdict false false None s y b n = Entry.Dropped Cut n
 
 abbrev pub settled : Bool → Bool → Fault → Stamp → Layer → Bool → List ℕ → Item
 settled way c q s y b d = record { entry = verdict way c q s y b (length d); load = d }
@@ -296,8 +292,8 @@ total m (e ∷ es) = m e + total m es
 -- STEPS, between consecutive delivered frames that have a stamp; a delivered frame with no stamp is untimed and passed over. A still is passed over, stamp or
 -- none: it ends no step, starts none and is not untimed.
 abbrev pub stamp_list : Stamp → List ℕ
-stamp_list Absent = []
-stamp_list (At x) = x ∷ []
+stamp_list None = []
+stamp_list (Some x) = x ∷ []
 
 abbrev pub stamps_of : Entry → List ℕ
 stamps_of (Entry.Delivered d) = stamp_list d.stamp
@@ -316,13 +312,13 @@ stamps (e ∷ es) = stamps_of e ++ stamps es
 
 -- the last of them, if there is one: from it the next step is taken
 abbrev pub last_stamped : List ℕ → Stamp
-last_stamped [] = Absent
-last_stamped (a ∷ []) = At a
+last_stamped [] = None
+last_stamped (a ∷ []) = Some a
 last_stamped (a ∷ b ∷ bs) = last_stamped (b ∷ bs)
 
 abbrev pub no_stamp : Stamp → ℕ
-no_stamp Absent = 1
-no_stamp (At x) = 0
+no_stamp None = 1
+no_stamp (Some x) = 0
 
 abbrev pub untimed : Entry → ℕ
 untimed (Entry.Delivered d) = no_stamp d.stamp

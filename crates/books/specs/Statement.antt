@@ -1,7 +1,8 @@
 -- THE STATEMENT: what a session is held to, sentence by sentence of the owner's demands and in their order. It is proved once, in proofs/Proved.
 -- That each call ends, on any bytes, is what the checker admits a function for; what it answers is the definition that its contract cites (session_rules/specs/Session). The rule that
 -- it is held to stands in Rule, Answer and Offers, from the opening and the list of calls alone.
-use Rattle.std.specs.Prelude.{ℕ, suc, ◌≤◌, ◌≡◌, Bool, true, false, not, List, [], ◌∷◌, ◌++◌, ◌↔◌, length, get_or, eqb}
+use Rattle.session_rules.specs.Options.{Ended}
+use Rattle.std.specs.Prelude.{ℕ, suc, ◌≤◌, ◌≡◌, Bool, true, false, not, List, [], ◌∷◌, ◌++◌, ◌↔◌, length, get_or, eqb, Err, Ok}
 use Rattle.rules.specs.Numbered.{or_else}
 use Rattle.sizes.specs.declared.Opening.{Opening}
 use Rattle.sizes.specs.declared.HeaderKind.TheVariants.{Old, Vp8}
@@ -11,13 +12,9 @@ use Rattle.session_rules.specs.declared.Header.{Header}
 use Rattle.session_rules.specs.declared.Reading.{Reading}
 use Rattle.session_rules.specs.declared.Answer.{Answer}
 use Rattle.session_rules.specs.declared.Delivery.{Delivery}
-use Rattle.session_rules.specs.declared.Ended.{Ended}
 use Rattle.session_rules.specs.declared.HandOut.{HandOut}
 use Rattle.session_rules.specs.declared.Session.{Session}
-use Rattle.session_rules.specs.declared.Start.{Start}
 use Rattle.session_rules.specs.declared.Outcome.{Outcome}
-use Rattle.session_rules.specs.declared.Report.{Report}
-use Rattle.session_rules.specs.declared.Closing.{Closing}
 use Rattle.session_rules.specs.Transfer.{reading_of, FirstBroken, NoneBroken}
 use Rattle.session_rules.specs.OldKind.{OldKind}
 use Rattle.session_rules.specs.Vp8Kind.{Vp8Kind}
@@ -51,8 +48,8 @@ pub record NoInputStops : Type 0 where
   pub session-kept : (s : Session) (x : Offer) (k : ℕ) → refusal s x ≡ suc k → next s x ≡ s
   pub bytes-kept : (s : Session) (buffer t : List ℕ) (k : ℕ) → refusal s (Offer.take buffer t) ≡ suc k → buffer_of s buffer t ≡ buffer
   -- An opening that is not refused gives a fresh session of admissible sizes; one that is refused gives a session that refuses everything by 50.
-  pub opened : (o : Opening) (room : ℕ) → (open_of o room).start ≡ Start.Open → ((open_of o room).session ≡ fresh o) × (sizes_broken o ≡ false)
-  pub refused-opening : (o : Opening) (room k : ℕ) → (open_of o room).start ≡ Start.Refused k → (xs : List Offer) (x : Offer) → refusal (after (open_of o room).session xs) x ≡ 50
+  pub opened : (o : Opening) (room : ℕ) → (open_of o room).start ≡ Ok tt → ((open_of o room).session ≡ fresh o) × (sizes_broken o ≡ false)
+  pub refused-opening : (o : Opening) (room k : ℕ) → (open_of o room).start ≡ Err k → (xs : List Offer) (x : Offer) → refusal (after (open_of o room).session xs) x ≡ 50
   -- From an opening on, when a call is refused and by which number follows from the opening and the offers alone. 50 is the opening's alone, so a session is never stuck:
   pub refusals : (o : Opening) (xs : List Offer) (x : Offer) → refusal (reached o xs) x ≡ refused_by o (list_of o xs) x
   pub broken : (o : Opening) (xs : List Offer) → record_broken (reached o xs) ≡ sizes_broken o
@@ -99,8 +96,8 @@ pub record NothingGoesMissing : Type 0 where
       → Says o (list_of o xs) (Call.transfer t) a
   pub handed-gains : (o : Opening) (xs : List Offer) (buffer t : List ℕ) (x : HandOut) → (take_of (reached o xs) (length buffer) t).outcome ≡ Outcome.Handed x
       → (d : List ℕ) × Gains o (list_of o xs) Call.handed (fate_items (handing x.still x.delivery) x.delivery.len d)
-  pub report-gains : (o : Opening) (xs : List Offer) → (lost_of (reached o xs)).report ≡ Report.Noted → Gains o (list_of o xs) Call.lost []
-  pub close-gains : (o : Opening) (xs : List Offer) (e : Ended) → (close_of (reached o xs)).closing ≡ Closing.Closed e
+  pub report-gains : (o : Opening) (xs : List Offer) → (lost_of (reached o xs)).report ≡ Ok tt → Gains o (list_of o xs) Call.lost []
+  pub close-gains : (o : Opening) (xs : List Offer) (e : Ended) → (close_of (reached o xs)).closing ≡ Ok e
       → (n : ℕ) × ((d : List ℕ) × Gains o (list_of o xs) Call.close (ended_items e n d))
   -- "Each account is what the rule gives from the opening and the list of calls alone": every count and every byte, lost, idle, ticks, backward and untimed; and all at once, in the order of print.
   pub accounts : (o : Opening) (xs : List Offer) → Right o (list_of o xs) (ledger_of (reached o xs))

@@ -2,15 +2,11 @@
 use crate::shown;
 use cases::{input, print};
 use recorder::Recorder;
-use session_rules::{Closing, Outcome, Report, Session, Start};
+use session_rules::{Outcome, Session};
 use sizes::{HeaderKind, Opening};
 
-// The session after a call, and whether the call was read.
-#[derive(Drop)]
-pub struct Next {
-    pub session: Session,
-    pub fine: bool,
-}
+// The session after a call; Err, as it was, where the call could not be read or is unknown.
+pub type Next = Result<Session, Session>;
 
 // Case T: what each call answers, with the buffer's hash, then the ledger, and a small buffer.
 pub fn plain() -> bool {
@@ -25,11 +21,9 @@ pub fn whole() -> bool {
 fn run(whole: bool) -> bool {
     let opening = opening();
     let mut buffer = [0u8; 70000];
-    let part = input::part(&mut buffer);
-    let n = part.count;
-    if !part.fine {
+    let Some(n) = input::part(&mut buffer) else {
         return false;
-    }
+    };
     let session = open(opening, &buffer[..n]);
     follow(session, &mut buffer[..n], whole)
 }
@@ -60,8 +54,8 @@ pub fn open(opening: Opening, buffer: &[u8]) -> Session {
     let opened = Recorder::open(opening, buffer);
     let start = opened.start;
     match start {
-        Start::Open => print::text(b"open\n"),
-        Start::Refused(number) => print::line(b"open refused", number as u64),
+        Ok(()) => print::text(b"open\n"),
+        Err(number) => print::line(b"open refused", number as u64),
     }
     opened.session
 }
@@ -77,23 +71,11 @@ pub fn follow(s: Session, buffer: &mut [u8], whole: bool) -> bool {
 // So many calls, each with the buffer's hash after it or without.
 pub fn all(s: Session, buffer: &mut [u8], transfer: &mut [u8], calls: u32, hashed: bool) -> Next {
     let mut session = s;
-    let mut left = calls;
-    while 0 < left {
-        let next = call(session, buffer, transfer);
-        session = next.session;
-        if !next.fine {
-            return Next {
-                session,
-                fine: false,
-            };
-        }
+    for _ in 0..calls {
+        session = call(session, buffer, transfer)?;
         after_call(buffer, hashed);
-        left -= 1;
     }
-    Next {
-        session,
-        fine: true,
-    }
+    Ok(session)
 }
 
 fn after_call(buffer: &[u8], hashed: bool) {
@@ -106,7 +88,10 @@ fn after_call(buffer: &[u8], hashed: bool) {
 
 // What is left at the end: the ledger, a small buffer, and the record where all is to be told.
 pub fn finish(last: Next, buffer: &[u8], whole: bool) -> bool {
-    let s = last.session;
+    let s = match last {
+        Ok(s) => s,
+        Err(s) => s,
+    };
     shown::ledger(session::ledger(s));
     if buffer.len() <= 64 {
         print::hex(b"buffer", buffer);
@@ -114,47 +99,30 @@ pub fn finish(last: Next, buffer: &[u8], whole: bool) -> bool {
     if whole {
         shown::record(s);
     }
-    last.fine
+    last.is_ok()
 }
 
 fn call(s: Session, buffer: &mut [u8], transfer: &mut [u8]) -> Next {
-    let kind = input::kind();
-    if !kind.fine {
-        print::text(b"case cut short\n");
-        return Next {
-            session: s,
-            fine: false,
-        };
-    }
-    let value = kind.value;
-    match value {
-        0 => take(s, buffer, transfer),
-        1 => lost(s),
-        2 => close(s),
-        _ => {
+    match input::kind() {
+        Some(0) => take(s, buffer, transfer),
+        Some(1) => Ok(lost(s)),
+        Some(2) => Ok(close(s)),
+        Some(_) => {
             print::text(b"unknown call\n");
-            Next {
-                session: s,
-                fine: false,
-            }
+            Err(s)
+        }
+        None => {
+            print::text(b"case cut short\n");
+            Err(s)
         }
     }
 }
 
 fn take(s: Session, buffer: &mut [u8], transfer: &mut [u8]) -> Next {
-    let part = input::part(transfer);
-    let n = part.count;
-    if !part.fine {
-        return Next {
-            session: s,
-            fine: false,
-        };
-    }
-    let session = offer(s, buffer, &transfer[..n]);
-    Next {
-        session,
-        fine: true,
-    }
+    let Some(n) = input::part(transfer) else {
+        return Err(s);
+    };
+    Ok(offer(s, buffer, &transfer[..n]))
 }
 
 // The session after a transfer, and what it answers.
@@ -169,33 +137,27 @@ pub fn offer(s: Session, buffer: &mut [u8], transfer: &[u8]) -> Session {
     taken.session
 }
 
-fn lost(s: Session) -> Next {
+fn lost(s: Session) -> Session {
     let reported = Recorder { session: s }.lost();
     let report = reported.report;
     let session = reported.session;
     match report {
-        Report::Refused(number) => shown::refused(number),
-        Report::Noted => print::text(b"lost noted"),
+        Err(number) => shown::refused(number),
+        Ok(()) => print::text(b"lost noted"),
     }
-    Next {
-        session,
-        fine: true,
-    }
+    session
 }
 
-fn close(s: Session) -> Next {
+fn close(s: Session) -> Session {
     let closed = Recorder { session: s }.close();
     let closing = closed.closing;
     let session = closed.session;
     match closing {
-        Closing::Refused(number) => shown::refused(number),
-        Closing::Closed(e) => {
+        Err(number) => shown::refused(number),
+        Ok(e) => {
             print::text(b"closed");
             shown::ended(e);
         }
     }
-    Next {
-        session,
-        fine: true,
-    }
+    session
 }

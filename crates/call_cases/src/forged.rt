@@ -8,8 +8,7 @@ use crate::{calls, shown};
 use cases::{input, print};
 use recorder::Recorder;
 use session_rules::{
-    Closing, Fault, Layer, Ledger, Numbers, Outcome, Phase, Reason, Report, Rest, Run, Session,
-    Stamp, Track,
+    Fault, Layer, Ledger, Numbers, Outcome, Phase, Reason, Rest, Run, Session, Stamp, Track,
 };
 use sizes::Opening;
 
@@ -17,11 +16,9 @@ use sizes::Opening;
 pub fn whole() -> bool {
     let s = record();
     let mut buffer = [0u8; 70000];
-    let part = input::part(&mut buffer);
-    let n = part.count;
-    if !part.fine {
+    let Some(n) = input::part(&mut buffer) else {
         return false;
-    }
+    };
     calls::follow(s, &mut buffer[..n], true)
 }
 
@@ -29,17 +26,13 @@ pub fn whole() -> bool {
 pub fn plain() -> bool {
     let s = record();
     let mut buffer = [0u8; 70000];
-    let part = input::part(&mut buffer);
-    let n = part.count;
-    if !part.fine {
+    let Some(n) = input::part(&mut buffer) else {
         return false;
-    }
+    };
     let mut transfer = [0u8; 65600];
-    let second = input::part(&mut transfer);
-    let m = second.count;
-    if !second.fine {
+    let Some(m) = input::part(&mut transfer) else {
         return false;
-    }
+    };
     take(s, &mut buffer[..n], &transfer[..m]);
     lost(s);
     close(s);
@@ -81,7 +74,7 @@ fn front() -> Rest {
         closed,
         taken,
         track: Track { phase, gap },
-        last: Stamp::Absent,
+        last: None,
     }
 }
 
@@ -127,14 +120,14 @@ fn under() -> Run {
 
 fn fault(kind: u8) -> Fault {
     match kind {
-        1 => Fault::Bad(Reason::Gap),
-        2 => Fault::Bad(Reason::Error),
-        3 => Fault::Bad(Reason::Clock),
-        4 => Fault::Bad(Reason::Long),
-        5 => Fault::Bad(Reason::Cut),
-        6 => Fault::Bad(Reason::Empty),
-        9 => Fault::Bad(Reason::Mixed),
-        _ => Fault::Sound,
+        1 => Some(Reason::Gap),
+        2 => Some(Reason::Error),
+        3 => Some(Reason::Clock),
+        4 => Some(Reason::Long),
+        5 => Some(Reason::Cut),
+        6 => Some(Reason::Empty),
+        9 => Some(Reason::Mixed),
+        _ => None,
     }
 }
 
@@ -142,21 +135,19 @@ fn fault(kind: u8) -> Fault {
 pub fn stamp() -> Stamp {
     let there = input::flag();
     let n = input::word();
-    if there { Stamp::At(n) } else { Stamp::Absent }
+    if there { Some(n) } else { None }
 }
 
 fn layer() -> Layer {
     let there = input::flag();
     let n = input::half();
-    if there { Layer::At(n) } else { Layer::Absent }
+    if there { Some(n) } else { None }
 }
 
 fn numbers() -> Numbers {
     let mut numbers = [0u64; Ledger::NUMBERS];
-    let mut i: usize = 0;
-    while i < Ledger::NUMBERS {
-        numbers[i] = input::long();
-        i += 1;
+    for number in numbers.iter_mut() {
+        *number = input::long();
     }
     numbers
 }
@@ -179,8 +170,8 @@ fn lost(s: Session) {
     let reported = Recorder { session: s }.lost();
     let report = reported.report;
     match report {
-        Report::Refused(number) => refused(b"lost", number),
-        Report::Noted => print::text(b"lost taken"),
+        Err(number) => refused(b"lost", number),
+        Ok(()) => print::text(b"lost taken"),
     }
     print::end();
 }
@@ -189,8 +180,8 @@ fn close(s: Session) {
     let closed = Recorder { session: s }.close();
     let closing = closed.closing;
     match closing {
-        Closing::Refused(number) => refused(b"close", number),
-        Closing::Closed(_) => print::text(b"close taken"),
+        Err(number) => refused(b"close", number),
+        Ok(_) => print::text(b"close taken"),
     }
     print::end();
 }

@@ -2,66 +2,43 @@
 // hash, its ledger or why it is none, and the rest of the session.
 use crate::{forged, shown};
 use cases::{input, print};
-use rules::Verdict;
-use session_rules::{Closing, Ledger, Outcome, Report, Rest, Session};
-
-// The rest of the session after a call, and whether the call was read.
-#[derive(Drop)]
-struct Left {
-    rest: Rest,
-    fine: bool,
-}
+use rules::Refused;
+use session_rules::{Ledger, Outcome, Rest, Session};
 
 pub fn run() -> bool {
     let mut bytes = [0u8; 400];
-    let part = input::part(&mut bytes);
-    let k = part.count;
-    if !part.fine {
+    let Some(k) = input::part(&mut bytes) else {
         return false;
-    }
+    };
     let rest = forged::rest();
     let mut buffer = [0u8; 70000];
-    let second = input::part(&mut buffer);
-    let n = second.count;
-    if !second.fine {
+    let Some(n) = input::part(&mut buffer) else {
         return false;
-    }
+    };
     follow(&mut bytes[..k], rest, &mut buffer[..n])
 }
 
 fn follow(r: &mut [u8], rest: Rest, buffer: &mut [u8]) -> bool {
-    let left = call(r, rest, buffer);
-    let fine = left.fine;
-    if fine {
-        print::hash(buffer);
-        let next = left.rest;
-        told(r, next);
-    }
-    fine
+    let Some(next) = call(r, rest, buffer) else {
+        return false;
+    };
+    print::hash(buffer);
+    told(r, next);
+    true
 }
 
-fn call(r: &mut [u8], rest: Rest, buffer: &mut [u8]) -> Left {
-    let kind = input::byte();
-    match kind {
+// The rest of the session after a call, if the call was read.
+fn call(r: &mut [u8], rest: Rest, buffer: &mut [u8]) -> Option<Rest> {
+    match input::byte() {
         0 => take(r, rest, buffer),
-        1 => Left {
-            rest: lost(r, rest),
-            fine: true,
-        },
-        _ => Left {
-            rest: close(r, rest),
-            fine: true,
-        },
+        1 => Some(lost(r, rest)),
+        _ => Some(close(r, rest)),
     }
 }
 
-fn take(r: &mut [u8], rest: Rest, buffer: &mut [u8]) -> Left {
+fn take(r: &mut [u8], rest: Rest, buffer: &mut [u8]) -> Option<Rest> {
     let mut transfer = [0u8; 65600];
-    let part = input::part(&mut transfer);
-    let m = part.count;
-    if !part.fine {
-        return Left { rest, fine: false };
-    }
+    let m = input::part(&mut transfer)?;
     let taken = ledger_record::take(r, rest, buffer, &transfer[..m]);
     let outcome = taken.outcome;
     match outcome {
@@ -69,19 +46,15 @@ fn take(r: &mut [u8], rest: Rest, buffer: &mut [u8]) -> Left {
         Outcome::Taken(a) => shown::answer(a),
         Outcome::Handed(x) => shown::handed(x),
     }
-    let next = taken.rest;
-    Left {
-        rest: next,
-        fine: true,
-    }
+    Some(taken.rest)
 }
 
 fn lost(r: &mut [u8], rest: Rest) -> Rest {
     let reported = ledger_record::lost(r, rest);
     let report = reported.report;
     match report {
-        Report::Refused(number) => shown::refused(number),
-        Report::Noted => print::text(b"lost noted"),
+        Err(number) => shown::refused(number),
+        Ok(()) => print::text(b"lost noted"),
     }
     reported.rest
 }
@@ -90,8 +63,8 @@ fn close(r: &mut [u8], rest: Rest) -> Rest {
     let closed = ledger_record::close(r, rest);
     let closing = closed.closing;
     match closing {
-        Closing::Refused(number) => shown::refused(number),
-        Closing::Closed(e) => {
+        Err(number) => shown::refused(number),
+        Ok(e) => {
             print::text(b"closed");
             shown::ended(e);
         }
@@ -106,11 +79,11 @@ fn told(r: &[u8], rest: Rest) {
     let numbers = held.numbers;
     let verdict = held.verdict;
     match verdict {
-        Verdict::Accepted => {
+        Ok(()) => {
             let last = rest.last;
             shown::ledger(Ledger { numbers, last });
         }
-        Verdict::Refused { number, .. } => print::line(b"ledger refused", number as u64),
+        Err(Refused { number, .. }) => print::line(b"ledger refused", number as u64),
     }
     shown::record(Session { rest, numbers });
 }

@@ -3,7 +3,6 @@
 ghost use Rattle.std.specs.Prelude.{◌≡◌, length};
 
 use crate::calls;
-use crate::calls::Next;
 use cases::{input, print};
 use sizes::Opening;
 
@@ -47,18 +46,9 @@ fn cut(opening: Opening, room: &mut [u8], n: u32, first: u32, last: u32) -> bool
 fn follow(opening: Opening, room: &mut [u8], first: u32, last: u32) -> bool {
     let session = calls::open(opening, room);
     let mut transfer = [0u8; 65600];
-    let early = calls::all(session, room, &mut transfer, first, false);
-    let s = early.session;
-    if !early.fine {
-        return calls::finish(
-            Next {
-                session: s,
-                fine: false,
-            },
-            room,
-            true,
-        );
-    }
-    let late = calls::all(s, room, &mut transfer, last, true);
+    let late = match calls::all(session, room, &mut transfer, first, false) {
+        Ok(s) => calls::all(s, room, &mut transfer, last, true),
+        Err(s) => Err(s),
+    };
     calls::finish(late, room, true)
 }

@@ -1,8 +1,8 @@
 // What a call answers, and a session's record, in words.
 use cases::print;
 use session_rules::{
-    Answer, Delivery, Ended, Fate, Fault, HandOut, Layer, Ledger, Numbers, Phase, Reason, Run,
-    Session, Stamp,
+    Answer, Delivery, Ended, Fate, HandOut, Layer, Ledger, Numbers, Phase, Reason, Run, Session,
+    Stamp,
 };
 use sizes::HeaderKind;
 
@@ -33,8 +33,8 @@ pub fn handed(x: HandOut) {
 
 pub fn ended(e: Ended) {
     match e {
-        Ended::Nothing => print::text(b" none"),
-        Ended::Frame(why) => reason(why),
+        None => print::text(b" none"),
+        Some(why) => reason(why),
     }
 }
 
@@ -84,15 +84,15 @@ fn delivery(d: Delivery) {
 
 fn stamp(s: Stamp) {
     match s {
-        Stamp::Absent => print::text(b" -"),
-        Stamp::At(x) => print::word(x),
+        None => print::text(b" -"),
+        Some(x) => print::word(x),
     }
 }
 
 fn layer(l: Layer) {
     match l {
-        Layer::Absent => print::text(b" -"),
-        Layer::At(x) => print::half(x),
+        None => print::text(b" -"),
+        Some(x) => print::half(x),
     }
 }
 
@@ -148,8 +148,8 @@ fn under(r: Run) {
     flag(r.still);
     let f = r.fault;
     match f {
-        Fault::Sound => print::text(b" sound"),
-        Fault::Bad(why) => reason(why),
+        None => print::text(b" sound"),
+        Some(why) => reason(why),
     }
     print::field(r.bytes);
     print::field(r.fill as u64);

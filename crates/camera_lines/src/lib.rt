@@ -1,4 +1,5 @@
-// What is printed of one descriptor of a configuration, for a person.
+// What is printed of one descriptor of a configuration, for a person. Descriptors of one shape have a function each, since each has a text of its own; what they
+// share is `templates::render`, `sources`, `type_line` and `intervals`.
 #![tactic(auto)]
 
 ghost use Rattle.std.specs.Prelude.{◌≡◌, ◌+◌, ◌≤◌, ◌<◌, length};

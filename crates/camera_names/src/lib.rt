@@ -38,7 +38,7 @@ not named by the class\n\
     name_tables::line(buf, at, names, k, &[])
 }
 
-// The place of a terminal type in the class's list; its end where it is not there.
+// The place of a terminal type in the class's list; its end where it is not there. (No Option: the line at the end is that of an unknown type.)
 fn terminal_place(number: u16) -> usize
     ensures { result ≡ terminal_place number }
 {
@@ -46,12 +46,10 @@ fn terminal_place(number: u16) -> usize
         0x0100, 0x0101, 0x0200, 0x0201, 0x0202, 0x0300, 0x0301, 0x0302, 0x0400, 0x0401, 0x0402,
         0x0403,
     ];
-    let mut i: usize = 0;
-    while i < TYPES {
+    for i in 0..TYPES {
         if types[i] == number {
             return i;
         }
-        i += 1;
     }
     TYPES
 }
@@ -91,7 +89,7 @@ reserved (D23)\n\
     controls(buf, at, s, o, k, n, names)
 }
 
-// Inner: the same of a processing unit.
+// Inner: the same of a processing unit. (A function for each list: a text lies on the stack where it is used.)
 pub fn processing(buf: &mut [u8], at: usize, s: &[u8], o: usize, k: usize, n: u8) -> usize
     requires { (o ≤ length s.now) × (k < 256) × (at + 1536 ≤ length buf.old) }
     ensures put { Put buf.old at (controls_text s.now o k n processing_names 24 0) result buf.new }
@@ -141,10 +139,8 @@ fn controls(
     ensures upper_bound { result ≤ start + 1536 }
 {
     let mut at = start;
-    let mut i: usize = 0;
-    while i < BITS {
+    for i in 0..BITS {
         at = control(buf, at, names, i, is_set(s, o, k, n, i));
-        i += 1;
     }
     at
 }

@@ -1,4 +1,5 @@
 -- What holds of each of the four settings, or of the six requests, holds of all; what is none of their numbers.
+use Rattle.std.specs.Prelude.{None}
 use Prim.Native.Nat.{ℕ}
 use mathlib.Core.Path.{◌≡◌, refl, sym, ap, ◌∙◌}
 use mathlib.Core.Bool.{cond}
@@ -8,8 +9,6 @@ use Rattle.camera_settings.specs.declared.Setting.{Setting}
 use Rattle.camera_settings.specs.declared.Setting.TheVariants.{Brightness, Contrast, Hue, Saturation}
 use Rattle.camera_settings.specs.declared.Request.{Request}
 use Rattle.camera_settings.specs.declared.Request.TheVariants.{GetCur, GetMin, GetMax, GetRes, GetDef, SetCur}
-use Rattle.camera_settings.specs.declared.SettingFound.TheVariants as setting
-use Rattle.camera_settings.specs.declared.RequestFound.TheVariants as request
 
 -- what holds of the four, or of the six, holds of all
 pub each-setting : (P : Setting → Type 0) → P Brightness → P Contrast → P Hue → P Saturation → (s : Setting) → P s
@@ -26,10 +25,10 @@ each-request P a b c d e f GetRes = d
 each-request P a b c d e f GetDef = e
 each-request P a b c d e f SetCur = f
 
-pub no-setting : (n : ℕ) → (n ≡ 0x02 → ⊥) → (n ≡ 0x03 → ⊥) → (n ≡ 0x06 → ⊥) → (n ≡ 0x07 → ⊥) → SettingIs n setting.None
+pub no-setting : (n : ℕ) → (n ≡ 0x02 → ⊥) → (n ≡ 0x03 → ⊥) → (n ≡ 0x06 → ⊥) → (n ≡ 0x07 → ⊥) → SettingIs n None
 no-setting n a b c d = no-selector (each-setting (λ s. n ≡ selector_of s → ⊥) a b c d)
 
-pub no-request : (n : ℕ) → (n ≡ 0x81 → ⊥) → (n ≡ 0x82 → ⊥) → (n ≡ 0x83 → ⊥) → (n ≡ 0x84 → ⊥) → (n ≡ 0x87 → ⊥) → (n ≡ 0x01 → ⊥) → RequestIs n request.None
+pub no-request : (n : ℕ) → (n ≡ 0x81 → ⊥) → (n ≡ 0x82 → ⊥) → (n ≡ 0x83 → ⊥) → (n ≡ 0x84 → ⊥) → (n ≡ 0x87 → ⊥) → (n ≡ 0x01 → ⊥) → RequestIs n None
 no-request n a b c d e f = no_code (each-request (λ q. n ≡ code_of q → ⊥) a b c d e f)
 
 -- a setting and a request again, from their numbers

@@ -1,13 +1,9 @@
 -- Source document 000, and document 02 (request Eleven): the numbers of the four settings and the six requests, a line for each.
-use Rattle.std.specs.Prelude.{ℕ, ◌≡◌, Bool, true, false}
+use Rattle.std.specs.Prelude.{ℕ, ◌≡◌, Bool, true, false, None, Option, Some}
 use Rattle.camera_settings.specs.declared.Setting.{Setting}
 use Rattle.camera_settings.specs.declared.Setting.TheVariants.{Brightness, Contrast, Hue, Saturation}
 use Rattle.camera_settings.specs.declared.Request.{Request}
 use Rattle.camera_settings.specs.declared.Request.TheVariants.{GetCur, GetMin, GetMax, GetRes, GetDef, SetCur}
-use Rattle.camera_settings.specs.declared.SettingFound.{SettingFound}
-use Rattle.camera_settings.specs.declared.SettingFound.TheVariants as setting
-use Rattle.camera_settings.specs.declared.RequestFound.{RequestFound}
-use Rattle.camera_settings.specs.declared.RequestFound.TheVariants as request
 
 -- A.9.5, processing unit control selectors
 abbrev pub selector_of : Setting → ℕ
@@ -49,10 +45,10 @@ type_of GetDef = 0xA1
 type_of SetCur = 0x21
 
 -- the setting that has a selector, and the request that has a code: none where no line above has it
-pub data SettingIs (n : ℕ) : SettingFound → Type 0 where
-  has-selector : (s : Setting) → n ≡ selector_of s → SettingIs n (setting.Is s)
-  no-selector : ((s : Setting) → n ≡ selector_of s → ⊥) → SettingIs n setting.None
+pub data SettingIs (n : ℕ) : Option Setting → Type 0 where
+  has-selector : (s : Setting) → n ≡ selector_of s → SettingIs n (Some s)
+  no-selector : ((s : Setting) → n ≡ selector_of s → ⊥) → SettingIs n None
 
-pub data RequestIs (n : ℕ) : RequestFound → Type 0 where
-  has_code : (q : Request) → n ≡ code_of q → RequestIs n (request.Is q)
-  no_code : ((q : Request) → n ≡ code_of q → ⊥) → RequestIs n request.None
+pub data RequestIs (n : ℕ) : Option Request → Type 0 where
+  has_code : (q : Request) → n ≡ code_of q → RequestIs n (Some q)
+  no_code : ((q : Request) → n ≡ code_of q → ⊥) → RequestIs n None

@@ -50,20 +50,6 @@ pub enum Request {
     SetCur,
 }
 
-// The setting of a selector, if it is one's.
-#[derive(Drop)]
-pub enum SettingFound {
-    Is(Setting),
-    None,
-}
-
-// The request of a code, if it is one's.
-#[derive(Drop)]
-pub enum RequestFound {
-    Is(Request),
-    None,
-}
-
 // The control selector.
 pub fn selector_of(setting: Setting) -> u8
     ensures { result ≡ selector_of setting }
@@ -92,12 +78,7 @@ pub fn bit_of(setting: Setting) -> u8
 pub fn is_signed(setting: Setting) -> bool
     ensures { result ≡ is_signed setting }
 {
-    match setting {
-        Setting::Brightness => true,
-        Setting::Contrast => false,
-        Setting::Hue => true,
-        Setting::Saturation => false,
-    }
+    matches!(setting, Setting::Brightness | Setting::Hue)
 }
 
 // The request's code, bRequest.
@@ -114,7 +95,7 @@ pub fn code_of(request: Request) -> u8
     }
 }
 
-// The request's type, bmRequestType: a class request to an interface, from the camera or to it.
+// The request's type, bmRequestType: a class request to an interface, from the camera or to it. (A table of the class beside that of codes: two columns, no twins.)
 pub fn type_of(request: Request) -> u8
     ensures { result ≡ type_of request }
 {
@@ -129,29 +110,29 @@ pub fn type_of(request: Request) -> u8
 }
 
 // The setting that has a selector.
-pub fn setting_of(selector: u8) -> SettingFound
+pub fn setting_of(selector: u8) -> Option<Setting>
     ensures { SettingIs selector result }
 {
     match selector {
-        BRIGHTNESS => SettingFound::Is(Setting::Brightness),
-        CONTRAST => SettingFound::Is(Setting::Contrast),
-        HUE => SettingFound::Is(Setting::Hue),
-        SATURATION => SettingFound::Is(Setting::Saturation),
-        _ => SettingFound::None,
+        BRIGHTNESS => Some(Setting::Brightness),
+        CONTRAST => Some(Setting::Contrast),
+        HUE => Some(Setting::Hue),
+        SATURATION => Some(Setting::Saturation),
+        _ => None,
     }
 }
 
 // The request that has a code.
-pub fn request_of(code: u8) -> RequestFound
+pub fn request_of(code: u8) -> Option<Request>
     ensures { RequestIs code result }
 {
     match code {
-        GET_CUR => RequestFound::Is(Request::GetCur),
-        GET_MIN => RequestFound::Is(Request::GetMin),
-        GET_MAX => RequestFound::Is(Request::GetMax),
-        GET_RES => RequestFound::Is(Request::GetRes),
-        GET_DEF => RequestFound::Is(Request::GetDef),
-        SET_CUR => RequestFound::Is(Request::SetCur),
-        _ => RequestFound::None,
+        GET_CUR => Some(Request::GetCur),
+        GET_MIN => Some(Request::GetMin),
+        GET_MAX => Some(Request::GetMax),
+        GET_RES => Some(Request::GetRes),
+        GET_DEF => Some(Request::GetDef),
+        SET_CUR => Some(Request::SetCur),
+        _ => None,
     }
 }

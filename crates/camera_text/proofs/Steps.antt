@@ -1,4 +1,5 @@
 -- The texts of the steps, one after the other, are the page: what is left behind a step is what its next place and block say.
+use Rattle.rules.specs.Verdicts.{Verdict}
 use mathlib.Core.Path.{◌≡◌, refl}
 use mathlib.Core.Bool.{Bool}
 use mathlib.Core.List.{List, ◌++◌}
@@ -9,7 +10,6 @@ use Rattle.rules.specs.IfElse.{if_else}
 use Rattle.text.specs.Put.{Put}
 use Rattle.text.proofs.Puts.{then}
 use Rattle.text.proofs.Texts.{none}
-use Rattle.rules.specs.declared.Verdict.{Verdict}
 use Rattle.device_file.specs.Place.{is_device, place_in}
 use Rattle.device_file.specs.declared.Place.{Place}
 use Rattle.camera_lines.specs.Lines.{text_at}

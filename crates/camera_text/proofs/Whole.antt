@@ -1,4 +1,5 @@
 -- As many steps as the configuration has bytes come to its end: more of them print nothing more. And each promise leaves one answer.
+use Rattle.rules.specs.Verdicts.{Verdict}
 use mathlib.Core.Path.{◌≡◌, refl, ap}
 use mathlib.Core.Bool.{Bool, true, false}
 use mathlib.Core.List.{List, [], ◌++◌}
@@ -8,7 +9,6 @@ use borrow.Author.Tests.{lt-ltb, le-ltb, ltb-true, ltb-false}
 use lib.Dec.{ltb}
 use lib.ListN.{length}
 use Rattle.rules.specs.IfElse.{if_else}
-use Rattle.rules.specs.declared.Verdict.{Verdict}
 use Rattle.text.specs.Written.{answer_of, buffer_of}
 use Rattle.text.proofs.Whole.{text-unique}
 use Rattle.configuration_rules.specs.Descriptors.{after_at}

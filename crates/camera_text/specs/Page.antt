@@ -1,8 +1,7 @@
 -- WHAT IS PRINTED OF A CAMERA: what stands in front; then, of a configuration that is accepted, the text of each descriptor, in order of appearance.
-use Rattle.std.specs.Prelude.{ℕ, zero, suc, Bool, true, false, List, [], ◌++◌, eqb, ltb, length, take, drop}
+use Rattle.rules.specs.Verdicts.{Verdict}
+use Rattle.std.specs.Prelude.{ℕ, zero, suc, Bool, true, false, List, [], ◌++◌, eqb, ltb, length, take, drop, Err, Ok}
 use Rattle.rules.specs.IfElse.{if_else}
-use Rattle.rules.specs.declared.Verdict.{Verdict}
-use Rattle.rules.specs.declared.Verdict.TheVariants.{Accepted, Refused}
 use Rattle.text.specs.Text.{bytes}
 use Rattle.templates.specs.Template.{rendered}
 use Rattle.device_file.specs.Place.{is_device, place_in}
@@ -24,8 +23,8 @@ behind_text n = if_else (eqb n 0) [] (bytes "further configurations follow, and 
 
 -- a refusal: the rule's number and the place in the configuration; below, what is wrong
 abbrev pub refusal_text : Verdict → List ℕ
-refusal_text Accepted = []
-refusal_text (Refused k o) = refused_text k o
+refusal_text (Ok _) = []
+refusal_text (Err r) = refused_text r.number r.offset
 
 abbrev pub head_text : List ℕ → Verdict → List ℕ
 head_text file v = device_text file (is_device file) ++ (behind_text (place_in file).behind ++ refusal_text v)
@@ -51,8 +50,8 @@ configuration_in file = take (place_in file).length (drop (place_in file).offset
 
 -- a configuration has no more descriptors than bytes
 abbrev pub body_by : Verdict → List ℕ → List ℕ
-body_by Accepted s = body_from (length s) s 0 Other
-body_by (Refused k o) s = []
+body_by (Ok _) s = body_from (length s) s 0 Other
+body_by (Err r) s = []
 
 -- THE PAGE, of a file and of the verdict on its configuration
 abbrev pub page_text : List ℕ → Verdict → List ℕ

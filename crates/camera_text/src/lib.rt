@@ -10,7 +10,7 @@ ghost use Rattle.camera_lines.specs.Parts.{room};
 ghost use Rattle.camera_text.specs.Page.{device_text, behind_text, refusal_text, head_text, text_from, next_from, part_from};
 
 use camera_lines::Part;
-use rules::Verdict;
+use rules::{Refused, Verdict};
 
 // How many bytes are enough for each of the texts.
 pub const ROOM: usize = camera_lines::ROOM;
@@ -113,8 +113,8 @@ fn refusal(buf: &mut [u8], at: usize, verdict: Verdict) -> usize
     ensures { Put buf.old at (refusal_text verdict) result buf.new }
 {
     match verdict {
-        Verdict::Accepted => at,
-        Verdict::Refused { number, offset } => refused(buf, at, number, offset),
+        Ok(()) => at,
+        Err(Refused { number, offset }) => refused(buf, at, number, offset),
     }
 }
 

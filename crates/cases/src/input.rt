@@ -1,36 +1,20 @@
-// Bytes, numbers and parts of standard input. Bytes that are missing at its end count as zero, and the next part is not fine.
+// Bytes, numbers and parts of standard input. Bytes that are missing at its end count as zero, and the next part is none.
+ghost use Rattle.std.specs.Prelude.{IfSome};
 ghost use Rattle.io.specs.Counts.{IsPrefixLen};
 
 use crate::print;
 
 const STDIN_FILENO: i32 = 0;
 
-#[derive(Drop)]
-pub struct OneByte {
-    pub fine: bool,
-    pub value: u8,
-}
-
-// Whether the whole part was read, and how many of its bytes stand at the start of the buffer.
-#[derive(Drop)]
-pub struct Loaded {
-    pub fine: bool,
-    pub count: usize,
-}
-
 // The next byte, if there is one.
-pub fn kind() -> OneByte {
+pub fn kind() -> Option<u8> {
     let mut b = [0u8; 1];
     let n = io::read_full(STDIN_FILENO, &mut b);
-    OneByte {
-        fine: n == 1,
-        value: b[0],
-    }
+    if n == 1 { Some(b[0]) } else { None }
 }
 
 pub fn byte() -> u8 {
-    let k = kind();
-    k.value
+    kind().unwrap_or(0)
 }
 
 pub fn flag() -> bool {
@@ -55,29 +39,22 @@ pub fn long() -> u64 {
     (low as u64) + (high as u64) * 4294967296
 }
 
-// The next part, into the lent buffer.
-pub fn part(room: &mut [u8]) -> Loaded
-    ensures { IsPrefixLen result.count room.new }
+// The next part, into the lent buffer: how many bytes it has there, if the whole part was read.
+pub fn part(room: &mut [u8]) -> Option<usize>
+    ensures { IfSome result (λ n. IsPrefixLen n room.new) }
 {
     let asked = word();
     let n = io::count(asked as isize, room);
     if n != asked as usize {
         print::text(b"part too long\n");
-        return Loaded {
-            fine: false,
-            count: 0,
-        };
+        return None;
     }
     let got = io::read_full(STDIN_FILENO, &mut room[..n]);
     if got != n {
         print::text(b"case cut short\n");
-        return Loaded {
-            fine: false,
-            count: 0,
-        };
+        return None;
     }
-    let count = io::count(asked as isize, room);
-    Loaded { fine: true, count }
+    Some(io::count(asked as isize, room))
 }
 
 // So many of the room's bytes, and never more than it has.

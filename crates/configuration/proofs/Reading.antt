@@ -9,9 +9,9 @@ use Rattle.rules.proofs.Places.{Seeking, found_here as found_at, not-here as not
 use lib.ListN.{length, take, drop, length-take, length-drop}
 use native.Mathlib.Omega.{arith}
 use Rattle.rules.specs.IfElse.{if_else}
-use Rattle.rules.specs.Verdicts.{◌and_then◌}
-use Rattle.rules.specs.declared.Verdict.{Verdict}
-use Rattle.rules.specs.declared.Verdict.TheVariants.{Accepted, Refused}
+use Rattle.std.specs.Prelude.{Ok, Err}
+use Rattle.rules.specs.declared.Refused.{Refused}
+use Rattle.rules.specs.Verdicts.{◌and_then◌, Verdict, accept, refuse}
 use Rattle.entities.specs.declared.Table.{Table}
 use Rattle.control.specs.Answer.{ControlIs}
 use Rattle.control.specs.declared.Control.{Control}
@@ -53,14 +53,14 @@ module _ (s : List ℕ) (o : ℕ) (h : o < length s) (b : Block) (p : b ≡ bloc
     same_block : v ≡ (streaming_of t (block_of s o)).verdict
     same_block = rw bytes-are at e
 
-    pub own-accepted : v ≡ Accepted → Accepted ≡ block_verdict s t o
+    pub own-accepted : v ≡ accept → accept ≡ block_verdict s t o
     unfolding block_verdict
     own-accepted q = rw (← same_block, q)
 
-    pub own_in : (k x : ℕ) → v ≡ Refused k x → b.offset + x ≤ length s
+    pub own_in : (k x : ℕ) → v ≡ refuse k x → b.offset + x ≤ length s
     own_in k x q = omega (arith, end-in, length-is, streaming-within t (block_of s o) k x (sym same_block ∙ q))
 
-    pub own-refused : (k x : ℕ) → v ≡ Refused k x → Refused k (b.offset + x) ≡ block_verdict s t o
+    pub own-refused : (k x : ℕ) → v ≡ refuse k x → refuse k (b.offset + x) ≡ block_verdict s t o
     unfolding block_verdict
     own-refused k x q = rw (← same_block, q, start_is)
 
@@ -77,7 +77,7 @@ module _ (s : List ℕ) (t : Table) where
       rw e (record { within = n.within; here = n.here; same = rw n.same })
 
   module _ (at : ℕ) (g : Judging s t at) where
-    pub judging-ends : length s ≤ at → Accepted ≡ streams_by s t (listed_in s)
+    pub judging-ends : length s ≤ at → accept ≡ streams_by s t (listed_in s)
     unfolding streams_by
     judging-ends h = rw (← g.same, found-end s Listed at h)
 
@@ -86,11 +86,11 @@ module _ (s : List ℕ) (t : Table) where
       unfolding streams_by
       at-this = rw (← g.same, found_here s Listed at h (g.here h), e)
 
-      pub judging-stops : (k x : ℕ) → v ≡ Refused k x → Refused k x ≡ streams_by s t (listed_in s)
-      judging-stops k x q = rw (at-this, q)
+      pub judging-stops : (r : Refused) → v ≡ Err r → Err r ≡ streams_by s t (listed_in s)
+      judging-stops r q = rw (at-this, q)
 
-      pub judging-on : v ≡ Accepted → (j r : ℕ) → j ≡ after_at s at → r ≡ next_of Listed s j → Judging s t r
-      judging-on q j r p f =
+      pub judging-on : (u : Unit {0}) → v ≡ Ok u → (j r : ℕ) → j ≡ after_at s at → r ≡ next_of Listed s j → Judging s t r
+      judging-on u q j r p f =
           let w : j ≤ length s = rw p (after_on s at h).1 in
           let n = next-is s Listed j w in
           rw f (record { within = n.within; here = n.here; same = rw (n.same, p) (sym (at-this ∙ (rw q))) })
@@ -122,18 +122,18 @@ module _ (s : List ℕ) (o : ℕ) (h : o < length s) (b : Block) (p : b ≡ bloc
   same-control : ControlIs (block_of s o) c
   same-control = rw (bytes-are s o h b p) at r
 
-  pub late-in : (k x : ℕ) → c.verdict ≡ Refused k x → b.offset + x ≤ length s
+  pub late-in : (k x : ℕ) → c.verdict ≡ refuse k x → b.offset + x ≤ length s
   late-in k x q = omega (arith, end-in s o h b p, length-is s o h b p, control-within (block_of s o) c same-control k x q)
 
-  pub late-control : (k x : ℕ) → c.verdict ≡ Refused k x → LateIs s o (Refused k (b.offset + x))
+  pub late-control : (k x : ℕ) → c.verdict ≡ refuse k x → LateIs s o (refuse k (b.offset + x))
   unfolding late_by
   late-control k x q = record { answer = c; read = same-control; same = rw (q, start_is s o h b p) }
 
-  module _ (q : c.verdict ≡ Accepted) (l : Streams) (e : l ≡ streams_of s) (t : Bool) (f : t ≡ entries_named (take (b.offset + b.length - b.offset) (drop b.offset s)) l.streams l.count) where
+  module _ (q : c.verdict ≡ accept) (l : Streams) (e : l ≡ streams_of s) (t : Bool) (f : t ≡ entries_named (take (b.offset + b.length - b.offset) (drop b.offset s)) l.streams l.count) where
     named-is : t ≡ entries_named (block_of s o) (streams_of s).streams (streams_of s).count
     named-is = rw (← e) (rw (bytes-are s o h b p) at f)
 
-    pub late-73 : t ≡ false → LateIs s o (Refused 73 b.offset)
+    pub late-73 : t ≡ false → LateIs s o (refuse 73 b.offset)
     unfolding late_by verdict73 if_else
     late-73 z = record { answer = c; read = same-control; same = rw (q, ← named-is, z, start_is s o h b p) }
 
@@ -143,16 +143,16 @@ module _ (s : List ℕ) (o : ℕ) (h : o < length s) (b : Block) (p : b ≡ bloc
 
 -- ---- the whole
 module _ (s : List ℕ) where
-  pub laid_out : (v : Verdict) → v ≡ layout_verdict s → (k o : ℕ) → v ≡ Refused k o → (x : Configuration) → x ≡ refused_by k o → ConfigurationIs s x
+  pub laid_out : (v : Verdict) → v ≡ layout_verdict s → (k o : ℕ) → v ≡ refuse k o → (x : Configuration) → x ≡ refused_by k o → ConfigurationIs s x
   laid_out v e k o q x y = rw y (laid k o (sym e ∙ q))
 
-  module _ (w : Verdict) (e : w ≡ layout_verdict s) (a : w ≡ Accepted) (at : ℕ) (p : at ≡ control_place s) (v : Verdict) (l : LateIs s at v) where
+  module _ (w : Verdict) (e : w ≡ layout_verdict s) (a : w ≡ accept) (at : ℕ) (p : at ≡ control_place s) (v : Verdict) (l : LateIs s at v) where
     late-there : (u : Verdict) → v ≡ u → LateIs s (control_place s) u
     late-there u q = rw (← p, ← q) l
 
-    pub blocks-refuse : (k o : ℕ) → v ≡ Refused k o → (x : Configuration) → x ≡ refused_by k o → ConfigurationIs s x
-    blocks-refuse k o q x y = rw y (blocks k o (sym e ∙ a) (late-there (Refused k o) q))
+    pub blocks-refuse : (k o : ℕ) → v ≡ refuse k o → (x : Configuration) → x ≡ refused_by k o → ConfigurationIs s x
+    blocks-refuse k o q x y = rw y (blocks k o (sym e ∙ a) (late-there (refuse k o) q))
 
-    pub all_sound : v ≡ Accepted → (b : Block) → b ≡ block_at s at → (t : Streams) → t ≡ streams_of s → ConfigurationIs s (record { verdict = Accepted; control = b; count = t.count; streams = t.streams })
+    pub all_sound : v ≡ accept → (b : Block) → b ≡ block_at s at → (t : Streams) → t ≡ streams_of s → ConfigurationIs s (record { verdict = accept; control = b; count = t.count; streams = t.streams })
     unfolding accepted_with
-    all_sound q b y t z = rw (y, z, p) (sound (sym e ∙ a) (late-there Accepted q))
+    all_sound q b y t z = rw (y, z, p) (sound (sym e ∙ a) (late-there accept q))

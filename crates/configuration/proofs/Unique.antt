@@ -1,9 +1,8 @@
 -- The promise of `read` leaves one answer.
+use Rattle.rules.specs.Verdicts.{Verdict, accept, refuse}
 use Prim.Native.Nat.{ℕ}
 use mathlib.Core.Path.{◌≡◌, refl, sym, ap, ◌∙◌}
 use mathlib.Core.List.{List}
-use Rattle.rules.specs.declared.Verdict.{Verdict}
-use Rattle.rules.specs.declared.Verdict.TheVariants.{Accepted, Refused}
 use Rattle.rules.proofs.Verdicts.{apart, clash, same_by}
 use Rattle.control.proofs.Unique as control
 use Rattle.interfaces.specs.Inner.{block_of}
@@ -19,8 +18,8 @@ read-unique s (laid k o e) (laid j p f) = same_by refused_by k o j p (sym e ∙ 
 read-unique s (laid k o e) (blocks j p f l) = absurd (clash _ k o e f)
 read-unique s (laid k o e) (sound f l) = absurd (clash _ k o e f)
 read-unique s (blocks k o e l) (laid j p f) = absurd (clash _ j p f e)
-read-unique s (blocks k o e l) (blocks j p f m) = same_by refused_by k o j p (late-unique s (control_place s) (Refused k o) (Refused j p) l m)
-read-unique s (blocks k o e l) (sound f m) = absurd (apart k o (late-unique s (control_place s) (Refused k o) Accepted l m))
+read-unique s (blocks k o e l) (blocks j p f m) = same_by refused_by k o j p (late-unique s (control_place s) (refuse k o) (refuse j p) l m)
+read-unique s (blocks k o e l) (sound f m) = absurd (apart k o (late-unique s (control_place s) (refuse k o) accept l m))
 read-unique s (sound e l) (laid j p f) = absurd (clash _ j p f e)
-read-unique s (sound e l) (blocks j p f m) = absurd (apart j p (late-unique s (control_place s) (Refused j p) Accepted m l))
+read-unique s (sound e l) (blocks j p f m) = absurd (apart j p (late-unique s (control_place s) (refuse j p) accept m l))
 read-unique s (sound e l) (sound f m) = refl

@@ -1,4 +1,5 @@
 -- A block's own refusal lies within the block.
+use Rattle.rules.specs.Verdicts.{refuse}
 use Prim.Native.Nat.{ℕ, ◌+◌, ◌≤◌, ◌<◌}
 use mathlib.Core.Path.{◌≡◌, refl}
 use mathlib.Core.List.{List, [], ◌∷◌, ◌++◌, append-nil}
@@ -7,7 +8,6 @@ use lib.ListN.{length, get_or}
 use native.Mathlib.Omega.{arith}
 use Rattle.rules.specs.IfElse.{if_else}
 use Rattle.rules.specs.Walk.{Reached, first, next}
-use Rattle.rules.specs.declared.Verdict.TheVariants.{Refused}
 use Rattle.rules.proofs.Growing.{each_more}
 use Rattle.entities.specs.Table.{no_entity, entity_at}
 use Rattle.entities.specs.declared.Entity.{Entity}
@@ -47,7 +47,7 @@ module _ (b : List ℕ) where
   first-within (control-broken.by-14 l o z h r a e) = omega (arith, entities-before r e.place e.inside, e.at)
   first-within (control-broken.by-15 l o z h r a c e) = omega (arith, entities-before r e.place e.inside, e.at)
 
-  pub control-within : (c : Control) → control.ControlIs b c → (k o : ℕ) → c.verdict ≡ Refused k o → o ≤ length b
+  pub control-within : (c : Control) → control.ControlIs b c → (k o : ℕ) → c.verdict ≡ refuse k o → o ≤ length b
   control-within c r k o e = first-within ((control-exactly.refused b c r k o).0 e)
 
 -- ---- a streaming block
@@ -66,5 +66,5 @@ module _ (t : Table) (b : List ℕ) where
   broken-within (streaming-broken.by-37 a w c i l f) = omega (arith, formats-before w.there i l)
   broken-within (streaming-broken.by-38 a w c d e) = omega arith
 
-  pub streaming-within : (k o : ℕ) → (streaming_of t b).verdict ≡ Refused k o → o ≤ length b
+  pub streaming-within : (k o : ℕ) → (streaming_of t b).verdict ≡ refuse k o → o ≤ length b
   streaming-within k o e = broken-within ((streaming-exactly.refused t b k o).0 e)

@@ -10,9 +10,10 @@ ghost use Rattle.configuration.specs.Inner.{entries_named, streams_by, block_ver
 use configuration_rules::Sought;
 use entities::Table;
 use interfaces::{Block, INTERFACES_MOST, Stream};
-use rules::Verdict;
+use rules::{Refused, Verdict};
 
 // The verdict, the one control interface's block, and the streaming interfaces in order of appearance, unused places zero. A refused configuration gives all zero.
+// (No Result: `zero-configuration` says so.)
 #[derive(Drop)]
 pub struct Configuration {
     pub verdict: Verdict,
@@ -32,13 +33,11 @@ fn entries_named(block: &[u8], streams: [Stream; INTERFACES_MOST], count: usize)
     ensures { result ≡ entries_named block.now streams count }
 {
     let n = le::wide(le::byte_at(block, COUNT));
-    let mut j: usize = 0;
-    while j < n {
+    for j in 0..n {
         let number = le::byte_at(block, ENTRIES + j);
         if interfaces::place_of(streams, count, number) == count {
             return false;
         }
-        j = j + 1;
     }
     true
 }
@@ -59,12 +58,13 @@ fn block_verdict(s: &[u8], table: Table, at: usize) -> Verdict
     let b = interfaces::block_at(s, at);
     let start = b.offset;
     let end = start + b.length;
+    // A closure of map_err would have to require that the sum fits, which is known of this refusal alone.
     match stream_verdict(table, &s[start..end]) {
-        Verdict::Accepted => Verdict::Accepted,
-        Verdict::Refused { number, offset } => Verdict::Refused {
+        Ok(()) => Ok(()),
+        Err(Refused { number, offset }) => Err(Refused {
             number,
             offset: start + offset,
-        },
+        }),
     }
 }
 
@@ -72,14 +72,13 @@ fn block_verdict(s: &[u8], table: Table, at: usize) -> Verdict
 fn streams_verdict(s: &[u8], table: Table) -> Verdict
     ensures { result ≡ streams_by s.now table (listed_in s.now) }
 {
+    // What the search finds is the next place.
     let mut at = interfaces::next(s, 0, Sought::Listed);
     while at < s.len() {
-        if let Verdict::Refused { number, offset } = block_verdict(s, table, at) {
-            return Verdict::Refused { number, offset };
-        }
+        block_verdict(s, table, at)?;
         at = interfaces::next(s, configuration_rules::after(s, at), Sought::Listed);
     }
-    Verdict::Accepted
+    Ok(())
 }
 
 // The control block's own, 73, then the streaming blocks' own. The control interface's descriptor stands at `at`.
@@ -93,19 +92,19 @@ fn judge_blocks(s: &[u8], at: usize) -> Verdict
     let c = control::read(&s[start..end]);
     let verdict = c.verdict;
     let table = c.table;
-    if let Verdict::Refused { number, offset } = verdict {
-        return Verdict::Refused {
+    if let Err(Refused { number, offset }) = verdict {
+        return Err(Refused {
             number,
             offset: start + offset,
-        };
+        });
     }
     let l = interfaces::listed(s);
     let streams = l.streams;
     if !entries_named(&s[start..end], streams, l.count) {
-        return Verdict::Refused {
+        return Err(Refused {
             number: 73,
             offset: start,
-        };
+        });
     }
     streams_verdict(s, table)
 }
@@ -121,7 +120,7 @@ fn refused(number: u8, offset: usize) -> Configuration
         length: 0,
     };
     Configuration {
-        verdict: Verdict::Refused { number, offset },
+        verdict: Err(Refused { number, offset }),
         control,
         count: 0,
         streams,
@@ -132,18 +131,18 @@ fn refused(number: u8, offset: usize) -> Configuration
 pub fn read(s: &[u8]) -> Configuration
     ensures { ConfigurationIs s.now result }
 {
-    if let Verdict::Refused { number, offset } = configuration_layout::judge(s) {
+    if let Err(Refused { number, offset }) = configuration_layout::judge(s) {
         return refused(number, offset);
     }
     let at = interfaces::next(s, 0, Sought::Control);
-    if let Verdict::Refused { number, offset } = judge_blocks(s, at) {
+    if let Err(Refused { number, offset }) = judge_blocks(s, at) {
         return refused(number, offset);
     }
     let control = interfaces::block_at(s, at);
     let l = interfaces::listed(s);
     let streams = l.streams;
     Configuration {
-        verdict: Verdict::Accepted,
+        verdict: Ok(()),
         control,
         count: l.count,
         streams,

@@ -1,22 +1,20 @@
 // The cases of whole configurations and of picks: each is read from standard input, handed to its reader, and its answer printed in full.
 #![tactic(auto)]
 
-use alternate_settings::{Choice, Setting};
+use alternate_settings::Setting;
 use cases::{input, print};
 use configuration::Configuration;
 use interfaces::{Block, INTERFACES_MOST, Stream};
-use rules::Verdict;
+use rules::{Refused, Verdict};
 
 // More than a configuration may have, so that one that is too long can be handed in.
 const ROOM: usize = 33024;
 
 pub fn configuration() -> bool {
     let mut s = [0u8; ROOM];
-    let part = input::part(&mut s);
-    let n = part.count;
-    if !part.fine {
+    let Some(n) = input::part(&mut s) else {
         return false;
-    }
+    };
     let c = configuration::read(&s[..n]);
     told(&s[..n], c);
     true
@@ -36,8 +34,8 @@ fn told(s: &[u8], c: Configuration) {
 
 fn verdict_line(v: Verdict) {
     match v {
-        Verdict::Accepted => print::text(b"accepted\n"),
-        Verdict::Refused { number, offset } => refused(number, offset),
+        Ok(()) => print::text(b"accepted\n"),
+        Err(Refused { number, offset }) => refused(number, offset),
     }
 }
 
@@ -58,14 +56,8 @@ fn block(b: Block) {
 }
 
 fn streams(s: &[u8], all: [Stream; INTERFACES_MOST], n: usize) {
-    let mut i: usize = 0;
-    while i < INTERFACES_MOST {
-        if n <= i {
-            return;
-        }
-        let e = all[i];
-        stream(s, e);
-        i += 1;
+    for e in all.iter().take(n) {
+        stream(s, *e);
     }
 }
 
@@ -77,11 +69,12 @@ fn stream(s: &[u8], e: Stream) {
     print::byte(e.endpoint);
     print::end();
     // An accepted configuration has at most 32; one more would show.
+    // No `for`: the edit *same_setting_for_ever* tries that the count goes on, and a `for` leaves nothing to try.
     let mut k: usize = 0;
     while k < 34 {
         match alternate_settings::kth(s, e.interface, e.endpoint, k) {
-            Choice::Nothing => return,
-            Choice::At(x) => {
+            None => return,
+            Some(x) => {
                 setting(b"setting", x);
                 k += 1;
             }
@@ -98,47 +91,26 @@ fn setting(name: &[u8], x: Setting) {
 
 // Whether every place past the used ones is all zero.
 fn rest_zero(all: [Stream; INTERFACES_MOST], n: usize) -> bool {
-    let mut i: usize = 0;
-    while i < INTERFACES_MOST {
-        if n <= i {
-            let e = all[i];
-            if !no_stream(e) {
-                return false;
-            }
-        }
-        i += 1;
-    }
-    true
+    all.iter().skip(n).all(|e| no_stream(*e))
 }
 
 fn no_stream(e: Stream) -> bool {
-    if e.interface != 0 {
-        return false;
-    }
-    if e.endpoint != 0 {
-        return false;
-    }
-    if e.offset != 0 {
-        return false;
-    }
-    e.length == 0
+    e.interface == 0 && e.endpoint == 0 && e.offset == 0 && e.length == 0
 }
 
 pub fn pick() -> bool {
     let mut s = [0u8; ROOM];
-    let part = input::part(&mut s);
-    let n = part.count;
-    if !part.fine {
+    let Some(n) = input::part(&mut s) else {
         return false;
-    }
+    };
     let interface = input::byte();
     let payload = input::word();
     let p = picking::pick(&s[..n], interface, payload);
     let verdict = p.verdict;
     let x = p.setting;
     match verdict {
-        Verdict::Accepted => setting(b"pick", x),
-        Verdict::Refused { number, offset } => {
+        Ok(()) => setting(b"pick", x),
+        Err(Refused { number, offset }) => {
             print::text(b"pick ");
             refused(number, offset);
         }

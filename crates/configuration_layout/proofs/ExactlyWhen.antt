@@ -11,10 +11,8 @@ use borrow.Author.Tests.{lt-ltb, le-ltb, ltb-true, ltb-false, eq-eqb, ne_eqb, eq
 use native.Mathlib.Omega.{arith}
 use Rattle.le.specs.Le.{le16_at}
 use Rattle.rules.specs.IfElse.{if_else}
-use Rattle.rules.specs.Verdicts.{◌and_then◌}
+use Rattle.rules.specs.Verdicts.{◌and_then◌, Verdict, accept, refuse}
 use Rattle.rules.specs.Walk.{Outcome, stop, Clean, FirstBreak}
-use Rattle.rules.specs.declared.Verdict.{Verdict}
-use Rattle.rules.specs.declared.Verdict.TheVariants.{Accepted, Refused}
 use Rattle.rules.proofs.Firsts.{lt-or-ge}
 use Rattle.rules.proofs.Rows.{given-none}
 use Rattle.rules.proofs.Verdicts.{apart, same-refusal}
@@ -33,17 +31,17 @@ use Rattle.configuration_layout.proofs.Few.{first-there, none-there, end-there, 
 
 module _ (s : List ℕ) where
   -- ---- 70
-  past-whole : Whole s → verdict70 s ≡ if_else (ltb (next_of Broken s 0) (length s)) (Refused 70 (next_of Broken s 0)) Accepted
+  past-whole : Whole s → verdict70 s ≡ if_else (ltb (next_of Broken s 0) (length s)) (refuse 70 (next_of Broken s 0)) accept
   unfolding verdict70 if_else
   past-whole w = rw (le-ltb (length s) bytes_least w.least, le-ltb bytes_most (length s) w.most, eq-eqb (type_at s 0) configuration_type w.first)
 
   -- the whole is right, or it is refused at 0
-  whole-or : Whole s ⊎ ((Whole s → ⊥) × (verdict70 s ≡ Refused 70 0))
+  whole-or : Whole s ⊎ ((Whole s → ⊥) × (verdict70 s ≡ refuse 70 0))
   unfolding verdict70 if_else
   whole-or = go (ltb (length s) bytes_least) refl (ltb bytes_most (length s)) refl (eqb (type_at s 0) configuration_type) refl
     where
       go : (a : Bool) → ltb (length s) bytes_least ≡ a → (b : Bool) → ltb bytes_most (length s) ≡ b → (c : Bool) → eqb (type_at s 0) configuration_type ≡ c
-          → Whole s ⊎ ((Whole s → ⊥) × (if_else a (Refused 70 0) (if_else b (Refused 70 0) (if_else c (if_else (ltb (next_of Broken s 0) (length s)) (Refused 70 (next_of Broken s 0)) Accepted) (Refused 70 0))) ≡ Refused 70 0))
+          → Whole s ⊎ ((Whole s → ⊥) × (if_else a (refuse 70 0) (if_else b (refuse 70 0) (if_else c (if_else (ltb (next_of Broken s 0) (length s)) (refuse 70 (next_of Broken s 0)) accept) (refuse 70 0))) ≡ refuse 70 0))
       go true x b y c z = inr (λ w. (let l = ltb-true (length s) bytes_least x in omega (arith, w.least)), refl)
       go false x true y c z = inr (λ w. (let l = ltb-true bytes_most (length s) y in omega (arith, w.most)), refl)
       go false x false y true z = inl (record { least = ltb-false (length s) bytes_least x; most = ltb-false bytes_most (length s) y; first = eqb-true (type_at s 0) configuration_type z })
@@ -72,14 +70,14 @@ module _ (s : List ℕ) where
           let e : ◌≡◌ {A = Outcome (List ℕ)} (stop 70 b) (stop 70 o) = sym (walk-line s ∙ (rw (lt-ltb b (length s) h))) ∙ (walk-stop (course s) (steady s) 70 o).1 f in
           (h, cc)
 
-  right-70 : Whole s → Clean (course s) → verdict70 s ≡ Accepted
+  right-70 : Whole s → Clean (course s) → verdict70 s ≡ accept
   unfolding if_else
   right-70 w c = past-whole w ∙ (rw (le-ltb b (length s) (clean-none c)))
 
   data Ends70 : Verdict → Type 0 where
-    right : Whole s → Clean (course s) → Ends70 Accepted
-    whole : (Whole s → ⊥) → Ends70 (Refused 70 0)
-    break : (o : ℕ) → Whole s → FirstBreak (course s) 70 o → Ends70 (Refused 70 o)
+    right : Whole s → Clean (course s) → Ends70 accept
+    whole : (Whole s → ⊥) → Ends70 (refuse 70 0)
+    break : (o : ℕ) → Whole s → FirstBreak (course s) 70 o → Ends70 (refuse 70 o)
 
   ends-70 : Ends70 (verdict70 s)
   unfolding if_else
@@ -89,11 +87,11 @@ module _ (s : List ℕ) where
       (λ w. rw w.1 (whole w.0)) whole-or
 
   -- ---- 71
-  right-71 : le16_at s 2 ≡ length s → verdict71 s ≡ Accepted
+  right-71 : le16_at s 2 ≡ length s → verdict71 s ≡ accept
   unfolding verdict71 if_else
   right-71 h = rw (eq-eqb (le16_at s 2) (length s) h)
 
-  wrong-71 : (le16_at s 2 ≡ length s → ⊥) → verdict71 s ≡ Refused 71 0
+  wrong-71 : (le16_at s 2 ≡ length s → ⊥) → verdict71 s ≡ refuse 71 0
   unfolding verdict71 if_else
   wrong-71 h = rw (ne_eqb (le16_at s 2) (length s) h)
 
@@ -106,9 +104,9 @@ module _ (s : List ℕ) where
 
   -- ---- 72
   data Controls : Verdict → Type 0 where
-    nobody : ((o : ℕ) → Starts s o → ControlFirst s o → ⊥) → Controls (Refused 72 0)
-    only : (o : ℕ) → OneControl s o → Controls Accepted
-    second : (o : ℕ) → SecondControl s o → Controls (Refused 72 o)
+    nobody : ((o : ℕ) → Starts s o → ControlFirst s o → ⊥) → Controls (refuse 72 0)
+    only : (o : ℕ) → OneControl s o → Controls accept
+    second : (o : ℕ) → SecondControl s o → Controls (refuse 72 o)
 
   controls-are : (l : List ℕ) → Lists s (ControlFirst s) l → Controls (controls_verdict l)
   unfolding controls_verdict
@@ -158,8 +156,8 @@ module _ (s : List ℕ) where
 
   -- ---- 75
   data Ends75 : Verdict → Type 0 where
-    few : NoneTooMany s → Ends75 Accepted
-    many : (o : ℕ) → FirstTooMany s o → Ends75 (Refused 75 o)
+    few : NoneTooMany s → Ends75 accept
+    many : (o : ℕ) → FirstTooMany s o → Ends75 (refuse 75 o)
 
   module _ (c : Clean (course s)) where
     controls-here : Controls (verdict72 s)
@@ -186,8 +184,8 @@ module _ (s : List ℕ) where
 
   -- ---- together
   data Ends : Verdict → Type 0 where
-    good : (o : ℕ) → Laid s o → Ends Accepted
-    bad : (k o : ℕ) → FirstMislaid s k o → Ends (Refused k o)
+    good : (o : ℕ) → Laid s o → Ends accept
+    bad : (k o : ℕ) → FirstMislaid s k o → Ends (refuse k o)
 
   after-72 : Kept-70-71 s → (v : Verdict) → Controls v → (w : Verdict) → Ends75 w → Ends (v and_then w)
   after-72 k v (nobody n) w e = bad 72 0 (by-72-none k n)
@@ -210,29 +208,29 @@ module _ (s : List ℕ) where
   unfolding layout_verdict
   kept_gives k = rw (right-70 k.whole k.each, right-71 k.total)
 
-  laid-gives : (o : ℕ) → Laid s o → layout_verdict s ≡ Accepted
-  laid-gives o l = kept_gives l.kept ∙ (rw (is-72 l.kept.each Accepted (only o l.one), is-75 l.kept.each Accepted (few l.few)))
+  laid-gives : (o : ℕ) → Laid s o → layout_verdict s ≡ accept
+  laid-gives o l = kept_gives l.kept ∙ (rw (is-72 l.kept.each accept (only o l.one), is-75 l.kept.each accept (few l.few)))
 
-  mislaid-gives : {k o : ℕ} → FirstMislaid s k o → layout_verdict s ≡ Refused k o
+  mislaid-gives : {k o : ℕ} → FirstMislaid s k o → layout_verdict s ≡ refuse k o
   unfolding layout_verdict if_else
   mislaid-gives (by-70-whole n) = ⊎_elim (λ w. absurd (n w)) (λ w. rw w.1) whole-or
   mislaid-gives (by-70 o w f) = let e = break-is o f in rw (past-whole w, lt-ltb b (length s) e.0, e.1)
   mislaid-gives (by-71 w c n) = rw (right-70 w c, wrong-71 n)
-  mislaid-gives (by-72-none k n) = kept_gives k ∙ (rw (is-72 k.each (Refused 72 0) (nobody n)))
-  mislaid-gives (by-72-second o k c) = kept_gives k ∙ (rw (is-72 k.each (Refused 72 o) (second o c)))
-  mislaid-gives (by-75 o c k one f) = kept_gives k ∙ (rw (is-72 k.each Accepted (only c one), is-75 k.each (Refused 75 o) (many o f)))
+  mislaid-gives (by-72-none k n) = kept_gives k ∙ (rw (is-72 k.each (refuse 72 0) (nobody n)))
+  mislaid-gives (by-72-second o k c) = kept_gives k ∙ (rw (is-72 k.each (refuse 72 o) (second o c)))
+  mislaid-gives (by-75 o c k one f) = kept_gives k ∙ (rw (is-72 k.each accept (only c one), is-75 k.each (refuse 75 o) (many o f)))
 
   -- EXACTLY WHEN
-  pub laid : (layout_verdict s ≡ Accepted) ↔ ((o : ℕ) × Laid s o)
+  pub laid : (layout_verdict s ≡ accept) ↔ ((o : ℕ) × Laid s o)
   laid = (to (layout_verdict s) ends, λ p. laid-gives p.0 p.1)
     where
-      to : (v : Verdict) → Ends v → v ≡ Accepted → (o : ℕ) × Laid s o
+      to : (v : Verdict) → Ends v → v ≡ accept → (o : ℕ) × Laid s o
       to v (good o l) e = (o, l)
       to v (bad k o f) e = absurd (apart k o e)
 
-  pub mislaid : (k o : ℕ) → (layout_verdict s ≡ Refused k o) ↔ FirstMislaid s k o
+  pub mislaid : (k o : ℕ) → (layout_verdict s ≡ refuse k o) ↔ FirstMislaid s k o
   mislaid k o = (to (layout_verdict s) ends, mislaid-gives)
     where
-      to : (v : Verdict) → Ends v → v ≡ Refused k o → FirstMislaid s k o
+      to : (v : Verdict) → Ends v → v ≡ refuse k o → FirstMislaid s k o
       to v (good p l) e = absurd (apart k o (sym e))
       to v (bad j p f) e = let q = same-refusal j p k o e in rw (← q.0, ← q.1) f

@@ -1,13 +1,12 @@
 -- Where nothing of 70, 71, 72 and 75 is broken, each by itself is not.
+use Rattle.std.specs.Prelude.{Err, Ok}
 use Prim.Native.Nat.{ℕ, ◌≤◌, ◌<◌}
 use mathlib.Core.Path.{◌≡◌, refl, sym, ◌∙◌}
 use mathlib.Core.List.{List, []}
 use mathlib.Core.Logic.{⊎_elim}
 use lib.ListN.{length}
 use native.Mathlib.Omega.{arith}
-use Rattle.rules.specs.Verdicts.{◌and_then◌}
-use Rattle.rules.specs.declared.Verdict.{Verdict}
-use Rattle.rules.specs.declared.Verdict.TheVariants.{Accepted, Refused}
+use Rattle.rules.specs.Verdicts.{◌and_then◌, Verdict, accept}
 use Rattle.rules.proofs.Firsts.{lt-or-ge}
 use Rattle.rules.proofs.Verdicts.{apart}
 use Rattle.configuration_rules.specs.declared.Sought.TheVariants.{Control}
@@ -15,11 +14,11 @@ use Rattle.interfaces.specs.Inner.{found, next_of}
 use Rattle.interfaces.proofs.Lines.{found-end, next-is}
 use Rattle.configuration_layout.specs.Inner.{verdict70, verdict71, controls_verdict, verdict72, verdict75, layout_verdict}
 
-pub both : (a b : Verdict) → a and_then b ≡ Accepted → (a ≡ Accepted) × (b ≡ Accepted)
-both Accepted b e = (refl, e)
-both (Refused k o) b e = absurd (apart k o e)
+pub both : (a b : Verdict) → a and_then b ≡ accept → (a ≡ accept) × (b ≡ accept)
+both (Ok _) b e = (refl, e)
+both (Err r) b e = absurd (apart r.number r.offset e)
 
-pub all-four : (s : List ℕ) → layout_verdict s ≡ Accepted → (verdict70 s ≡ Accepted) × (verdict71 s ≡ Accepted) × (verdict72 s ≡ Accepted) × (verdict75 s ≡ Accepted)
+pub all-four : (s : List ℕ) → layout_verdict s ≡ accept → (verdict70 s ≡ accept) × (verdict71 s ≡ accept) × (verdict72 s ≡ accept) × (verdict75 s ≡ accept)
 unfolding layout_verdict
 all-four s e =
     let a = both (verdict70 s) (verdict71 s and_then (verdict72 s and_then verdict75 s)) e in
@@ -28,7 +27,7 @@ all-four s e =
     (a.0, b.0, c.0, c.1)
 
 -- there is a control interface
-pub control-there : (s : List ℕ) → layout_verdict s ≡ Accepted → (at : ℕ) → at ≡ next_of Control s 0 → at < length s
+pub control-there : (s : List ℕ) → layout_verdict s ≡ accept → (at : ℕ) → at ≡ next_of Control s 0 → at < length s
 unfolding controls_verdict
 control-there s e at q = rw q (⊎_elim (λ h. h) none (lt-or-ge (next_of Control s 0) (length s)))
   where

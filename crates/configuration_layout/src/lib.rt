@@ -1,11 +1,12 @@
 // How a configuration is laid out: 70, 71, 72 and 75, number by number over the whole.
 #![tactic(auto)]
 
+ghost use Rattle.rules.specs.Verdicts.{refuse};
 ghost use Rattle.std.specs.Prelude.{◌≡◌};
 ghost use Rattle.configuration_layout.specs.Inner.{verdict70, verdict71, verdict72, verdict75, layout_verdict};
 
 use configuration_rules::{CONFIGURATION, Sought};
-use rules::Verdict;
+use rules::{Refused, Verdict};
 
 // The fewest bytes of a configuration, and the most.
 const LEAST: usize = 9;
@@ -13,32 +14,29 @@ const LEAST: usize = 9;
 pub const MOST: usize = 32768;
 
 // 70: the size, the first descriptor's type, and each descriptor in turn.
+#[tactic(auto, unfolding(crate::specs::Inner::verdict70, rules::specs::IfElse::if_else))]
 fn rule_70(s: &[u8]) -> Verdict
     ensures { result ≡ verdict70 s.now }
 {
-    if s.len() < LEAST {
-        return refused(70, 0);
-    }
-    if MOST < s.len() {
-        return refused(70, 0);
-    }
-    if configuration_rules::byte_of(s, 0, 1) != CONFIGURATION {
+    let first = configuration_rules::byte_of(s, 0, 1);
+    if s.len() < LEAST || MOST < s.len() || first != CONFIGURATION {
         return refused(70, 0);
     }
     let at = interfaces::next(s, 0, Sought::Broken);
     if at < s.len() {
         return refused(70, at);
     }
-    Verdict::Accepted
+    Ok(())
 }
 
 // 71: bytes 2, 3 are not the number of bytes.
+#[tactic(auto, unfolding(crate::specs::Inner::verdict71, rules::specs::IfElse::if_else))]
 fn rule_71(s: &[u8]) -> Verdict
     ensures { result ≡ verdict71 s.now }
 {
     let total = le::join16(le::byte_at(s, 2), le::byte_at(s, 3)) as usize;
     if total == s.len() {
-        return Verdict::Accepted;
+        return Ok(());
     }
     refused(71, 0)
 }
@@ -53,12 +51,13 @@ fn rule_72(s: &[u8]) -> Verdict
         if second < s.len() {
             return refused(72, second);
         }
-        return Verdict::Accepted;
+        return Ok(());
     }
     refused(72, 0)
 }
 
 // 75: one interface or setting too many.
+#[tactic(auto, unfolding(crate::specs::Inner::verdict75, rules::specs::IfElse::if_else))]
 fn rule_75(s: &[u8]) -> Verdict
     ensures { result ≡ verdict75 s.now }
 {
@@ -66,27 +65,22 @@ fn rule_75(s: &[u8]) -> Verdict
     if at < s.len() {
         return refused(75, at);
     }
-    Verdict::Accepted
+    Ok(())
 }
 
 fn refused(number: u8, offset: usize) -> Verdict
-    ensures { result ≡ Verdict.Refused number offset }
+    ensures { result ≡ refuse number offset }
 {
-    Verdict::Refused { number, offset }
+    Err(Refused { number, offset })
 }
 
 // The first of 70, 71, 72 and 75 that the configuration breaks, at its first place.
+#[tactic(auto, unfolding(crate::specs::Inner::layout_verdict))]
 pub fn judge(s: &[u8]) -> Verdict
     ensures { result ≡ layout_verdict s.now }
 {
-    if let Verdict::Refused { number, offset } = rule_70(s) {
-        return refused(number, offset);
-    }
-    if let Verdict::Refused { number, offset } = rule_71(s) {
-        return refused(number, offset);
-    }
-    if let Verdict::Refused { number, offset } = rule_72(s) {
-        return refused(number, offset);
-    }
+    rule_70(s)?;
+    rule_71(s)?;
+    rule_72(s)?;
     rule_75(s)
 }

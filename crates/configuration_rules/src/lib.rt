@@ -48,37 +48,29 @@ pub fn byte_of(s: &[u8], at: usize, k: usize) -> u8
 }
 
 // The fewest bytes of a descriptor of this type.
+#[tactic(auto, unfolding(crate::specs::Descriptors::least_of, rules::specs::IfElse::if_else))]
 fn least_of(kind: u8) -> usize
     ensures { result ≡ least_of kind }
 {
-    if kind == CONFIGURATION {
-        return 9;
+    match kind {
+        CONFIGURATION | INTERFACE => 9,
+        ENDPOINT => 7,
+        _ => 2,
     }
-    if kind == INTERFACE {
-        return 9;
-    }
-    if kind == ENDPOINT {
-        return 7;
-    }
-    2
 }
 
 // Whether the descriptor breaks 70: under 2 bytes, past the end, or too short for its kind.
+#[tactic(auto, unfolding(crate::specs::Descriptors::broken_at))]
 fn is_broken(s: &[u8], at: usize) -> bool
     requires { at < length s.now }
     ensures { result ≡ broken_at s.now at }
 {
     let len = le::wide(s[at]);
-    if len < 2 {
-        return true;
-    }
-    if s.len() - at < len {
-        return true;
-    }
-    len < least_of(byte_of(s, at, 1))
+    len < 2 || s.len() - at < len || len < least_of(byte_of(s, at, 1))
 }
 
 // Inner: a descriptor starts at `at`. Where the next one starts, and the end behind one that breaks 70.
+#[tactic(auto, unfolding(crate::specs::Descriptors::after_at, rules::specs::IfElse::if_else))]
 pub fn after(s: &[u8], at: usize) -> usize
     requires { at < length s.now }
     ensures { result ≡ after_at s.now at }
@@ -90,6 +82,7 @@ pub fn after(s: &[u8], at: usize) -> usize
 }
 
 // The subclass of a video interface's descriptor, 0 of any other descriptor.
+#[tactic(auto, unfolding(crate::specs::Descriptors::subclass_of, rules::specs::IfElse::if_else))]
 fn subclass_of(s: &[u8], at: usize) -> u8
     requires { at < length s.now }
     ensures { result ≡ subclass_of s.now at }
@@ -104,32 +97,26 @@ fn subclass_of(s: &[u8], at: usize) -> u8
 }
 
 // A video interface's descriptor of this subclass, whose byte k is this.
+#[tactic(auto, unfolding(crate::specs::Descriptors::is_video, rules::specs::IfElse::if_else))]
 fn is_video(s: &[u8], at: usize, subclass: u8, k: usize, x: u8) -> bool
     requires { at < length s.now }
     ensures { result ≡ is_video s.now at subclass k x }
 {
-    if subclass_of(s, at) != subclass {
-        return false;
-    }
-    byte_of(s, at, k) == x
+    subclass_of(s, at) == subclass && byte_of(s, at, k) == x
 }
 
 // The endpoint of this address, or an interface descriptor.
+#[tactic(auto, unfolding(crate::specs::Descriptors::is_endpoint))]
 fn is_endpoint(s: &[u8], at: usize, address: u8) -> bool
     requires { at < length s.now }
     ensures { result ≡ is_endpoint s.now at address }
 {
     let kind = byte_of(s, at, 1);
-    if kind == INTERFACE {
-        return true;
-    }
-    if kind != ENDPOINT {
-        return false;
-    }
-    byte_of(s, at, 2) == address
+    kind == INTERFACE || (kind == ENDPOINT && byte_of(s, at, 2) == address)
 }
 
 // Inner: a descriptor starts at `at`. Whether it is what is sought.
+#[tactic(auto, unfolding(crate::specs::Descriptors::is_sought))]
 pub fn is_sought(s: &[u8], at: usize, what: Sought) -> bool
     requires { at < length s.now }
     ensures { result ≡ is_sought what s.now at }

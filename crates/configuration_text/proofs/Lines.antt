@@ -1,4 +1,5 @@
 -- The loops that print: the settings of a stream, and the streams.
+use Rattle.std.specs.Prelude.{None, Some}
 use mathlib.Core.Path.{◌≡◌, sym, ap, ◌∙◌}
 use mathlib.Core.List.{List}
 use Prim.Native.Nat.{ℕ, ◌+◌, ◌*◌, ◌≤◌, ◌<◌}
@@ -14,7 +15,6 @@ use Rattle.text.specs.Text.{line_most}
 use Rattle.alternate_settings.specs.Inner.{kth_of}
 use Rattle.alternate_settings.specs.Holding.{no_setting}
 use Rattle.alternate_settings.specs.declared.Setting.{Setting}
-use Rattle.alternate_settings.specs.declared.Choice.TheVariants.{At, Nothing}
 use Rattle.alternate_settings.proofs.Order.{kth-at, kth-past}
 use Rattle.configuration_text.specs.Texts.{setting_line}
 
@@ -44,11 +44,11 @@ module _ {A : Type 0} (f : A → List ℕ) (d : A) (xs : List A) (size most : �
 
 -- ---- settings, one call for each
 module _ (l : List Setting) {old : List ℕ} {start : ℕ} (i : ℕ) where
-  pub setting-more : {at r : ℕ} {buf new : List ℕ} (x : Setting) → i < 32 → kth_of l i ≡ At x → Printed setting_line l line_most 32 old start i at buf
+  pub setting-more : {at r : ℕ} {buf new : List ℕ} (x : Setting) → i < 32 → kth_of l i ≡ Some x → Printed setting_line l line_most 32 old start i at buf
       → Put buf at (setting_line x) r new → r ≤ at + line_most → Printed setting_line l line_most 32 old start (i + 1) r new
   setting-more x h e p q b = let k = (kth-at l i x).0 e in one_more setting_line no_setting l line_most 32 i k.0 h p (rw k.1 q) b
 
-  pub settings-end : {at : ℕ} {buf : List ℕ} → kth_of l i ≡ Nothing → Printed setting_line l line_most 32 old start i at buf
+  pub settings-end : {at : ℕ} {buf : List ℕ} → kth_of l i ≡ None → Printed setting_line l line_most 32 old start i at buf
       → Put old start (texts setting_line (take 32 l)) at buf × (at ≤ start + line_most * 32)
   settings-end e p = (list-ends setting_line no_setting l line_most 32 i ((kth-past l i).0 e) p, room-left setting_line no_setting l line_most 32 i p)
 

@@ -11,11 +11,11 @@ ghost use Rattle.interfaces.specs.Limits.{settings_most};
 ghost use Rattle.alternate_settings.specs.Inner.{settings_of};
 ghost use Rattle.configuration_text.specs.Texts.{setting_line, stream_text, stream_most, listed_text, configuration_text, picked_text, room};
 
-use alternate_settings::{Choice, Setting};
+use alternate_settings::Setting;
 use configuration::Configuration;
 use interfaces::{INTERFACES_MOST, SETTINGS_MOST, Stream};
 use picking::Picked;
-use rules::Verdict;
+use rules::Refused;
 use text::LINE_MOST;
 
 // How many bytes are enough: two lines, and of each streaming interface its own and those of its settings.
@@ -51,8 +51,8 @@ fn read(buf: &mut [u8], s: &[u8], c: Configuration) -> usize
 {
     let verdict = c.verdict;
     match verdict {
-        Verdict::Accepted => listed(buf, s, c),
-        Verdict::Refused { number, offset } => block_text::refused(buf, number, offset),
+        Ok(()) => listed(buf, s, c),
+        Err(Refused { number, offset }) => block_text::refused(buf, number, offset),
     }
 }
 
@@ -80,14 +80,12 @@ fn streams(
     ensures { Put buf.old start (texts (stream_text s.now) (take n all)) result buf.new }
 {
     let mut at = start;
-    let mut i: usize = 0;
-    while i < INTERFACES_MOST {
+    for i in 0..INTERFACES_MOST {
         if n <= i {
             return at;
         }
         let e = all[i];
         at = stream(buf, at, s, e);
-        i += 1;
     }
     at
 }
@@ -115,14 +113,10 @@ fn settings(buf: &mut [u8], start: usize, s: &[u8], interface: u8, endpoint: u8)
     ensures upper_bound { result ≤ start + line_most * 32 }
 {
     let mut at = start;
-    let mut i: usize = 0;
-    while i < SETTINGS_MOST {
+    for i in 0..SETTINGS_MOST {
         match alternate_settings::kth(s, interface, endpoint, i) {
-            Choice::Nothing => return at,
-            Choice::At(x) => {
-                at = setting(buf, at, x);
-                i += 1;
-            }
+            None => return at,
+            Some(x) => at = setting(buf, at, x),
         }
     }
     at
@@ -144,7 +138,7 @@ fn chosen(buf: &mut [u8], p: Picked) -> usize
     let verdict = p.verdict;
     let x = p.setting;
     match verdict {
-        Verdict::Accepted => setting(buf, 0, x),
-        Verdict::Refused { number, offset } => block_text::refused(buf, number, offset),
+        Ok(()) => setting(buf, 0, x),
+        Err(Refused { number, offset }) => block_text::refused(buf, number, offset),
     }
 }

@@ -1,4 +1,5 @@
 -- A configuration is accepted exactly when no rule is broken, and refused by k at o exactly when k is the first broken rule, at the first place that breaks it.
+use Rattle.std.specs.Prelude.{Err, Ok}
 use Prim.Native.Nat.{ℕ, ◌+◌, ◌<◌}
 use mathlib.Core.Path.{◌≡◌, refl, sym, ap, ◌∙◌}
 use mathlib.Core.List.{List, [], ◌∷◌}
@@ -8,11 +9,9 @@ use lib.ListN.{length, get_or, replicate}
 use native.Mathlib.Omega.{arith}
 use native.Mathlib.Nat.{eq-or-lt_of_le}
 use Rattle.rules.specs.IfElse.{if_else}
-use Rattle.rules.specs.Verdicts.{◌and_then◌}
-use Rattle.rules.specs.declared.Verdict.{Verdict}
-use Rattle.rules.specs.declared.Verdict.TheVariants.{Accepted, Refused}
+use Rattle.rules.specs.Verdicts.{◌and_then◌, Verdict, accept, refuse}
 use Rattle.rules.proofs.Firsts.{lt-or-ge}
-use Rattle.rules.proofs.Verdicts.{apart}
+use Rattle.rules.proofs.Verdicts.{apart, same-refusal}
 use Rattle.rules.proofs.Walks.{walk-done}
 use Rattle.entities.specs.declared.Entity.{Entity}
 use Rattle.entities.specs.declared.Table.{Table}
@@ -46,13 +45,13 @@ use Rattle.configuration_words.proofs.Streams.{Judged, all_right, first-wrong, j
 
 -- a block's verdict at its place
 module _ (a : ℕ) where
-  moved-right : (v : Verdict) → moved a v ≡ Accepted → v ≡ Accepted
-  moved-right Accepted e = refl
-  moved-right (Refused k x) e = absurd (apart k (a + x) e)
+  moved-right : (v : Verdict) → moved a v ≡ accept → v ≡ accept
+  moved-right (Ok _) e = refl
+  moved-right (Err r) e = absurd (apart r.number (a + r.offset) e)
 
-  moved-wrong : (v : Verdict) (k o : ℕ) → moved a v ≡ Refused k o → (x : ℕ) × (v ≡ Refused k x) × (o ≡ a + x)
-  moved-wrong Accepted k o e = absurd (apart k o (sym e))
-  moved-wrong (Refused j x) k o e = let q : j ≡ k = cc in let r : a + x ≡ o = cc in (x, rw q, sym r)
+  moved-wrong : (v : Verdict) (k o : ℕ) → moved a v ≡ refuse k o → (x : ℕ) × (v ≡ refuse k x) × (o ≡ a + x)
+  moved-wrong (Ok _) k o e = absurd (apart k o (sym e))
+  moved-wrong (Err r) k o e = let w = same-refusal r.number (a + r.offset) k o e in (r.offset, rw w.0, sym w.1)
 
 module _ (s : List ℕ) where
   -- ---- the control interface is the one that the search finds
@@ -78,8 +77,8 @@ module _ (s : List ℕ) where
 
   -- ---- what comes after 70, 71, 72 and 75, with the control interface at c
   data Ends : Verdict → Type 0 where
-    good : Sound s → Ends Accepted
-    bad : (k o : ℕ) → FirstBroken s k o → Ends (Refused k o)
+    good : Sound s → Ends accept
+    bad : (k o : ℕ) → FirstBroken s k o → Ends (refuse k o)
 
   module _ (c : ℕ) (l : Laid s c) where
     -- ---- the block of a descriptor
@@ -104,21 +103,21 @@ module _ (s : List ℕ) where
 
     -- ---- the streaming blocks
     module _ (t : Table) (o : ℕ) (d : Starts s o) where
-      stream-right : block_verdict s t o ≡ Accepted → StreamRight s t o
+      stream-right : block_verdict s t o ≡ accept → StreamRight s t o
       unfolding block_verdict
       stream-right e =
           let p = (streaming-exactly.accepted t (block_of s o)).0 (moved-right (block_start s o) _ e) in
           record { bytes = block_of s o; block = the_block o d; seen = p.0; sound = p.1 }
 
-      right-stream : StreamRight s t o → block_verdict s t o ≡ Accepted
+      right-stream : StreamRight s t o → block_verdict s t o ≡ accept
       unfolding block_verdict
       right-stream r = rw ((streaming-exactly.accepted t (block_of s o)).1 (r.seen, rw (same_block o d r.bytes r.block) at r.sound))
 
-      wrong-stream : (k x : ℕ) → block_verdict s t o ≡ Refused k x → (y : ℕ) × ((streaming_of t (block_of s o)).verdict ≡ Refused k y) × (x ≡ start_of s o + y)
+      wrong-stream : (k x : ℕ) → block_verdict s t o ≡ refuse k x → (y : ℕ) × ((streaming_of t (block_of s o)).verdict ≡ refuse k y) × (x ≡ start_of s o + y)
       unfolding block_verdict
       wrong-stream k x e = rw (← same_start o d) (moved-wrong (block_start s o) _ k x e)
 
-      stream-wrong : (e : List ℕ) → BlockIs s o e → (k y : ℕ) → streaming-broken.FirstBroken t e k y → block_verdict s t o ≡ Refused k (start_of s o + y)
+      stream-wrong : (e : List ℕ) → BlockIs s o e → (k y : ℕ) → streaming-broken.FirstBroken t e k y → block_verdict s t o ≡ refuse k (start_of s o + y)
       unfolding block_verdict
       stream-wrong e w k y f =
           rw (← same_start o d, (streaming-exactly.refused t (block_of s o) k y).1 (rw (same_block o d e w) at f))
@@ -136,7 +135,7 @@ module _ (s : List ℕ) where
       abbrev T : Table
       T = control.table_of B m
 
-      earlier-right : (i : ℕ) → i < length (listed_in s) → ((j : ℕ) → j < i → block_verdict s T (get_or (listed_in s) j 0) ≡ Accepted) → (p : ℕ) → ListedAt s p → p < get_or (listed_in s) i 0 → StreamRight s T p
+      earlier-right : (i : ℕ) → i < length (listed_in s) → ((j : ℕ) → j < i → block_verdict s T (get_or (listed_in s) j 0) ≡ accept) → (p : ℕ) → ListedAt s p → p < get_or (listed_in s) i 0 → StreamRight s T p
       earlier-right i b h p d z =
           let q = earlier-place i b p d z in
           stream-right T p d.starts (rw q.2 at (h q.0 q.1))
@@ -152,7 +151,7 @@ module _ (s : List ℕ) where
           (bad k (start_of s o + q.0) (by-streaming c B m w n o d (earlier-right i b h) (block_of s o) (the_block o d.starts) k q.0 ((streaming-exactly.refused T (block_of s o) k q.0).0 q.1)))
 
     after-control : (m : List Entity) → ControlRight s c B m → (t : Bool) → entries_named B (streams_of s).streams (streams_of s).count ≡ t
-        → Ends (if_else t Accepted (Refused 73 (block_start s c)) and_then streams_by s (control.table_of B m) (listed_in s))
+        → Ends (if_else t accept (refuse 73 (block_start s c)) and_then streams_by s (control.table_of B m) (listed_in s))
     unfolding if_else
     after-control m w true e = after-73 m w (all_named s c l B e) (streams_by s (control.table_of B m) (listed_in s)) (judged s (control.table_of B m) (listed_in s))
     after-control m w false e = let j = one-unnamed s c l B e in rw (same_start c l.one.starts) (bad 73 (start_of s c) (by-73 c B m w j.0 j.1 j.2))
@@ -160,8 +159,8 @@ module _ (s : List ℕ) where
     after-layout : (a : Control) → control.ControlIs B a → (v : Verdict) → a.verdict ≡ v
         → Ends (moved (block_start s c) v and_then (verdict73 s B (block_start s c) and_then streams_by s a.table (listed_in s)))
     unfolding verdict73
-    after-layout a r (Refused k x) e = rw (same_start c l.one.starts) (bad k (start_of s c + x) (by-control c B l here k x ((control-exactly.refused B a r k x).0 e)))
-    after-layout a r Accepted e =
+    after-layout a r (Err w) e = rw (same_start c l.one.starts) (bad w.number (start_of s c + w.offset) (by-control c B l here w.number w.offset ((control-exactly.refused B a r w.number w.offset).0 e)))
+    after-layout a r accept e =
         let t = control-exactly.tables B r e in
         rw t.2
         (after-control t.0 (record { laid = l; block = here; sound = (control-exactly.accepted B a r).0 e; entities = t.1 }) (entries_named B (streams_of s).streams (streams_of s).count) refl)
@@ -171,13 +170,13 @@ module _ (s : List ℕ) where
     late-ends v r = rw r.same (after-layout r.answer r.read r.answer.verdict refl)
 
     -- ---- the other way round
-    late-control : (b : List ℕ) → BlockIs s c b → (k x : ℕ) → control-broken.FirstBroken b k x → LateIs s c (Refused k (start_of s c + x))
+    late-control : (b : List ℕ) → BlockIs s c b → (k x : ℕ) → control-broken.FirstBroken b k x → LateIs s c (refuse k (start_of s c + x))
     unfolding late_by
     late-control b w k x f =
         record { answer = control.refused_by k x; read = control-exactly.from_first B (rw (same_block c l.one.starts b w) at f); same = rw (same_start c l.one.starts) }
 
     module _ (m : List Entity) (w : ControlRight s c B m) where
-      late-73 : entries_named B (streams_of s).streams (streams_of s).count ≡ false → LateIs s c (Refused 73 (start_of s c))
+      late-73 : entries_named B (streams_of s).streams (streams_of s).count ≡ false → LateIs s c (refuse 73 (start_of s c))
       unfolding late_by verdict73 if_else
       late-73 e = record { answer = control.accepted_with B m; read = control-accepts B w.sound m w.entities; same = rw (e, same_start c l.one.starts) }
 
@@ -191,7 +190,7 @@ module _ (s : List ℕ) where
           }
 
       wrong_first : (o : ℕ) → ListedAt s o → ((p : ℕ) → ListedAt s p → p < o → StreamRight s (control.table_of B m) p) → (e : List ℕ) → BlockIs s o e → (k x : ℕ) → streaming-broken.FirstBroken (control.table_of B m) e k x
-          → Judged s (control.table_of B m) (listed_in s) (Refused k (start_of s o + x))
+          → Judged s (control.table_of B m) (listed_in s) (refuse k (start_of s o + x))
       wrong_first o d h e q k x f =
           let i = place-of s c l o d in
           first-wrong i.0 i.1
@@ -205,7 +204,7 @@ module _ (s : List ℕ) where
     late-found : (v : Verdict) → LateIs s (control_place s) v → LateIs s c v
     late-found v r = rw (place_is c l) at r
 
-    laid_out : layout_verdict s ≡ Accepted
+    laid_out : layout_verdict s ≡ accept
     laid_out = (layout.laid s).1 (c, l)
 
     -- what is said of the control block in words is said of the one that is read
@@ -232,35 +231,35 @@ module _ (s : List ℕ) where
       let l = w.control.laid in
       let T = control.table_of w.block w.entities in
       sound (laid_out c l)
-      (config-streams c l w.block w.entities w.control (same_block c l c l.one.starts w.block w.control.block) w.named Accepted
+      (config-streams c l w.block w.entities w.control (same_block c l c l.one.starts w.block w.control.block) w.named accept
       (all_right (λ i b. let d = listed_at s c l i b in right-stream c l T (get_or (listed_in s) i 0) d.starts (w.blocks (get_or (listed_in s) i 0) d))))
 
   config-ends : {r : Configuration} → ConfigurationIs s r → Ends r.verdict
   unfolding refused_by accepted_with
   config-ends (laid k o e) = bad k o (by_layout k o ((layout.mislaid s k o).0 e))
-  config-ends (blocks k o e r) = let l = (layout.laid s).0 e in late-ends l.0 l.1 (Refused k o) (late-found l.0 l.1 (Refused k o) r)
-  config-ends (sound e r) = let l = (layout.laid s).0 e in late-ends l.0 l.1 Accepted (late-found l.0 l.1 Accepted r)
+  config-ends (blocks k o e r) = let l = (layout.laid s).0 e in late-ends l.0 l.1 (refuse k o) (late-found l.0 l.1 (refuse k o) r)
+  config-ends (sound e r) = let l = (layout.laid s).0 e in late-ends l.0 l.1 accept (late-found l.0 l.1 accept r)
 
   -- ACCEPTED exactly when no rule is broken
-  pub accepted : (r : Configuration) → ConfigurationIs s r → (r.verdict ≡ Accepted) ↔ Sound s
+  pub accepted : (r : Configuration) → ConfigurationIs s r → (r.verdict ≡ accept) ↔ Sound s
   unfolding accepted_with
   accepted r c = (to r.verdict (config-ends c), λ w. ap (λ (x : Configuration). x.verdict) (read-unique s c (config-good w)))
     where
-      to : (v : Verdict) → Ends v → v ≡ Accepted → Sound s
+      to : (v : Verdict) → Ends v → v ≡ accept → Sound s
       to v (good w) e = w
       to v (bad k o f) e = absurd (apart k o e)
 
   -- REFUSED by k at o exactly when k is the first broken rule, at the first place that breaks it
-  pub refused : (r : Configuration) → ConfigurationIs s r → (k o : ℕ) → (r.verdict ≡ Refused k o) ↔ FirstBroken s k o
+  pub refused : (r : Configuration) → ConfigurationIs s r → (k o : ℕ) → (r.verdict ≡ refuse k o) ↔ FirstBroken s k o
   unfolding refused_by
   refused r c k o = (to r.verdict (config-ends c), λ f. ap (λ (x : Configuration). x.verdict) (read-unique s c (config-bad f)))
     where
-      to : (v : Verdict) → Ends v → v ≡ Refused k o → FirstBroken s k o
+      to : (v : Verdict) → Ends v → v ≡ refuse k o → FirstBroken s k o
       to v (good w) e = absurd (apart k o (sym e))
-      to v (bad j p f) e = let x : j ≡ k = cc in let y : p ≡ o = cc in rw (← x, ← y) f
+      to v (bad j p f) e = let w = same-refusal j p k o e in rw (← w.0, ← w.1) f
 
   -- A REFUSED ONE is all zero
-  pub zero-configuration : {r : Configuration} → ConfigurationIs s r → (k o : ℕ) → r.verdict ≡ Refused k o → (r.control ≡ no_block) × (r.count ≡ 0) × (r.streams ≡ replicate interfaces_most no_stream)
+  pub zero-configuration : {r : Configuration} → ConfigurationIs s r → (k o : ℕ) → r.verdict ≡ refuse k o → (r.control ≡ no_block) × (r.count ≡ 0) × (r.streams ≡ replicate interfaces_most no_stream)
   unfolding refused_by accepted_with
   zero-configuration (laid j p e) k o q = (refl, refl, refl)
   zero-configuration (blocks j p e l) k o q = (refl, refl, refl)

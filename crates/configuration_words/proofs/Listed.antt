@@ -1,4 +1,5 @@
 -- What an accepted configuration lists is what its descriptors say, and so are the settings of an interface.
+use Rattle.rules.specs.Verdicts.{accept}
 use Prim.Native.Nat.{ℕ, ◌+◌, ◌-◌, ◌≤◌, ◌<◌}
 use mathlib.Core.Path.{◌≡◌, refl, sym, ◌∙◌}
 use mathlib.Core.List.{List}
@@ -10,7 +11,6 @@ use borrow.Author.Tests.{eq-eqb, ne_eqb}
 use native.Mathlib.Omega.{arith}
 use Rattle.rules.specs.IfElse.{if_else}
 use Rattle.rules.specs.Walk.{Clean}
-use Rattle.rules.specs.declared.Verdict.TheVariants.{Accepted}
 use Rattle.rules.proofs.Firsts.{lt-or-ge}
 use Rattle.rules.proofs.Verdicts.{apart}
 use Rattle.streaming_rules.proofs.Fine.{head-sizes}
@@ -106,7 +106,7 @@ module _ (s : List ℕ) where
       let n : 0 + 6 < block_end s o - block_start s o = omega (arith, simp (length-take, length-drop) at h) in
       sym (get_or-take (block_end s o - block_start s o) (drop (block_start s o) s) (0 + 6) 0 n ∙ get_or-drop (block_start s o) s (0 + 6) 0)
 
-  same_answer : {r : Configuration} → ConfigurationIs s r → r.verdict ≡ Accepted → r ≡ accepted_with s
+  same_answer : {r : Configuration} → ConfigurationIs s r → r.verdict ≡ accept → r ≡ accepted_with s
   unfolding refused_by
   same_answer (laid k o e) q = absurd (apart k o q)
   same_answer (blocks k o e l) q = absurd (apart k o q)
@@ -123,7 +123,7 @@ module _ (s : List ℕ) where
   stands w o d =
       record { number = refl; lies = block-lies s w.control.laid.kept.each o d.starts; endpoint = stream-endpoint w o d }
 
-  pub lists-all : (r : Configuration) → ConfigurationIs s r → r.verdict ≡ Accepted → Lists-all s r
+  pub lists-all : (r : Configuration) → ConfigurationIs s r → r.verdict ≡ accept → Lists-all s r
   unfolding accepted_with block_at
   lists-all r c v =
       let w = (accepted s r c).0 v in

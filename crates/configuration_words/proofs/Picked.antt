@@ -1,4 +1,6 @@
 -- What is picked: 74 exactly where nothing holds the payload size, a setting exactly where it has the fewest bytes of those that hold.
+use Rattle.std.specs.Prelude.{None, Option, Some}
+use Rattle.rules.specs.Verdicts.{accept, refuse}
 use Prim.Native.Nat.{ℕ, ◌<◌}
 use mathlib.Core.Path.{◌≡◌, refl, sym, ap, ◌∙◌}
 use mathlib.Core.List.{List, []}
@@ -10,7 +12,6 @@ use borrow.Author.Tests.{eq-eqb, ne_eqb, eqb-true, eqb-false}
 use native.Mathlib.Omega.{arith}
 use native.Mathlib.Nat.{eq-or-lt_of_le}
 use Rattle.rules.specs.IfElse.{if_else}
-use Rattle.rules.specs.declared.Verdict.TheVariants.{Accepted, Refused}
 use Rattle.rules.proofs.Firsts.{lt-or-ge}
 use Rattle.rules.proofs.Verdicts.{apart, clash, same-refusal}
 use Rattle.rules.proofs.Rows.{given-each}
@@ -27,8 +28,6 @@ use Rattle.interfaces.specs.Inner.{block_of, listed_in, streams_of, place_of}
 use Rattle.alternate_settings.specs.Inner.{settings_of, fewest_of}
 use Rattle.alternate_settings.specs.Holding.{no_setting, Holds, Fewest, NoneHolds}
 use Rattle.alternate_settings.specs.declared.Setting.{Setting}
-use Rattle.alternate_settings.specs.declared.Choice.{Choice}
-use Rattle.alternate_settings.specs.declared.Choice.TheVariants.{At, Nothing}
 use Rattle.alternate_settings.proofs.Picking.{nothing-exactly, fewest-exactly}
 use Rattle.configuration_layout.specs.Broken as layout-broken
 use Rattle.configuration.specs.Inner.{ConfigurationIs}
@@ -158,28 +157,28 @@ module _ (s : List ℕ) where
 
   -- ---- EXACTLY WHEN
   module _ (i p : ℕ) where
-    split : (c : Choice) (z : Setting) → c ≡ Nothing → c ≡ At z → ⊥
+    split : (c : Option Setting) (z : Setting) → c ≡ None → c ≡ Some z → ⊥
     split c z e q = let y : ◌≡◌ {A = ℕ} 0 1 = cc in omega arith
 
-    same-setting : (c : Choice) (y z : Setting) → c ≡ At y → c ≡ At z → y ≡ z
+    same-setting : (c : Option Setting) (y z : Setting) → c ≡ Some y → c ≡ Some z → y ≡ z
     same-setting c y z e q = cc
 
     -- after the configuration's own refusals
-    module _ (c : Configuration) (a : ConfigurationIs s c) (e : c.verdict ≡ Accepted) where
+    module _ (c : Configuration) (a : ConfigurationIs s c) (e : c.verdict ≡ accept) where
       w : Sound s
       w = (accepted s c a).0 e
 
       never : (k o : ℕ) → FirstBroken s k o → ⊥
       never k o f = clash c.verdict k o ((refused s c a k o).1 f) e
 
-      chosen : (h : Choice) → fewest_of p (settings_for s i) ≡ h → Picks s i p (answer_of h)
+      chosen : (h : Option Setting) → fewest_of p (settings_for s i) ≡ h → Picks s i p (answer_of h)
       unfolding answer_of refused_by
-      chosen Nothing q = record {
+      chosen None q = record {
         own-refusal = λ k o n. (λ v. absurd (n (sym (same-refusal 74 0 k o v).0)), λ f. absurd (never k o f));
         no-setting = (λ v. (w, (none_in w i p).0 ((nothing-exactly (settings_for s i) p).0 q)), λ d. refl);
         setting = λ y. (λ v. absurd (apart 74 0 v.0), λ d. absurd (split _ y q ((fewest-exactly (settings_for s i) p y).1 ((picked-in d.0 i p y).1 d.1))));
       }
-      chosen (At z) q = record {
+      chosen (Some z) q = record {
         own-refusal = λ k o n. (λ v. absurd (apart k o (sym v)), λ f. absurd (never k o f));
         no-setting = (λ v. absurd (apart 74 0 (sym v)), λ d. absurd (split _ z ((nothing-exactly (settings_for s i) p).1 ((none_in d.0 i p).1 d.1)) q));
         setting = λ y. (
@@ -198,11 +197,11 @@ module _ (s : List ℕ) where
     }
 
     -- A REFUSED PICK is all zero
-    pub zero-pick : {x : Picked} → PickIs s i p x → (k o : ℕ) → x.verdict ≡ Refused k o → x.setting ≡ no_setting
+    pub zero-pick : {x : Picked} → PickIs s i p x → (k o : ℕ) → x.verdict ≡ refuse k o → x.setting ≡ no_setting
     unfolding answer_of refused_by
     zero-pick (own c j q a e) k o v = refl
     zero-pick (picks c a e) k o v = go (fewest_of p (settings_for s i)) v
       where
-        go : (h : Choice) → (answer_of h).verdict ≡ Refused k o → (answer_of h).setting ≡ no_setting
-        go Nothing v = refl
-        go (At z) v = absurd (apart k o (sym v))
+        go : (h : Option Setting) → (answer_of h).verdict ≡ refuse k o → (answer_of h).setting ≡ no_setting
+        go None v = refl
+        go (Some z) v = absurd (apart k o (sym v))

@@ -1,4 +1,5 @@
 -- The streams of a configuration: the table reads as the list of their descriptors does, and the first block that is refused decides.
+use Rattle.std.specs.Prelude.{Err, Ok}
 use Prim.Native.Nat.{ℕ, zero, suc, ◌≤◌, ◌<◌}
 use mathlib.Core.Path.{◌≡◌, refl, sym, ap, ◌∙◌}
 use mathlib.Core.List.{List, [], ◌∷◌, map}
@@ -9,9 +10,7 @@ use lib.Seq.{take_all}
 use lib.Dec.{eqb}
 use borrow.Author.Tests.{eq-eqb, eqb-true, le-leb, leb-true, leb-false}
 use native.Mathlib.Omega.{arith}
-use Rattle.rules.specs.Verdicts.{◌and_then◌}
-use Rattle.rules.specs.declared.Verdict.{Verdict}
-use Rattle.rules.specs.declared.Verdict.TheVariants.{Accepted, Refused}
+use Rattle.rules.specs.Verdicts.{◌and_then◌, Verdict, accept, refuse}
 use Rattle.rules.proofs.Firsts.{lt-or-ge}
 use Rattle.rules.proofs.Verdicts.{clash}
 use Rattle.rules.proofs.Padded.{pad-at}
@@ -39,20 +38,20 @@ get_d_map f (x ∷ l) (suc i) d h = get_d_map f l i d (omega arith)
 -- ---- the streaming blocks' own, one after the other
 module _ (s : List ℕ) (t : Table) where
   pub data Judged (l : List ℕ) : Verdict → Type 0 where
-    all_right : ((i : ℕ) → i < length l → block_verdict s t (get_or l i 0) ≡ Accepted) → Judged l Accepted
-    first-wrong : (i : ℕ) → i < length l → ((j : ℕ) → j < i → block_verdict s t (get_or l j 0) ≡ Accepted) → (k x : ℕ) → block_verdict s t (get_or l i 0) ≡ Refused k x → Judged l (Refused k x)
+    all_right : ((i : ℕ) → i < length l → block_verdict s t (get_or l i 0) ≡ accept) → Judged l accept
+    first-wrong : (i : ℕ) → i < length l → ((j : ℕ) → j < i → block_verdict s t (get_or l j 0) ≡ accept) → (k x : ℕ) → block_verdict s t (get_or l i 0) ≡ refuse k x → Judged l (refuse k x)
 
   module _ (o : ℕ) (l : List ℕ) where
     stops : (v : Verdict) → block_verdict s t o ≡ v → (w : Verdict) → Judged l w → Judged (o ∷ l) (v and_then w)
-    stops (Refused k x) e w j = first-wrong 0 (omega arith) (λ i h. absurd (omega arith)) k x e
-    stops Accepted e w (all_right h) = all_right right
+    stops (Err r) e w j = first-wrong 0 (omega arith) (λ i h. absurd (omega arith)) r.number r.offset e
+    stops (Ok _) e w (all_right h) = all_right right
       where
-        right : (i : ℕ) → i < suc (length l) → block_verdict s t (get_or (o ∷ l) i 0) ≡ Accepted
+        right : (i : ℕ) → i < suc (length l) → block_verdict s t (get_or (o ∷ l) i 0) ≡ accept
         right zero b = e
         right (suc i) b = h i (omega arith)
-    stops Accepted e w (first-wrong i b h k x q) = first-wrong (suc i) (omega arith) right k x q
+    stops (Ok _) e w (first-wrong i b h k x q) = first-wrong (suc i) (omega arith) right k x q
       where
-        right : (j : ℕ) → j < suc i → block_verdict s t (get_or (o ∷ l) j 0) ≡ Accepted
+        right : (j : ℕ) → j < suc i → block_verdict s t (get_or (o ∷ l) j 0) ≡ accept
         right zero c = e
         right (suc j) c = h j (omega arith)
 
@@ -61,7 +60,7 @@ module _ (s : List ℕ) (t : Table) where
   judged [] = all_right (λ i h. absurd (omega arith))
   judged (o ∷ l) = stops o l (block_verdict s t o) refl (streams_by s t l) (judged l)
 
-  same-wrong : (v : Verdict) (k x j y : ℕ) → v ≡ Refused k x → v ≡ Refused j y → Refused k x ≡ Refused j y
+  same-wrong : (v : Verdict) (k x j y : ℕ) → v ≡ refuse k x → v ≡ refuse j y → refuse k x ≡ refuse j y
   same-wrong v k x j y e q = sym e ∙ q
 
   pub one-judged : (l : List ℕ) (v w : Verdict) → Judged l v → Judged l w → v ≡ w

@@ -1,6 +1,6 @@
 -- Which setting is picked, in document 02's words. `s` is the configuration, `i` an interface number, `p` a payload size.
+use Rattle.rules.specs.Verdicts.{accept, refuse}
 use Rattle.std.specs.Prelude.{ℕ, ◌≤◌, ◌≡◌, List, ◌↔◌}
-use Rattle.rules.specs.declared.Verdict.TheVariants.{Accepted, Refused}
 use Rattle.streaming.specs.Answer.{endpoint_of}
 use Rattle.configuration_rules.specs.Descriptors.{number_at}
 use Rattle.alternate_settings.specs.Inner.{settings_of}
@@ -39,8 +39,8 @@ pub record PickedIn (s : List ℕ) (i p : ℕ) (x : Setting) : Type 0 where
 -- WHAT IS ANSWERED
 pub record Picks (s : List ℕ) (i p : ℕ) (r : Picked) : Type 0 where
   -- the configuration's own refusals
-  pub own-refusal : (k o : ℕ) → (k ≡ 74 → ⊥) → (r.verdict ≡ Refused k o) ↔ FirstBroken s k o
+  pub own-refusal : (k o : ℕ) → (k ≡ 74 → ⊥) → (r.verdict ≡ refuse k o) ↔ FirstBroken s k o
   -- 74: nothing holds the payload size
-  pub no-setting : (r.verdict ≡ Refused 74 0) ↔ (Sound s × ((y : Setting) → HoldsIn s i p y → ⊥))
+  pub no-setting : (r.verdict ≡ refuse 74 0) ↔ (Sound s × ((y : Setting) → HoldsIn s i p y → ⊥))
   -- a setting: it holds it with the fewest bytes, and the lowest number on a tie
-  pub setting : (y : Setting) → ((r.verdict ≡ Accepted) × (r.setting ≡ y)) ↔ (Sound s × PickedIn s i p y)
+  pub setting : (y : Setting) → ((r.verdict ≡ accept) × (r.setting ≡ y)) ↔ (Sound s × PickedIn s i p y)

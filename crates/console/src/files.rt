@@ -14,13 +14,6 @@ const MISSING: i32 = 22;
 
 const TOO_LONG: i32 = 36;
 
-// Whether the file was read, and how many of its bytes stand at the start of the buffer.
-#[derive(Drop)]
-pub struct Loaded {
-    pub fine: bool,
-    pub count: usize,
-}
-
 // Opens the file that argument `which` names. The name is put at the start of the lent buffer, and its length is given beside the file. Where
 // that fails, a line says why.
 pub fn open<R: Files + Env>(rt: &R, which: usize, name: &mut [u8]) -> Option<(R::File, usize)>
@@ -58,25 +51,17 @@ fn opened<R: Files>(rt: &R, name: &[u8]) -> Result<R::File> {
     }
 }
 
-// Reads the file that argument `which` names into the lent buffer, as far as it goes. Where that fails, a line says why.
-pub fn load<R: Files + Env>(rt: &R, which: usize, buf: &mut [u8]) -> Loaded
-    ensures { IsPrefixLen result.count buf.new }
+// Reads the file that argument `which` names into the lent buffer, as far as it goes: how many of its bytes stand there. Where that fails, a line says why.
+pub fn load<R: Files + Env>(rt: &R, which: usize, buf: &mut [u8]) -> Option<usize>
+    ensures { IfSome result (λ n. IsPrefixLen n buf.new) }
 {
     let mut name = io::buffer();
-    let Some((mut file, n)) = open(rt, which, &mut name) else {
-        return Loaded {
-            fine: false,
-            count: 0,
-        };
-    };
+    let (mut file, n) = open(rt, which, &mut name)?;
     match filled(&mut file, buf) {
-        Ok(count) => Loaded { fine: true, count },
+        Ok(count) => Some(count),
         Err(error) => {
             print::failure(&name[..n], &error);
-            Loaded {
-                fine: false,
-                count: 0,
-            }
+            None
         }
     }
 }
@@ -86,6 +71,7 @@ fn filled<R: Read>(from: &mut R, buf: &mut [u8]) -> Result<usize>
     ensures { ReadsAtMost result buf.new }
 {
     let mut done = 0;
+    // What a read gives is the step.
     while done < buf.len() {
         let n = from.read(&mut buf[done..])?;
         if n == 0 {

@@ -1,4 +1,5 @@
 -- A block is refused by a rule of a descriptor, 5 to 12, exactly when that rule comes to be asked there and is broken.
+use Rattle.rules.specs.Verdicts.{refuse}
 use Prim.Native.Nat.{ℕ, ◌≤◌}
 use mathlib.Core.Path.{◌≡◌, refl}
 use mathlib.Core.List.{List}
@@ -7,7 +8,6 @@ use lib.ListN.{length}
 use native.Mathlib.Omega.{arith}
 use Rattle.le.specs.Le.{byte}
 use Rattle.rules.specs.Walk.{FirstBreak, BrokenBy}
-use Rattle.rules.specs.declared.Verdict.TheVariants.{Refused}
 use Rattle.rules.proofs.Walks.{first_by}
 use Rattle.entities.specs.declared.Entity.{Entity}
 use Rattle.control_rules.specs.Descriptors.{revision_of}
@@ -33,7 +33,7 @@ module _ (s : List ℕ) where
   to-broken k a b (by-15 l o z h r c d f) e = absurd (omega arith)
 
   -- EXACTLY WHEN, number by number
-  pub refused-by : (c : Control) → ControlIs s c → (k : ℕ) → 5 ≤ k → k ≤ 12 → (o : ℕ) → (c.verdict ≡ Refused k o) ↔ Broken k o
+  pub refused-by : (c : Control) → ControlIs s c → (k : ℕ) → 5 ≤ k → k ≤ 12 → (o : ℕ) → (c.verdict ≡ refuse k o) ↔ Broken k o
   refused-by c r k a b o = (
     λ e. to-broken k a b ((refused s c r k o).0 e) refl,
     λ x. (refused s c r k o).1 (by-descriptor k o x.0 ((by-rule k o).1 x.1)),

@@ -1,4 +1,6 @@
 -- The entities of a block that breaks no rule: each stands where it says, as its descriptor has it, with an ID of its own, and none is left out.
+use Rattle.std.specs.Prelude.{None, Option, Some}
+use Rattle.rules.specs.Verdicts.{accept}
 use Prim.Native.Nat.{ℕ, zero, suc, ◌+◌, ◌≤◌, ◌<◌}
 use mathlib.Core.Path.{◌≡◌, refl, sym, ap, ◌∙◌}
 use mathlib.Core.List.{List, [], ◌∷◌, ◌++◌, append-nil}
@@ -11,15 +13,12 @@ use native.Mathlib.Omega.{arith}
 use Rattle.le.specs.Le.{byte}
 use Rattle.rules.specs.IfElse.{if_else}
 use Rattle.rules.specs.Walk.{Reached, first, next, Clean}
-use Rattle.rules.specs.declared.Verdict.TheVariants.{Accepted}
 use Rattle.rules.proofs.Firsts.{lt-or-ge}
 use Rattle.rules.proofs.Growing.{at_old, at_new, each_more}
 use Rattle.rules.proofs.Passing.{passes}
 use Rattle.rules.proofs.Rows.{or-first, or-second, and_first, and_second}
 use Rattle.entities.specs.Table.{entities_most, no_entity, entity_at, find_from}
 use Rattle.entities.specs.declared.Entity.{Entity}
-use Rattle.entities.specs.declared.Found.{Found}
-use Rattle.entities.specs.declared.Found.TheVariants.{At, Nothing}
 use Rattle.entities.proofs.Finding.{found_within}
 use Rattle.control_rules.specs.Descriptors.{Kind, selector, extension, revision_of, known_as, kind_of, kind_at, len_at, is_entity, source_place}
 use Rattle.control_rules.specs.Rules.{pin_count, pins_right, entity_of, entities_at}
@@ -141,12 +140,12 @@ module _ (s : List ℕ) where
       whole : Held l (length s)
       whole = held w.descriptors r
 
-      name : (i : ℕ) → i < length l → (q : ℕ) → q < sources_of s (entity_at l i) → (f : Found) → find_from 0 l (source_at s (entity_at l i) q) ≡ f → Named s l (entity_at l i) q
-      name i h q b Nothing e = absurd ((w.sources l r).0 i h (q, b, e))
-      name i h q b (At j) e = record { place = j; inside = found_within l (source_at s (entity_at l i) q) j e; found = e; plain = λ k. (w.sources l r).1 i h (q, b, (j, e, k)) }
+      name : (i : ℕ) → i < length l → (q : ℕ) → q < sources_of s (entity_at l i) → (f : Option ℕ) → find_from 0 l (source_at s (entity_at l i) q) ≡ f → Named s l (entity_at l i) q
+      name i h q b None e = absurd ((w.sources l r).0 i h (q, b, e))
+      name i h q b (Some j) e = record { place = j; inside = found_within l (source_at s (entity_at l i) q) j e; found = e; plain = λ k. (w.sources l r).1 i h (q, b, (j, e, k)) }
 
   -- what an accepted answer lists
-  pub lists : {c : Control} → ControlIs s c → c.verdict ≡ Accepted → (l : List Entity) × Listed s l × (c.table ≡ table_of s l)
+  pub lists : {c : Control} → ControlIs s c → c.verdict ≡ accept → (l : List Entity) × Listed s l × (c.table ≡ table_of s l)
   lists {c} r v = let t = tables s r v in (t.0, listed ((accepted s c r).0 v) t.0 t.1, t.2)
 
   -- an entity's sources lie within its descriptor, and that within the block

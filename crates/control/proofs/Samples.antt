@@ -1,5 +1,6 @@
 -- Document 01's samples of the control block, over the definition that `read` promises; and a block with two paths to one source, and one with a loop that no
 -- output terminal reaches.
+use Rattle.rules.specs.Verdicts.{accept}
 use Prim.Native.Nat.{ℕ}
 use mathlib.Core.Path.{refl}
 use mathlib.Core.List.{List, [], ◌∷◌, ◌++◌}
@@ -8,7 +9,6 @@ use native.Mathlib.Omega.{arith}
 use Rattle.rules.specs.IfElse.{if_else}
 use Rattle.rules.specs.First.{First}
 use Rattle.rules.specs.Walk.{walk_from, walk}
-use Rattle.rules.specs.declared.Verdict.TheVariants.{Accepted}
 use Rattle.entities.specs.Table.{no_table, find_from}
 use Rattle.entities.specs.Revisions.{says_of}
 use Rattle.entities.specs.declared.Entity.{Entity}
@@ -73,7 +73,7 @@ first-here l P p = record { within = omega arith; before = λ i h. absurd (omega
 
 pub record Samples : Type 0 where
   -- P: the header alone: accepted, no entities, 48,000,000 Hz
-  pub header-alone : ControlIs (header 0x0C) (record { verdict = Accepted; table = record { count = 0; entities = no_table.entities; clock = 48000000; revision = R15 } })
+  pub header-alone : ControlIs (header 0x0C) (record { verdict = accept; table = record { count = 0; entities = no_table.entities; clock = 48000000; revision = R15 } })
   -- P: a selector that names itself: 15 at 12. P: one that names nothing: 13 at 12
   pub names-itself : ControlIs (header 0x13 ++ selector 5 5) (refused_by 15 12)
   pub names-nothing : ControlIs (header 0x13 ++ selector 5 6) (refused_by 13 12)

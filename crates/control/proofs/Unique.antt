@@ -1,10 +1,10 @@
 -- The promise of `read` leaves one answer.
+use Rattle.rules.specs.Verdicts.{Verdict}
 use Prim.Native.Nat.{ℕ}
 use mathlib.Core.Path.{◌≡◌, sym, ap, ◌∙◌}
 use mathlib.Core.List.{List}
 use native.Mathlib.Omega.{arith}
 use Rattle.rules.specs.Walk.{Outcome, Outcome.done, Outcome.stop}
-use Rattle.rules.specs.declared.Verdict.{Verdict}
 use Rattle.rules.proofs.Rows.{given-unique, given-none}
 use Rattle.rules.proofs.Verdicts.{apart, same_by}
 use Rattle.entities.specs.declared.Entity.{Entity}

@@ -1,4 +1,5 @@
 -- The walk's invariant, and how it starts, goes on and ends.
+use Rattle.rules.specs.Verdicts.{Verdict, accept, refuse}
 use Prim.Native.Nat.{ℕ, ◌+◌, ◌-◌, ◌≤◌, ◌<◌}
 use mathlib.Core.Path.{◌≡◌, refl, sym, ap, ◌∙◌}
 use mathlib.Core.List.{List, [], ◌∷◌, ◌++◌, append-nil}
@@ -11,13 +12,13 @@ use native.Mathlib.Omega.{arith}
 use Rattle.le.specs.Le.{byte, le32_at}
 use Rattle.rules.specs.IfElse.{if_else}
 use Rattle.rules.specs.Pad.{pad}
-use Rattle.rules.specs.Numbered.{first_row, NoneOf, is_broken}
+use Rattle.std.specs.Prelude.{Ok, Err}
+use Rattle.rules.specs.Numbered.{first_row, NoneOf, is_broken, kept}
+use Rattle.rules.proofs.Kept.{err-is, ok-is, err-above}
 use Rattle.rules.specs.Walk.{Outcome.done, walk, broken_at}
 use Rattle.rules.proofs.Rows.{Numbered, none-broken, row-none, row_gives}
 use Rattle.rules.proofs.Padded.{pad-set}
 use Rattle.rules.proofs.Walks.{Steady, Walking, starts, stops, ends, goes}
-use Rattle.rules.specs.declared.Verdict.{Verdict}
-use Rattle.rules.specs.declared.Verdict.TheVariants.{Accepted, Refused}
 use Rattle.blocks.specs.Blocks.{whole_rows}
 use Rattle.blocks.proofs.Right.{placed, sizes}
 use Rattle.entities.specs.Table.{entities_most, no_entity, no_table, used}
@@ -43,17 +44,17 @@ pub record Fine (s : List ℕ) (o : ℕ) (u : Bool) (n : ℕ) : Type 0 where
 
 pub fine : (s : List ℕ) (o : ℕ) (u : Bool) (n : ℕ) → NoneOf (rows s o u n) → Fine s o u n
 unfolding rows_in kind_rows entity_rows is_broken if_else
-fine s o u n d = let p = placed s o (kept 5) in record {
-  shaped = record { long = p.long; inside = p.inside; right = not-false _ (kept 7) };
-  few = λ e. leb-false entities_most n (rw e at (kept 11));
-  fresh = λ e. rw e at (kept 10);
-  nonzero = λ e. rw e at (kept 9);
-  pins = not-false _ (kept 12);
+fine s o u n d = let p = placed s o (whole 5) in record {
+  shaped = record { long = p.long; inside = p.inside; right = not-false _ (whole 7) };
+  few = λ e. leb-false entities_most n (rw e at (whole 11));
+  fresh = λ e. rw e at (whole 10);
+  nonzero = λ e. rw e at (whole 9);
+  pins = not-false _ (whole 12);
 }
   where
     -- rule k is kept
-    kept : (k : ℕ) → is_broken k (rows s o u n) ≡ false
-    kept k = none-broken (rows s o u n) k d
+    whole : (k : ℕ) → is_broken k (rows s o u n) ≡ false
+    whole k = none-broken (rows s o u n) k d
 
 -- no rule has number 0
 pub head-numbered : (s : List ℕ) → Numbered (head_rows s)
@@ -110,9 +111,9 @@ module _ (s : List ℕ) (t : Table) (m : List ℕ) (o : ℕ) (w : Turn s t m o) 
   same-rule = rw (w.reading.ids (byte s o 3) w.small, w.reading.counted)
 
   -- it breaks a rule
-  pub refuses : (r : ℕ) (x : Control) → NoneOf (head_rows s) → r ≡ rule_here s t m o → (r ≡ 0 → ⊥) → x ≡ refused_by r o → ControlIs s x
-  refuses r x z e n q =
-      rw q (descriptor r o z (stops (course s) w.reading.seen o w.reading.walking r w.inside (sym (e ∙ same-rule)) n))
+  pub refuses : (r : ℕ) (x : Control) → NoneOf (head_rows s) → Err r ≡ kept (rule_here s t m o) → x ≡ refused_by r o → ControlIs s x
+  refuses r x z e q =
+      rw q (descriptor r o z (stops (course s) w.reading.seen o w.reading.walking r w.inside (sym same-rule ∙ err-is r _ e) (λ n. omega (arith, err-above r _ e, n))))
 
   -- it breaks none
   module _ (none : rule_here s t m o ≡ 0) where
@@ -174,15 +175,15 @@ module _ (s : List ℕ) (t : Table) (m : List ℕ) (o : ℕ) (w : Reading s t m 
     walked : walk (course s) ≡ done w.seen
     walked = ends (course s) w.seen o w.walking h
 
-    pub accepts : (k : ℕ) (x : Revision) → v ≡ Accepted → k ≡ le32_at s 7 → x ≡ revision_of s → ControlIs s (record { verdict = Accepted; table = record { count = t.count; entities = t.entities; clock = k; revision = x } })
+    pub accepts : (k : ℕ) (x : Revision) → v ≡ accept → k ≡ le32_at s 7 → x ≡ revision_of s → ControlIs s (record { verdict = accept; table = record { count = t.count; entities = t.entities; clock = k; revision = x } })
     accepts k x e q y = rw (q, y, w.kept, w.counted) (sound w.seen z walked (rw (e, all-used) at j))
 
-    pub rejects : (k p : ℕ) (x : Control) → v ≡ Refused k p → x ≡ refused_by k p → ControlIs s x
+    pub rejects : (k p : ℕ) (x : Control) → v ≡ refuse k p → x ≡ refused_by k p → ControlIs s x
     rejects k p x e q = rw q (source w.seen k p z walked (rw (e, all-used) at j))
 
 -- ---- before the walk
-pub head-bad : (s : List ℕ) (r : ℕ) (x : Control) → r ≡ first_row (head_rows s) → (r ≡ 0 → ⊥) → x ≡ refused_by r 0 → ControlIs s x
-head-bad s r x e n q = rw q (block r (row_gives (head_rows s) r e n))
+pub head-bad : (s : List ℕ) (r : ℕ) (x : Control) → Err r ≡ kept (first_row (head_rows s)) → x ≡ refused_by r 0 → ControlIs s x
+head-bad s r x e q = rw q (block r (row_gives (head_rows s) r (sym (err-is r _ e)) (λ n. omega (arith, err-above r _ e, n))))
 
-pub head-right : (s : List ℕ) (r : ℕ) → r ≡ first_row (head_rows s) → r ≡ 0 → NoneOf (head_rows s)
-head-right s r e z = row-none (head_rows s) (head-numbered s) (sym e ∙ z)
+pub head-right : (s : List ℕ) (u : Unit {0}) → Ok u ≡ kept (first_row (head_rows s)) → NoneOf (head_rows s)
+head-right s u e = row-none (head_rows s) (head-numbered s) (ok-is u _ e)

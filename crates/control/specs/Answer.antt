@@ -1,10 +1,10 @@
 -- What reading a control block answers. `s` is the block.
+use Rattle.rules.specs.Verdicts.{accept, refuse}
 use Rattle.std.specs.Prelude.{ℕ, ◌≡◌, List, [], ◌∷◌, ◌++◌, Bool, false, ◌||◌, length, eqb}
 use Rattle.le.specs.Le.{byte, le32_at}
 use Rattle.rules.specs.Numbered.{Given, NoneOf}
 use Rattle.rules.specs.Walk.{Course, Outcome.done, Outcome.stop, walk}
 use Rattle.rules.specs.Pad.{pad}
-use Rattle.rules.specs.declared.Verdict.TheVariants.{Accepted, Refused}
 use Rattle.entities.specs.Table.{entities_most, no_entity, no_table}
 use Rattle.entities.specs.declared.Entity.{Entity}
 use Rattle.entities.specs.declared.Table.{Table}
@@ -30,13 +30,13 @@ course s = record {
 
 -- refused: an all-zero table that says 1.5. Accepted: the entities in block order, unused places zero, the clock frequency and the revision
 abbrev pub refused_by : ℕ → ℕ → Control
-refused_by k o = record { verdict = Refused k o; table = no_table }
+refused_by k o = record { verdict = refuse k o; table = no_table }
 
 abbrev pub table_of : List ℕ → List Entity → Table
 table_of s seen = record { count = length seen; entities = pad entities_most no_entity seen; clock = le32_at s 7; revision = revision_of s }
 
 abbrev pub accepted_with : List ℕ → List Entity → Control
-accepted_with s seen = record { verdict = Accepted; table = table_of s seen }
+accepted_with s seen = record { verdict = accept; table = table_of s seen }
 
 pub data ControlIs (s : List ℕ) : Control → Type 0 where
   -- 1 to 4: the first that the block breaks, at 0
@@ -44,6 +44,6 @@ pub data ControlIs (s : List ℕ) : Control → Type 0 where
   -- 5 to 12: the first that a descriptor breaks, at the first descriptor that breaks one
   descriptor : (k o : ℕ) → NoneOf (head_rows s) → walk (course s) ≡ stop k o → ControlIs s (refused_by k o)
   -- 13 to 15: number by number, each at the first entity in block order that breaks it
-  source : (seen : List Entity) (k o : ℕ) → NoneOf (head_rows s) → walk (course s) ≡ done seen → Judged s seen (Refused k o) → ControlIs s (refused_by k o)
+  source : (seen : List Entity) (k o : ℕ) → NoneOf (head_rows s) → walk (course s) ≡ done seen → Judged s seen (refuse k o) → ControlIs s (refused_by k o)
   -- none is broken
-  sound : (seen : List Entity) → NoneOf (head_rows s) → walk (course s) ≡ done seen → Judged s seen Accepted → ControlIs s (accepted_with s seen)
+  sound : (seen : List Entity) → NoneOf (head_rows s) → walk (course s) ≡ done seen → Judged s seen accept → ControlIs s (accepted_with s seen)

@@ -5,7 +5,7 @@ use Rattle.rules.specs.Walk.{Reached, Clean, FirstBreak}
 use Rattle.entities.specs.Table.{entity_at}
 use Rattle.entities.specs.declared.Entity.{Entity}
 use Rattle.control_rules.specs.Rules.{head_rows}
-use Rattle.sources.specs.Sources.{Breaks13, Breaks14, Breaks15, None}
+use Rattle.sources.specs.Sources.{Breaks13, Breaks14, Breaks15, NoEntity}
 use Rattle.control.specs.Answer.{course}
 
 -- the block breaks none of 1 to 4
@@ -20,7 +20,7 @@ Entities s seen = Reached (course s) seen (length s)
 pub record Sound (s : List ℕ) : Type 0 where
   pub block : BlockRight s
   pub descriptors : Clean (course s)
-  pub sources : (seen : List Entity) → Entities s seen → None seen (Breaks13 s seen) × None seen (Breaks14 s seen) × None seen (Breaks15 s seen)
+  pub sources : (seen : List Entity) → Entities s seen → NoEntity seen (Breaks13 s seen) × NoEntity seen (Breaks14 s seen) × NoEntity seen (Breaks15 s seen)
 
 -- the first entity in block order that breaks the rule stands at o
 pub record FirstEntity (seen : List Entity) (P : ℕ → Type 0) (o : ℕ) : Type 0 where
@@ -35,8 +35,8 @@ pub data FirstBroken (s : List ℕ) : ℕ → ℕ → Type 0 where
   by-block : (k : ℕ) → Given (head_rows s) k → FirstBroken s k 0
   by-descriptor : (k o : ℕ) → BlockRight s → FirstBreak (course s) k o → FirstBroken s k o
   by-13 : (seen : List Entity) (o : ℕ) → BlockRight s → Clean (course s) → Entities s seen → FirstEntity seen (Breaks13 s seen) o → FirstBroken s 13 o
-  by-14 : (seen : List Entity) (o : ℕ) → BlockRight s → Clean (course s) → Entities s seen → None seen (Breaks13 s seen) → FirstEntity seen (Breaks14 s seen) o → FirstBroken s 14 o
-  by-15 : (seen : List Entity) (o : ℕ) → BlockRight s → Clean (course s) → Entities s seen → None seen (Breaks13 s seen) → None seen (Breaks14 s seen) → FirstEntity seen (Breaks15 s seen) o → FirstBroken s 15 o
+  by-14 : (seen : List Entity) (o : ℕ) → BlockRight s → Clean (course s) → Entities s seen → NoEntity seen (Breaks13 s seen) → FirstEntity seen (Breaks14 s seen) o → FirstBroken s 14 o
+  by-15 : (seen : List Entity) (o : ℕ) → BlockRight s → Clean (course s) → Entities s seen → NoEntity seen (Breaks13 s seen) → NoEntity seen (Breaks14 s seen) → FirstEntity seen (Breaks15 s seen) o → FirstBroken s 15 o
 
 -- A LOOP: nothing earlier is broken, and the first entity that is on a chain of sources that returns to its start stands at o
 pub record Looped (s : List ℕ) (o : ℕ) : Type 0 where
@@ -44,6 +44,6 @@ pub record Looped (s : List ℕ) (o : ℕ) : Type 0 where
   pub descriptors : Clean (course s)
   pub seen : List Entity
   pub entities : Entities s seen
-  pub found : None seen (Breaks13 s seen)
-  pub plain : None seen (Breaks14 s seen)
+  pub found : NoEntity seen (Breaks13 s seen)
+  pub plain : NoEntity seen (Breaks14 s seen)
   pub loop : FirstEntity seen (Breaks15 s seen) o

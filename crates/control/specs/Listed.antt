@@ -1,12 +1,11 @@
 -- What an accepted control block says of its entities, in document 01's words: of each in block order, with the descriptor that it was read from.
 -- `s` is the block, `l` its entities.
-use Rattle.std.specs.Prelude.{ℕ, ◌≤◌, ◌<◌, ◌≡◌, List, true, length, take}
+use Rattle.std.specs.Prelude.{ℕ, ◌≤◌, ◌<◌, ◌≡◌, List, true, length, take, Some}
 use Rattle.le.specs.Le.{byte}
 use Rattle.rules.specs.Walk as walk
 use Rattle.rules.specs.Chain.{OnLoop}
 use Rattle.entities.specs.Table.{entities_most, output_terminal, entity_at, find_from}
 use Rattle.entities.specs.declared.Entity.{Entity}
-use Rattle.entities.specs.declared.Found.TheVariants.{At}
 use Rattle.control_rules.specs.Descriptors.{selector, extension, kind_at, is_entity, Shaped}
 use Rattle.control_rules.specs.Rules.{entity_of}
 use Rattle.sources.specs.Sources.{sources_of, source_at, Feeds}
@@ -37,7 +36,7 @@ Distinct l = (i j : ℕ) → i < length l → j < length l → (entity_at l i).i
 pub record Named (s : List ℕ) (l : List Entity) (e : Entity) (q : ℕ) : Type 0 where
   pub place : ℕ
   pub inside : place < length l
-  pub found : find_from 0 l (source_at s e q) ≡ At place
+  pub found : find_from 0 l (source_at s e q) ≡ Some place
   pub plain : (entity_at l place).kind ≡ output_terminal → ⊥
 
 pub record Listed (s : List ℕ) (l : List Entity) : Type 0 where

@@ -7,9 +7,9 @@ ghost use Rattle.control_rules.specs.Rules.{head_rows};
 ghost use Rattle.control.specs.Answer.{ControlIs, refused_by};
 
 use entities::Table;
-use rules::Verdict;
+use rules::{Refused, Verdict};
 
-// The verdict, and the entity table: all zero, and of revision 1.5, where the block is refused.
+// The verdict, and the entity table: all zero, and of revision 1.5, where the block is refused. (No Result: `zero-table` says so of the table.)
 #[derive(Drop)]
 pub struct Control {
     pub verdict: Verdict,
@@ -20,9 +20,8 @@ pub struct Control {
 pub fn read(block: &[u8]) -> Control
     ensures { ControlIs block.now result }
 {
-    let broken = control_rules::head_rule(block);
-    if broken != 0 {
-        return refused(broken, 0);
+    if let Err(number) = control_rules::head_rule(block) {
+        return refused(number, 0);
     }
     walk(block)
 }
@@ -35,12 +34,12 @@ fn walk(s: &[u8]) -> Control
     let revision = control_rules::revision_of(s);
     let mut table = entities::no_table();
     let mut marks = used_ids::none();
+    // A descriptor's own length is the step.
     let mut at: usize = 0;
     while at < s.len() {
         let count = table.count;
-        let broken = control_rules::rule_at(s, at, count, &marks, revision);
-        if broken != 0 {
-            return refused(broken, at);
+        if let Err(number) = control_rules::rule_at(s, at, count, &marks, revision) {
+            return refused(number, at);
         }
         if control_rules::is_entity(control_rules::known_as(revision, s[at + 2])) {
             used_ids::with(&mut marks, s[at + 3]);
@@ -50,7 +49,7 @@ fn walk(s: &[u8]) -> Control
         at = at + le::wide(s[at]);
     }
     match sources::judge(s, table) {
-        Verdict::Accepted => {
+        Ok(()) => {
             let table = Table {
                 count: table.count,
                 entities: table.entities,
@@ -58,11 +57,11 @@ fn walk(s: &[u8]) -> Control
                 revision,
             };
             Control {
-                verdict: Verdict::Accepted,
+                verdict: Ok(()),
                 table,
             }
         }
-        Verdict::Refused { number, offset } => refused(number, offset),
+        Err(Refused { number, offset }) => refused(number, offset),
     }
 }
 
@@ -71,7 +70,7 @@ fn refused(number: u8, offset: usize) -> Control
 {
     let table = entities::no_table();
     Control {
-        verdict: Verdict::Refused { number, offset },
+        verdict: Err(Refused { number, offset }),
         table,
     }
 }

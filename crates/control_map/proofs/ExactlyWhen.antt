@@ -1,5 +1,6 @@
 -- The block's own refusal exactly when the block is refused; 16 at 0 exactly when it is accepted and no camera terminal or processing unit has the ID; else the
 -- control size at the place that the document names, and as many bytes behind it.
+use Rattle.rules.specs.Verdicts.{accept}
 use Prim.Native.Nat.{ℕ, ◌+◌, ◌≤◌, ◌<◌}
 use mathlib.Core.Path.{◌≡◌, refl, sym, ◌∙◌, ap}
 use mathlib.Core.List.{List}
@@ -7,7 +8,6 @@ use mathlib.Core.Logic.{◌↔◌}
 use lib.ListN.{length}
 use native.Mathlib.Omega.{arith}
 use Rattle.le.specs.Le.{byte}
-use Rattle.rules.specs.declared.Verdict.TheVariants.{Accepted, Refused}
 use Rattle.entities.specs.Table.{entity_at}
 use Rattle.entities.specs.declared.Entity.{Entity}
 use Rattle.control_rules.specs.Descriptors.{input, revision_of, known_as, kind_of, kind_at, len_at, terminal_of, camera, ControlsAt, ControlsAt.camera-terminal, ControlsAt.processing-unit}
@@ -30,7 +30,7 @@ given-apart : (s : List ℕ) (o n k p : ℕ) → controls_at s o n ≡ refused_m
 given-apart s o n k p e = verdicts.apart k p (sym (verdict-of _ _ e))
 
 same_number : (j p k o : ℕ) → refused_map j p ≡ refused_map k o → (j ≡ k) × (p ≡ o)
-same_number j p k o e = let z : Refused j p ≡ Refused k o = verdict-of _ _ e in let x : j ≡ k = cc in let y : p ≡ o = cc in (x, y)
+same_number j p k o e = verdicts.same-refusal j p k o (verdict-of _ _ e)
 
 -- an input terminal with controls is a camera; nothing but input terminals and processing units has any
 of-camera : {t n : ℕ} → ControlsAt input t n → t ≡ camera
@@ -68,12 +68,12 @@ module _ (s : List ℕ) (id : ℕ) where
   pub sixteen-given : (r : Map) → MapIs s id r → (r ≡ refused_map 16 0) ↔ Unmapped s id
   sixteen-given r m = (to-sixteen m, λ u. controls-unique s id m (sixteen u.seen u.with u.none))
 
-  to-bytes : {r : Map} → MapIs s id r → r.verdict ≡ Accepted → MappedAt s id r
+  to-bytes : {r : Map} → MapIs s id r → r.verdict ≡ accept → MappedAt s id r
   to-bytes (own j p q) e = absurd (verdicts.apart j p e)
   to-bytes (given l w i n m) e = record { seen = l; with = w; entity = i; place = n; mapped = m; bytes = refl }
   to-bytes (sixteen l w n) e = absurd (verdicts.apart 16 0 e)
 
-  pub bytes-given : (r : Map) → MapIs s id r → (r.verdict ≡ Accepted) ↔ MappedAt s id r
+  pub bytes-given : (r : Map) → MapIs s id r → (r.verdict ≡ accept) ↔ MappedAt s id r
   bytes-given r m = (to-bytes m, λ u. verdict-of _ _ u.bytes)
 
   -- ---- an entity of the ID, in an accepted block

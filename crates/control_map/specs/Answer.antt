@@ -1,9 +1,9 @@
 -- Documents 01 and 02 (request Four): the control-map reader takes a block and an ID and gives the control bytes of that camera terminal or processing unit, with
 -- their length.
+use Rattle.rules.specs.Verdicts.{accept, refuse}
 use Rattle.std.specs.Prelude.{ℕ, zero, suc, ◌+◌, ◌<◌, ◌≡◌, List, [], ◌∷◌, ◌++◌, length, get_or, replicate, leb}
 use Rattle.le.specs.Le.{byte}
 use Rattle.rules.specs.IfElse.{if_else}
-use Rattle.rules.specs.declared.Verdict.TheVariants.{Accepted, Refused}
 use Rattle.entities.specs.Table.{entity_at}
 use Rattle.entities.specs.declared.Entity.{Entity}
 use Rattle.control_rules.specs.Descriptors.{kind_of, ControlsAt}
@@ -44,11 +44,11 @@ control_bytes s o n = first_controls s o n controls_most
 
 -- the control size at a place of the descriptor at o, and the controls behind it
 abbrev pub controls_at : List ℕ → ℕ → ℕ → Map
-controls_at s o place = record { verdict = Accepted; length = byte s o place; bytes = control_bytes s (o + place + 1) (byte s o place) }
+controls_at s o place = record { verdict = accept; length = byte s o place; bytes = control_bytes s (o + place + 1) (byte s o place) }
 
 -- refused: no controls
 abbrev pub refused_map : ℕ → ℕ → Map
-refused_map k o = record { verdict = Refused k o; length = 0; bytes = replicate controls_most 0 }
+refused_map k o = record { verdict = refuse k o; length = 0; bytes = replicate controls_most 0 }
 
 pub data MapIs (s : List ℕ) (id : ℕ) : Map → Type 0 where
   -- the block's own refusal

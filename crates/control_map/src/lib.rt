@@ -1,8 +1,8 @@
 // The control-map reader: the control bytes of a camera terminal or a processing unit, and how many there are.
 #![tactic(auto)]
 
+ghost use Rattle.rules.specs.Verdicts.{accept};
 ghost use Rattle.std.specs.Prelude.{◌≡◌, ◌<◌};
-ghost use Rattle.rules.specs.declared.Verdict.TheVariants.{Accepted};
 ghost use Rattle.entities.specs.Table.{found_among};
 ghost use Rattle.control_rules.specs.Descriptors.{kind_of};
 ghost use Rattle.control.specs.Answer.{ControlIs};
@@ -10,25 +10,18 @@ ghost use Rattle.control_map.specs.Answer.{MapIs, controls_most, control_byte, c
 ghost use Rattle.control_map.specs.Inner.{camera_place, place_by, place_of, map_by};
 
 use control_rules::CAMERA;
-use entities::{ENTITIES_MOST, Entity, Found, Table};
-use rules::Verdict;
+use entities::{ENTITIES_MOST, Entity, Table};
+use rules::{Refused, Verdict};
 
 // The most control bytes that a revision allows, and the places for them.
 pub const CONTROLS_MOST: usize = 32;
 
-// The verdict: accepted, the block's own refusal, or 16 at 0. The first `length` bytes are the controls, and the rest are 0.
+// The verdict: accepted, the block's own refusal, or 16 at 0. The first `length` bytes are the controls, and the rest are 0. (No Result: `MapIs` says what they are of a refusal.)
 #[derive(Clone, Copy)]
 pub struct Map {
     pub verdict: Verdict,
     pub length: u8,
     pub bytes: [u8; CONTROLS_MOST],
-}
-
-// Where an entity's control size stands in its descriptor.
-#[derive(Drop)]
-enum Place {
-    At(u8),
-    Nowhere,
 }
 
 // Reads the block, and the controls of the camera terminal or processing unit that has the ID.
@@ -39,20 +32,20 @@ pub fn controls(block: &[u8], id: u8) -> Map
     let verdict = c.verdict;
     let table = c.table;
     match verdict {
-        Verdict::Accepted => find_controls(block, table, id),
-        Verdict::Refused { number, offset } => refused(number, offset),
+        Ok(()) => find_controls(block, table, id),
+        Err(Refused { number, offset }) => refused(number, offset),
     }
 }
 
 // Inner: the same in a block that was accepted with this table.
 pub fn find_controls(s: &[u8], table: Table, id: u8) -> Map
-    requires { ControlIs s.now (record { verdict = Accepted; table = table }) }
+    requires { ControlIs s.now (record { verdict = accept; table = table }) }
     ensures { MapIs s.now id result }
 {
     let entities = table.entities;
     match place_among(entities, table.count, id) {
-        Found::Nothing => refused(16, 0),
-        Found::At(i) => {
+        None => refused(16, 0),
+        Some(i) => {
             let e = table.entities[i];
             controls_of(s, e)
         }
@@ -60,7 +53,7 @@ pub fn find_controls(s: &[u8], table: Table, id: u8) -> Map
 }
 
 // The place of the ID among the table's places, which are lent to the scan.
-fn place_among(entities: [Entity; ENTITIES_MOST], count: usize, id: u8) -> Found
+fn place_among(entities: [Entity; ENTITIES_MOST], count: usize, id: u8) -> Option<usize>
     ensures { result ≡ found_among entities count id }
 {
     entities::find_lent(&entities, count, id)
@@ -71,8 +64,8 @@ fn controls_of(s: &[u8], e: Entity) -> Map
     ensures { result ≡ map_by s.now e (place_of e) }
 {
     match controls_place(e.kind, e.terminal) {
-        Place::Nowhere => refused(16, 0),
-        Place::At(place) => controls_at(s, e.offset, place),
+        None => refused(16, 0),
+        Some(place) => controls_at(s, e.offset, place),
     }
 }
 
@@ -84,7 +77,7 @@ fn controls_at(s: &[u8], offset: u16, place: u8) -> Map
     let length = le::byte_at(s, at);
     let bytes = control_bytes(s, at + 1, le::wide(length));
     Map {
-        verdict: Verdict::Accepted,
+        verdict: Ok(()),
         length,
         bytes,
     }
@@ -96,10 +89,8 @@ fn control_bytes(s: &[u8], at: usize, n: usize) -> [u8; CONTROLS_MOST]
     ensures { result ≡ control_bytes s.now at n }
 {
     let mut bytes = [0u8; CONTROLS_MOST];
-    let mut i: usize = 0;
-    while i < CONTROLS_MOST {
-        bytes[i] = control_byte(s, at, n, i);
-        i = i + 1;
+    for (i, byte) in bytes.iter_mut().enumerate() {
+        *byte = control_byte(s, at, n, i);
     }
     bytes
 }
@@ -119,28 +110,28 @@ fn refused(number: u8, offset: usize) -> Map
 {
     let bytes = [0u8; CONTROLS_MOST];
     Map {
-        verdict: Verdict::Refused { number, offset },
+        verdict: Err(Refused { number, offset }),
         length: 0,
         bytes,
     }
 }
 
 // Where the control size stands in the descriptor, by the subtype.
-fn controls_place(kind: u8, terminal: u16) -> Place
+fn controls_place(kind: u8, terminal: u16) -> Option<u8>
     ensures { result ≡ place_by (kind_of kind) terminal }
 {
     match kind {
         2 => camera_place(terminal),
-        5 => Place::At(7),
-        _ => Place::Nowhere,
+        5 => Some(7),
+        _ => None,
     }
 }
 
-fn camera_place(terminal: u16) -> Place
+fn camera_place(terminal: u16) -> Option<u8>
     ensures { result ≡ camera_place terminal }
 {
     if terminal == CAMERA {
-        return Place::At(14);
+        return Some(14);
     }
-    Place::Nowhere
+    None
 }

@@ -5,7 +5,8 @@ use mathlib.Core.List.{List}
 use mathlib.Core.Bool.{Bool, true, false, not, ◌&&◌, true≢false}
 use lib.ListN.{length}
 use borrow.Author.Tests.{not-true, not-false}
-use Rattle.rules.specs.Numbered.{first_row}
+use Rattle.std.specs.Prelude.{Ok}
+use Rattle.rules.specs.Numbered.{first_row, kept}
 use Rattle.blocks.specs.Blocks.{length_broken}
 use Rattle.blocks.proofs.Right.{said-placed}
 use Rattle.entities.specs.declared.Revision.{Revision}
@@ -29,7 +30,7 @@ pub entity-room : (k : Kind) (s : List ℕ) (o : ℕ) (e : Bool) → e ≡ is_en
 entity-room k s o e h i p = id-room k s o p (sym h ∙ not-false e i)
 
 -- 9 to 12 of what is no entity
-pub no-entity : (k : Kind) (s : List ℕ) (o : ℕ) (u : Bool) (n : ℕ) (e : Bool) → e ≡ is_entity k → not e ≡ true → 0 ≡ first_row (entity_rows k s o u n)
+pub no-entity : (k : Kind) (s : List ℕ) (o : ℕ) (u : Bool) (n : ℕ) (e : Bool) → e ≡ is_entity k → not e ≡ true → Ok tt ≡ kept (first_row (entity_rows k s o u n))
 unfolding entity_rows
 no-entity k s o u n e h i = let f : is_entity k ≡ false = sym h ∙ not-true e i in rw (f, pins-none k s o f)
 

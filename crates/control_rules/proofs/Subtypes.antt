@@ -4,16 +4,15 @@ use mathlib.Core.Path.{◌≡◌, refl, sym}
 use mathlib.Core.List.{List}
 use mathlib.Core.Bool.{Bool, true, false, true≢false}
 use lib.ListN.{length}
-use lib.Dec.{leb, eqb}
-use borrow.Author.Tests.{lt-leb, le-leb, eq-eqb, ne_eqb, eqb-true}
+use lib.Dec.{eqb}
+use borrow.Author.Tests.{eqb-true}
 use native.Mathlib.Omega.{arith}
 use Rattle.le.specs.Le.{le16_at}
 use Rattle.rules.specs.IfElse.{if_else}
 use Rattle.entities.specs.Revisions.{says_of}
 use Rattle.entities.specs.declared.Revision.{Revision}
-use Rattle.entities.specs.declared.Says.{Says}
 use Rattle.control_rules.specs.Descriptors.{known_as, kind_of, is_entity, terminal_of, Shaped}
-use Rattle.control_rules.specs.Rules.{pins_right, is_revision, revision_right, pin_count}
+use Rattle.control_rules.specs.Rules.{pins_right, revision_right}
 use Rattle.control_rules.proofs.Shortest.{by_kind, shortest, room}
 
 module _ (s : List ℕ) (o : ℕ) where
@@ -67,40 +66,6 @@ unfolding is_entity
 entity-above =
     by_kind (λ x k. 7 < x → false ≡ is_entity k)
     (λ a. refl) (λ a. absurd (omega arith)) (λ a. absurd (omega arith)) (λ a. absurd (omega arith)) (λ a. absurd (omega arith)) (λ a. absurd (omega arith)) (λ a. absurd (omega arith)) (λ a. refl) (λ n l a. refl)
-
-pub pin-none : (p : ℕ) → p < 1 → false ≡ pin_count p
-unfolding pin_count
-pin-none p h = rw (lt-leb 1 p h)
-
-pub pin-some : (p : ℕ) → 1 ≤ p → leb p 16 ≡ pin_count p
-unfolding pin_count
-pin-some p h = rw (le-leb 1 p h)
-
--- ---- the revision
-pub is-10 : (x : ℕ) → x ≡ 0x0100 → true ≡ is_revision x
-unfolding is_revision
-is-10 x h = rw (eq-eqb x 0x0100 h)
-
-pub is-11 : (x : ℕ) → (x ≡ 0x0100 → ⊥) → x ≡ 0x0110 → true ≡ is_revision x
-unfolding is_revision
-is-11 x n h = rw (ne_eqb x 0x0100 n, eq-eqb x 0x0110 h)
-
-pub is-15 : (x : ℕ) → (x ≡ 0x0100 → ⊥) → (x ≡ 0x0110 → ⊥) → eqb x 0x0150 ≡ is_revision x
-unfolding is_revision
-is-15 x n m = rw (ne_eqb x 0x0100 n, ne_eqb x 0x0110 m)
-
-pub known-other : (v : Revision) (x : ℕ) → (x ≡ 7 → ⊥) → x ≡ known_as v x
-unfolding known_as if_else
-known-other v x n = rw (ne_eqb x 7 n)
-
-module _ (v : Revision) (y : Says) (e : y ≡ says_of v) (x : ℕ) (h : x ≡ 7) where
-  pub known-yes : y.encoding ≡ true → 7 ≡ known_as v x
-  unfolding known_as if_else
-  known-yes q = rw (h, ← e, q)
-
-  pub known-no : y.encoding ≡ false → 0 ≡ known_as v x
-  unfolding known_as if_else
-  known-no q = rw (h, ← e, q)
 
 -- an entity's subtype is known to its revision
 pub entity-known : (v : Revision) (x : ℕ) → is_entity (kind_of (known_as v x)) ≡ true → known_as v x ≡ x

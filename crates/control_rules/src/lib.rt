@@ -5,7 +5,7 @@ mod shape;
 
 ghost use Rattle.std.specs.Prelude.{◌≡◌, ◌+◌, ◌<◌, ◌≤◌, length, true};
 ghost use Rattle.le.specs.Le.{byte};
-ghost use Rattle.rules.specs.Numbered.{first_row};
+ghost use Rattle.rules.specs.Numbered.{first_row, kept};
 ghost use Rattle.used_ids.specs.Marks.{marked};
 ghost use Rattle.control_rules.specs.Descriptors.{len_at, revision_by, revision_of, known_as, kind_of, kind_at, is_entity, terminal_of, Shaped};
 ghost use Rattle.control_rules.specs.Rules.{limits, head_rows, rows_in, kind_rows, entity_rows, is_revision, revision_right, pin_count, pins_right, entity_of};
@@ -32,11 +32,14 @@ const REVISION_15: u16 = 0x0150;
 // The terminal type of a camera.
 pub const CAMERA: u16 = 0x0201;
 
-// The first of rules 1 to 4 that the block breaks; 0 where none is broken.
-pub fn head_rule(s: &[u8]) -> u8
-    ensures { result ≡ first_row (head_rows s.now) }
+// The first of rules 1 to 4 that the block breaks.
+pub fn head_rule(s: &[u8]) -> Result<(), u8>
+    ensures { result ≡ kept (first_row (head_rows s.now)) }
 {
-    blocks::whole_rule(s, LIMITS)
+    match blocks::whole_rule(s, LIMITS) {
+        0 => Ok(()),
+        number => Err(number),
+    }
 }
 
 // Inner: the block has its header's bytes. The revision that it is read by.
@@ -47,6 +50,7 @@ pub fn revision_of(s: &[u8]) -> Revision
     revision_by(le::le16(s, 3))
 }
 
+#[tactic(auto, unfolding(crate::specs::Descriptors::revision_by, rules::specs::IfElse::if_else))]
 fn revision_by(bcd: u16) -> Revision
     ensures { result ≡ revision_by bcd }
 {
@@ -60,6 +64,7 @@ fn revision_by(bcd: u16) -> Revision
 }
 
 // The subtype as the revision reads it: 0, which is unknown, for an encoding unit where there are none.
+#[tactic(auto, unfolding(crate::specs::Descriptors::known_as, rules::specs::IfElse::if_else))]
 pub fn known_as(revision: Revision, sub: u8) -> u8
     ensures { result ≡ known_as revision sub }
 {
@@ -73,16 +78,22 @@ pub fn known_as(revision: Revision, sub: u8) -> u8
 }
 
 // Inner: a descriptor starts at `at`, and the revision is the block's.
-// The first of rules 5 to 12 that it breaks, after `count` entities whose IDs are marked; 0 where none is broken.
-pub fn rule_at(s: &[u8], at: usize, count: usize, marks: &Marks, revision: Revision) -> u8
+// The first of rules 5 to 12 that it breaks, after `count` entities whose IDs are marked.
+pub fn rule_at(
+    s: &[u8],
+    at: usize,
+    count: usize,
+    marks: &Marks,
+    revision: Revision,
+) -> Result<(), u8>
     requires { (at < length s.now) × (revision ≡ revision_of s.now) }
-    ensures { result ≡ first_row (rows_in revision s.now at (marked marks.now (byte s.now at 3)) count) }
+    ensures { result ≡ kept (first_row (rows_in revision s.now at (marked marks.now (byte s.now at 3)) count)) }
 {
     if blocks::length_broken(s, at) {
-        return 5;
+        return Err(5);
     }
     if blocks::type_broken(s, at) {
-        return 6;
+        return Err(6);
     }
     let sub = known_as(revision, s[at + 2]);
     kind_rule(s, at, sub, count, marks, revision)
@@ -108,26 +119,30 @@ pub fn entity_at(s: &[u8], at: usize) -> Entity
 pub fn is_entity(sub: u8) -> bool
     ensures { result ≡ is_entity (kind_of sub) }
 {
-    match sub {
-        2..=7 => true,
-        _ => false,
-    }
+    matches!(sub, 2..=7)
 }
 
-// Rules 7 to 12, of a descriptor of this subtype that lies in the block; 0 where none is broken.
-fn kind_rule(s: &[u8], at: usize, sub: u8, count: usize, marks: &Marks, revision: Revision) -> u8
+// Rules 7 to 12, of a descriptor of this subtype that lies in the block.
+fn kind_rule(
+    s: &[u8],
+    at: usize,
+    sub: u8,
+    count: usize,
+    marks: &Marks,
+    revision: Revision,
+) -> Result<(), u8>
     requires bound { (3 ≤ len_at s.now at) × (at + len_at s.now at ≤ length s.now) }
     requires revision_value { revision ≡ revision_of s.now }
-    ensures { result ≡ first_row (kind_rows revision (kind_of sub) s.now at (marked marks.now (byte s.now at 3)) count) }
+    ensures { result ≡ kept (first_row (kind_rows revision (kind_of sub) s.now at (marked marks.now (byte s.now at 3)) count)) }
 {
     let len = le::wide(s[at]);
     let shaped = shape::right(s, at, len, sub, revision);
     if !shaped {
-        return 7;
+        return Err(7);
     }
     let known = revision_right(s, at, sub);
     if !known {
-        return 8;
+        return Err(8);
     }
     entity_rule(s, at, sub, count, marks)
 }
@@ -143,41 +158,36 @@ fn revision_right(s: &[u8], at: usize, sub: u8) -> bool
     }
 }
 
+#[tactic(auto, unfolding(crate::specs::Rules::is_revision))]
 fn is_revision(bcd: u16) -> bool
     ensures { result ≡ is_revision bcd }
 {
-    if bcd == REVISION_10 {
-        return true;
-    }
-    if bcd == REVISION_11 {
-        return true;
-    }
-    bcd == REVISION_15
+    bcd == REVISION_10 || bcd == REVISION_11 || bcd == REVISION_15
 }
 
-// Rules 9 to 12, of an entity; 0 where none is broken.
-fn entity_rule(s: &[u8], at: usize, sub: u8, count: usize, marks: &Marks) -> u8
+// Rules 9 to 12, of an entity.
+fn entity_rule(s: &[u8], at: usize, sub: u8, count: usize, marks: &Marks) -> Result<(), u8>
     requires { Shaped (kind_of sub) s.now at }
-    ensures { result ≡ first_row (entity_rows (kind_of sub) s.now at (marked marks.now (byte s.now at 3)) count) }
+    ensures { result ≡ kept (first_row (entity_rows (kind_of sub) s.now at (marked marks.now (byte s.now at 3)) count)) }
 {
     let entity = is_entity(sub);
     if !entity {
-        return 0;
+        return Ok(());
     }
     let id = s[at + 3];
     if id == 0 {
-        return 9;
+        return Err(9);
     }
     if used_ids::has(marks, id) {
-        return 10;
+        return Err(10);
     }
     if ENTITIES_MOST <= count {
-        return 11;
+        return Err(11);
     }
     if pins_right(s, at, sub) {
-        return 0;
+        return Ok(());
     }
-    12
+    Err(12)
 }
 
 // Rule 12: the number of input pins of a selector or an extension unit.
@@ -192,13 +202,11 @@ fn pins_right(s: &[u8], at: usize, sub: u8) -> bool
     }
 }
 
+#[tactic(auto, unfolding(crate::specs::Rules::pin_count))]
 fn pin_count(p: u8) -> bool
     ensures { result ≡ pin_count p }
 {
-    if p < 1 {
-        return false;
-    }
-    p <= PINS_MOST
+    1 <= p && p <= PINS_MOST
 }
 
 // The terminal type, or 0.

@@ -26,62 +26,49 @@ pub fn right(s: &[u8], at: usize, len: usize, sub: u8, revision: Revision) -> bo
 }
 
 // The length is `size`, and the control size, at `k`, is 3.
+#[tactic(auto, unfolding(crate::specs::Descriptors::fixed_at))]
 fn fixed(s: &[u8], at: usize, len: usize, size: usize, k: usize) -> bool
     requires len_value { (len ≡ get_or s.now at 0) × (at + len ≤ length s.now) }
     requires k_lt_size { (k < size) × (size < 256) }
     ensures { result ≡ fixed_at s.now at size k }
 {
-    if len != size {
-        return false;
-    }
-    s[at + k] == CONTROL_SIZE
+    len == size && s[at + k] == CONTROL_SIZE
 }
 
 // The length is `base` and as many more as the byte at `k` says.
+#[tactic(auto, unfolding(crate::specs::Descriptors::counted_at))]
 fn counted(s: &[u8], at: usize, len: usize, base: usize, k: usize) -> bool
     requires len_value { (len ≡ get_or s.now at 0) × (at + len ≤ length s.now) }
     requires k_lt_base { (k < base) × (base < 256) }
     ensures { result ≡ counted_at s.now at base k }
 {
-    if len < base {
-        return false;
-    }
-    len == base + le::wide(s[at + k])
+    base <= len && len == base + le::wide(s[at + k])
 }
 
 // The length is `base` and the control size, at `k`, which is as large as the revision allows.
+#[tactic(auto, unfolding(crate::specs::Descriptors::sized_at))]
 fn sized(s: &[u8], at: usize, len: usize, base: usize, k: usize, revision: Revision) -> bool
     requires len_value { (len ≡ get_or s.now at 0) × (at + len ≤ length s.now) }
     requires k_lt_base { (k < base) × (base < 256) }
     ensures { result ≡ sized_at revision s.now at base k }
 {
-    let right = counted(s, at, len, base, k);
-    if !right {
-        return false;
-    }
     let n = le::wide(le::byte_at(s, at + k));
     let says = entities::says_of(revision);
-    if n < says.least {
-        return false;
-    }
-    n <= says.most
+    counted(s, at, len, base, k) && says.least <= n && n <= says.most
 }
 
 // At least 8; for a camera 15 + n, n at 14.
+#[tactic(auto, using(crate::proofs::Shapes::cameras), unfolding(crate::specs::Descriptors::input_at, rules::specs::IfElse::if_else))]
 fn input(s: &[u8], at: usize, len: usize, revision: Revision) -> bool
     requires { (len ≡ get_or s.now at 0) × (at + len ≤ length s.now) }
     ensures { result ≡ input_at revision s.now at }
 {
-    if len < 8 {
-        return false;
-    }
-    if le::le16(s, at + 4) != CAMERA {
-        return true;
-    }
-    sized(s, at, len, entities::says_of(revision).camera, 14, revision)
+    let base = entities::says_of(revision).camera;
+    8 <= len && (le::le16(s, at + 4) != CAMERA || sized(s, at, len, base, 14, revision))
 }
 
 // 24 + p + n: p at 21, and n at 22 + p.
+#[tactic(auto, unfolding(crate::specs::Descriptors::extension_at))]
 fn extension(s: &[u8], at: usize, len: usize) -> bool
     requires { (len ≡ get_or s.now at 0) × (at + len ≤ length s.now) }
     ensures { result ≡ extension_at s.now at }
@@ -90,8 +77,5 @@ fn extension(s: &[u8], at: usize, len: usize) -> bool
         return false;
     }
     let p = le::wide(s[at + 21]);
-    if len < 24 + p {
-        return false;
-    }
-    len == 24 + p + le::wide(s[at + 22 + p])
+    24 + p <= len && len == 24 + p + le::wide(s[at + 22 + p])
 }

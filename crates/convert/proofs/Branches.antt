@@ -1,5 +1,5 @@
 -- What each branch of the code says of the definitions.
-use Rattle.std.proofs.Common.{◌≡◌, ℕ, ◌+◌, ◌-◌, ◌*◌, ◌<◌, ◌≤◌, Bool, true, false, ◌||◌, eqb, List, [], ◌∷◌, ◌++◌, length, take, drop, replicate, sym, refl, ap, ◌∙◌, subst, append_assoc, append-nil, arith, length-append, length-drop, length-take-le}
+use Rattle.std.proofs.Common.{◌≡◌, ℕ, ◌+◌, ◌-◌, ◌*◌, ◌<◌, ◌≤◌, Bool, true, false, ◌||◌, eqb, List, [], ◌∷◌, ◌++◌, length, take, drop, min, replicate, sym, refl, ap, ◌∙◌, subst, append_assoc, append-nil, arith, length-append, length-drop, length-take-le}
 use lib.ListN.{length-replicate}
 use lib.Seq.{paste-zero}
 use Rattle.rules.proofs.Lists.{no-elements}
@@ -9,8 +9,8 @@ use Rattle.records.specs.declared.Form.TheVariants.{Short}
 use Rattle.records.specs.Record.{kind_at, length_at, bytes_at, record_bad}
 use Rattle.records.proofs.Fine.{fine}
 use Rattle.long_records.specs.Long.{long_of, data_most, long_size}
-use Rattle.cuts.specs.Cuts.{cut_of, next_of}
-use Rattle.cuts.proofs.Walk.{Next, next-is}
+use Rattle.cuts.specs.Cuts.{cut_of}
+use Rattle.cuts.proofs.Walk.{chunk-first}
 use Rattle.convert.specs.declared.Converter.{Converter}
 use Rattle.convert.specs.Convert.{long_for}
 use Rattle.convert.specs.Inner.{next_number, stop_of, on_of, one_of, text_of, all_of, texts_of}
@@ -83,56 +83,55 @@ module _ (c : Converter) (r old : List ℕ) (at : ℕ) (some : 0 < length r) (ro
 pub good-room : (r : List ℕ) (at k : ℕ) → at + 49 * length r ≤ k → (x : Bool) → x ≡ record_bad Short r → x ≡ false → (record_bad Short r ≡ false) × (at + long_size ≤ k)
 good-room r at k room x b e = let g : record_bad Short r ≡ false = sym b ∙ e in (g, omega (arith, (fine Short r g).size))
 
--- ---- record after record
-pub record Ran (c : Converter) (part old : List ℕ) (start : ℕ) (new : List ℕ) (c' : Converter) (at from : ℕ) : Type 0 where
-  pub within : from ≤ length part
+-- ---- record after record: `rest` is what is left of the bytes
+pub record Ran (c : Converter) (part old : List ℕ) (start : ℕ) (new : List ℕ) (c' : Converter) (at : ℕ) (rest : List ℕ) : Type 0 where
   pub text : List ℕ
   pub put : Put old start text at new
-  pub few : at ≤ start + 49 * from
-  pub all : all_of c (cut_of 64 part) ≡ all_of c' (cut_of 64 (drop from part))
-  pub texts : texts_of c (cut_of 64 part) ≡ text ++ texts_of c' (cut_of 64 (drop from part))
-
--- where a record begins there are bytes: the next one
-pub there : (part : List ℕ) (from to : ℕ) → from < length part → to ≡ next_of 64 from (length part) → Next 64 part from to
-there part from to h e = rw e (next-is 64 (omega arith) part from h)
+  pub few : at + 49 * length rest ≤ start + 49 * length part
+  pub all : all_of c (cut_of 64 part) ≡ all_of c' (cut_of 64 rest)
+  pub texts : texts_of c (cut_of 64 part) ≡ text ++ texts_of c' (cut_of 64 rest)
 
 module _ (c : Converter) (part old : List ℕ) (start : ℕ) where
-  pub run-begins : start + 49 * length part ≤ length old → Ran c part old start old c start 0
-  run-begins room = record { within = omega arith; text = []; put = put-none old start (omega arith); few = omega arith; all = refl; texts = refl }
+  pub run-begins : (rest : List ℕ) → rest ≡ part → start + 49 * length part ≤ length old → Ran c part old start old c start rest
+  run-begins rest e room = record {
+    text = [];
+    put = put-none old start (omega arith);
+    few = omega (arith, ap length e);
+    all = ap (λ (l : List ℕ). all_of c (cut_of 64 l)) (sym e);
+    texts = ap (λ (l : List ℕ). texts_of c (cut_of 64 l)) (sym e);
+  }
 
-  module _ (new : List ℕ) (c' : Converter) (at from : ℕ) (u : Ran c part old start new c' at from) where
-    pub run_ends : length part ≤ from → ((c' ≡ all_of c (cut_of 64 part)) × Put old start (texts_of c (cut_of 64 part)) at new) × (at ≤ start + 49 * length part)
+  module _ (new : List ℕ) (c' : Converter) (at : ℕ) (rest : List ℕ) (u : Ran c part old start new c' at rest) where
+    pub run_ends : length rest ≡ 0 → ((c' ≡ all_of c (cut_of 64 part)) × Put old start (texts_of c (cut_of 64 part)) at new) × (at ≤ start + 49 * length part)
     unfolding cut_of
     run_ends h =
-        let none : drop from part ≡ [] = no-elements (drop from part) (omega (arith, length-drop from part)) in (
+        let none : rest ≡ [] = no-elements rest h in (
           (
             sym (u.all ∙ ap (λ (l : List ℕ). all_of c' (cut_of 64 l)) none),
             subst (λ (t : List ℕ). Put old start t at new)
                 (sym (u.texts ∙ ap (λ (l : List ℕ). u.text ++ texts_of c' (cut_of 64 l)) none ∙ append-nil u.text)) u.put,
           ),
-          omega (arith, u.few, u.within),
+          omega (arith, u.few),
         )
 
-    module _ (to : ℕ) (n : Next 64 part from to) where
-      size : length (take (to - from) (drop from part)) ≡ to - from
-      size = length-take-le (to - from) (drop from part) (omega (arith, length-drop from part, n.within))
+    module _ (r more : List ℕ) (e : rest ≡ r ++ more) (size : length r ≡ min 64 (length rest)) (some : 0 < length rest) where
+      both : length rest ≡ length r + length more
+      both = ap length e ∙ length-append r more
 
-      pub run_room : (room : start + 49 * length part ≤ length old)
-          → (0 < length (take (to - from) (drop from part))) × (at + 49 * length (take (to - from) (drop from part)) ≤ length new)
-      run_room room = (omega (arith, size, n.on), omega (arith, size, n.on, n.within, u.few, u.put.size))
+      cut : cut_of 64 rest ≡ r ∷ cut_of 64 more
+      cut = chunk-first 64 rest r more (omega arith) e size some
 
-      pub run_on : (d : Converter) (m : ℕ) (next : List ℕ) → One c' (take (to - from) (drop from part)) new at d m next → Ran c part old start next d m to
-      run_on d m next o =
-          let r : List ℕ = take (to - from) (drop from part) in
-          let more : List (List ℕ) = cut_of 64 (drop to part) in
-          record {
-            within = n.within;
-            text = u.text ++ text_of c' r;
-            put = then u.put o.0.1;
-            few = omega (arith, o.1, size, u.few, n.on);
-            all = u.all ∙ ap (all_of c') n.cut ∙ ap (λ (x : Converter). all_of x more) (sym o.0.0);
-            texts =
-                u.texts ∙ ap (λ (l : List (List ℕ)). u.text ++ texts_of c' l) n.cut
-                ∙ ap (λ (x : Converter). u.text ++ (text_of c' r ++ texts_of x more)) (sym o.0.0)
-                ∙ sym (append_assoc u.text (text_of c' r) (texts_of d more));
-          }
+      pub run_room : (room : start + 49 * length part ≤ length old) → (0 < length r) × (at + 49 * length r ≤ length new)
+      run_room room = (omega (arith, size, some), omega (arith, both, u.few, u.put.size))
+
+      pub run_on : (d : Converter) (m : ℕ) (next : List ℕ) → One c' r new at d m next → Ran c part old start next d m more
+      run_on d m next o = record {
+        text = u.text ++ text_of c' r;
+        put = then u.put o.0.1;
+        few = omega (arith, o.1, both, u.few);
+        all = u.all ∙ ap (all_of c') cut ∙ ap (λ (x : Converter). all_of x (cut_of 64 more)) (sym o.0.0);
+        texts =
+            u.texts ∙ ap (λ (l : List (List ℕ)). u.text ++ texts_of c' l) cut
+            ∙ ap (λ (x : Converter). u.text ++ (text_of c' r ++ texts_of x (cut_of 64 more))) (sym o.0.0)
+            ∙ sym (append_assoc u.text (text_of c' r) (texts_of d (cut_of 64 more)));
+      }

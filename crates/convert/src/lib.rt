@@ -120,13 +120,10 @@ fn run(c: Converter, part: &[u8], out: &mut [u8], start: usize) -> Written
 {
     let mut converter = c;
     let mut at = start;
-    let mut from = 0;
-    while from < part.len() {
-        let to = cuts::next(64, from, part.len());
-        let w = one(converter, &part[from..to], out, at);
+    for record in part.chunks(64) {
+        let w = one(converter, record, out, at);
         converter = w.converter;
         at = w.at;
-        from = to;
     }
     Written { converter, at }
 }

@@ -4,7 +4,6 @@
 mod input;
 
 use console::{files, print};
-use session_rules::Start;
 use std::rt::Runtime;
 use trace::Trace;
 use trace_arguments::reading;
@@ -43,7 +42,7 @@ fn main(rt: HostRuntime) {
     let begun = Trace::new(trace_arguments::opening(call.frame, call.payload));
     let start = begun.start;
     match start {
-        Start::Open => read(&rt, call.file),
-        Start::Refused(number) => shut(&rt, number),
+        Ok(()) => read(&rt, call.file),
+        Err(number) => shut(&rt, number),
     }
 }

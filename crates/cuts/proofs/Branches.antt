@@ -1,22 +1,26 @@
 -- What each branch of the code says of the definitions, and where the whole records end.
-use Prim.Native.Nat.{ℕ, ◌-◌, ◌*◌, ◌/◌, ◌%◌, ◌≤◌, ◌<◌}
-use mathlib.Core.Path.{◌≡◌, ap, ◌∙◌}
+use Prim.Native.Nat.{ℕ, min, ◌-◌, ◌*◌, ◌/◌, ◌%◌, ◌≤◌, ◌<◌}
+use Rattle.std.proofs.Math.Nat.{min-eq_left, min-eq_right}
+use mathlib.Core.Path.{◌≡◌, refl, ap, ◌∙◌}
+use mathlib.Core.Bool.{Bool, true, false}
+use lib.Dec.{ltb}
 use mathlib.Core.List.{List}
 use native.Mathlib.Omega.{arith}
 use native.Mathlib.Nat.{mod-le, mod-lt, div-add-mod'}
 use lib.ListN.{length, take, drop}
 use lib.Seq.{paste, length-take-le}
-use borrow.Author.Tests.{lt-ltb, le-ltb}
+use borrow.Author.Tests.{ltb-true, ltb-false}
 use Rattle.rules.specs.IfElse.{if_else}
 use Rattle.cuts.specs.Cuts.{least_of}
 
-pub first-least : (a b : ℕ) → a < b → (a ≡ least_of a b) × ((a ≤ a) × (a ≤ b))
+-- the library's lesser of two
+pub least-is : (a b n : ℕ) → n ≡ min a b → n ≡ least_of a b
 unfolding if_else
-first-least a b h = (rw (lt-ltb a b h), (omega arith, omega arith))
-
-pub second-least : (a b : ℕ) → b ≤ a → (b ≡ least_of a b) × ((b ≤ a) × (b ≤ b))
-unfolding if_else
-second-least a b h = (rw (le-ltb a b h), (omega arith, omega arith))
+least-is a b n e = e ∙ go (ltb a b) refl
+  where
+    go : (t : Bool) → ltb a b ≡ t → min a b ≡ if_else t a b
+    go true q = min-eq_left (omega (arith, ltb-true a b q))
+    go false q = min-eq_right (ltb-false a b q)
 
 -- as much of the input as was put
 pub put_first : (piece input new : List ℕ) (have n : ℕ) → n ≤ length input → new ≡ paste piece have (take (n - 0) (drop 0 input)) (length (take (n - 0) (drop 0 input))) → new ≡ paste piece have (take n input) n

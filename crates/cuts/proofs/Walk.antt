@@ -1,8 +1,9 @@
 -- Record by record: from `at` the next one, and then the rest.
 use Prim.Native.Nat.{ℕ, ◌+◌, ◌-◌, ◌≤◌, ◌<◌}
+use Rattle.std.proofs.Common.{min}
 use mathlib.Core.Path.{◌≡◌, refl, sym, ap, ◌∙◌}
 use mathlib.Core.Bool.{Bool, true, false}
-use mathlib.Core.List.{List, [], ◌∷◌}
+use mathlib.Core.List.{List, [], ◌∷◌, ◌++◌}
 use native.Mathlib.Omega.{arith}
 use lib.ListN.{length, take, drop, length-drop}
 use lib.Seq.{take_all, drop-drop, drop-length}
@@ -10,6 +11,7 @@ use lib.Dec.{ltb}
 use borrow.Author.Tests.{ltb-true, ltb-false, lt-ltb, le-ltb}
 use Rattle.rules.specs.IfElse.{if_else}
 use Rattle.rules.proofs.Lists.{no-elements}
+use Rattle.rules.proofs.Chunks.{chunk-parts}
 use Rattle.cuts.specs.Cuts.{cut_of, next_of}
 use Rattle.cuts.proofs.Cut.{cut-first}
 
@@ -64,3 +66,9 @@ module _ (n : ℕ) (pos : 0 < n) (l : List ℕ) (at : ℕ) (here : at < length l
       go : (c : Bool) → ltb (length l - at) n ≡ c → Next n l at (if_else c (length l) (at + n))
       go true e = short (ltb-true (length l - at) n e)
       go false e = whole (ltb-false (length l - at) n e)
+
+-- CHUNK BY CHUNK: a chunk of what is left is the first record, and the rest are those of what comes after it
+pub chunk-first : (n : ℕ) (rest x more : List ℕ) → 0 < n → rest ≡ x ++ more → length x ≡ min n (length rest) → 0 < length rest → cut_of n rest ≡ x ∷ cut_of n more
+chunk-first n rest x more pos e size some =
+    let parts = chunk-parts n rest x more e size in
+    cut-first n pos rest some ∙ ap (λ (l : List ℕ). l ∷ cut_of n (drop n rest)) parts.0 ∙ ap (λ (l : List ℕ). x ∷ cut_of n l) parts.1

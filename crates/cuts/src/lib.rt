@@ -5,24 +5,13 @@ ghost use Rattle.std.specs.Prelude.{◌≡◌, ◌-◌, ◌%◌, ◌≤◌, ◌<
 ghost use Rattle.std.proofs.Math.Seq.{paste};
 ghost use Rattle.cuts.specs.Cuts.{least_of, next_of};
 
-// The lesser of two.
-fn least(a: usize, b: usize) -> usize
-    ensures value { result ≡ least_of a b }
-    ensures upper_bound { (result ≤ a) × (result ≤ b) }
-{
-    if a < b {
-        return a;
-    }
-    b
-}
-
 // Inner: as much of the input as the piece has room for behind its first bytes; answers how much that is.
 pub fn fill(piece: &mut [u8], have: usize, input: &[u8]) -> usize
     requires { have ≤ length piece.old }
     ensures value { result ≡ least_of (length input.now) (length piece.old - have) }
     ensures piece_after { piece.new ≡ paste piece.old have (take result input.now) result }
 {
-    let n = least(input.len(), piece.len() - have);
+    let n = input.len().min(piece.len() - have);
     copier::put(piece, have, &input[0..n]);
     n
 }

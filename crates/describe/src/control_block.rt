@@ -5,11 +5,9 @@ use std::rt::Runtime;
 // One byte more than a block may have shows a file that is too long.
 pub fn describe(rt: &impl Runtime, which: usize) {
     let mut buf = [0u8; 4097];
-    let file = files::load(rt, which, &mut buf);
-    let n = file.count;
-    if !file.fine {
+    let Some(n) = files::load(rt, which, &mut buf) else {
         return;
-    }
+    };
     let mut text = [0u8; block_text::ROOM];
     let c = control::read(&buf[..n]);
     let verdict = c.verdict;

@@ -11,11 +11,9 @@ pub fn describe(rt: &impl Runtime, which: usize, word: usize) {
         return;
     }
     let mut buf = [0u8; 4097];
-    let file = files::load(rt, which, &mut buf);
-    let n = file.count;
-    if !file.fine {
+    let Some(n) = files::load(rt, which, &mut buf) else {
         return;
-    }
+    };
     let mut lines = [0u8; block_text::ROOM];
     let answer = control_map::controls(&buf[..n], id as u8);
     let m = block_text::map(&mut lines, answer);

@@ -1,6 +1,5 @@
 // `describe setting FILE INTERFACE PAYLOAD`: the setting that is picked, or a refusal.
 use crate::whole::FILE_MOST;
-use arguments::Number;
 use console::{files, print, words};
 use interfaces::{INTERFACES_MOST, Stream};
 use std::rt::Runtime;
@@ -20,16 +19,14 @@ pub fn describe(rt: &impl Runtime, which: usize, first: usize, second: usize) {
     }
     let mut word = [0u8; 16];
     let m = words::word(rt, second, &mut word);
-    let Number::Is(payload) = arguments::read(&word[..m], PAYLOAD) else {
+    let Some(payload) = arguments::read(&word[..m], PAYLOAD) else {
         print::problem(b"PAYLOAD: not a decimal number from 0 to 4,294,967,295\n");
         return;
     };
     let mut buf = [0u8; FILE_MOST];
-    let file = files::load(rt, which, &mut buf);
-    let n = file.count;
-    if !file.fine {
+    let Some(n) = files::load(rt, which, &mut buf) else {
         return;
-    }
+    };
     let place = device_file::find(&buf[..n]);
     let from = place.offset;
     let to = from + place.length;

@@ -7,11 +7,9 @@ pub const FILE_MOST: usize = 65554;
 
 pub fn describe(rt: &impl Runtime, which: usize) {
     let mut buf = [0u8; FILE_MOST];
-    let file = files::load(rt, which, &mut buf);
-    let n = file.count;
-    if !file.fine {
+    let Some(n) = files::load(rt, which, &mut buf) else {
         return;
-    }
+    };
     let place = device_file::find(&buf[..n]);
     let from = place.offset;
     let to = from + place.length;

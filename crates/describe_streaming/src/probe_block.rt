@@ -4,23 +4,17 @@ use console::{files, print};
 use std::rt::Runtime;
 
 pub fn describe(rt: &impl Runtime) {
-    let known = streaming_block::control_of(rt, 2);
-    if !known.fine {
+    let Some(table) = streaming_block::control_of(rt, 2) else {
         return;
-    }
+    };
     let mut block = [0u8; 16385];
-    let first = files::load(rt, 3, &mut block);
-    let n = first.count;
-    if !first.fine {
+    let Some(n) = files::load(rt, 3, &mut block) else {
         return;
-    }
+    };
     let mut bytes = [0u8; 49];
-    let second = files::load(rt, 4, &mut bytes);
-    let m = second.count;
-    if !second.fine {
+    let Some(m) = files::load(rt, 4, &mut bytes) else {
         return;
-    }
-    let table = known.table;
+    };
     let verdict = probe_check::check(table, &block[..n], &bytes[..m]);
     let revision = table.revision;
     let read = probe::read(&bytes[..m], revision);

@@ -31,9 +31,9 @@ module _ (s : Session) (b : Bounded s) where
 
   called-few : (x : Offer) → refusal s x ≡ 0 → (next_call s (call_of s x)).rest.taken < 2 ^ 32
   called-few (Offer.take u t) e =
-      let more = (take-ready s b.places b.few (length u) (length t) (refusal s (Offer.take u t)) refl e).ready.more in
+      let more = (take-ready s b.places b.few (length u) (length t) e).ready.more in
       subst (λ (c : Call). (next_call s c).rest.taken < 2 ^ 32) (sym (listed s u t (hands_out s t) e refl)) (met-few t (hands_out s t) more)
-  called-few Offer.lost e = omega (arith, (lost-ready s b.places b.few (refusal s Offer.lost) refl e).more)
+  called-few Offer.lost e = omega (arith, (lost-ready s b.places b.few e).more)
   called-few Offer.close e = b.few
 
   next-bounded : (x : Offer) → Bounded (next s x)
@@ -58,5 +58,5 @@ pub never-wraps : (o : Opening) (xs : List Offer) (u t : List ℕ) → refusal (
 never-wraps o xs u t e f n h =
     let s : Session = after (fresh o) xs in
     let b : Bounded s = after-bounded (fresh o) xs (record { places = refl; few = omega arith }) in
-    let q = take-ready s b.places b.few (length u) (length t) (refusal s (Offer.take u t)) refl e in
+    let q = take-ready s b.places b.few (length u) (length t) e in
     omega (arith, before-under s.rest.track.phase f, (ready-able s q.ready).under, q.short)

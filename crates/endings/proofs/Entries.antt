@@ -1,11 +1,9 @@
 -- The frames that ended are the frame rule's entries: each delivered, still or dropped one, in order, and no other.
+use Rattle.std.specs.Prelude.{None, Some}
+use Rattle.session_rules.specs.Options.{Fault, Layer, Stamp}
 use Rattle.std.proofs.Common.{◌≡◌, ℕ, Bool, true, false, cond, ◌&&◌, eqb, List, [], ◌∷◌, ◌++◌, map, length, sym, refl, ap, ◌∙◌}
 use Rattle.sizes.specs.declared.Opening.{Opening}
-use Rattle.session_rules.specs.declared.Stamp.{Stamp}
-use Rattle.session_rules.specs.declared.Layer.{Layer}
 use Rattle.session_rules.specs.declared.Reason.TheVariants.{Empty}
-use Rattle.session_rules.specs.declared.Fault.{Fault}
-use Rattle.session_rules.specs.declared.Fault.TheVariants.{Sound, Bad}
 use Rattle.session_rules.specs.declared.Delivery.{Delivery}
 use Rattle.session_rules.specs.Entry.{Entry}
 use Rattle.session_rules.specs.Call.{Call}
@@ -16,8 +14,8 @@ use Rattle.endings.specs.Endings.{ending_in, endings_in, endings_of, entry_says,
 -- what the rule makes of one frame
 one-frame : (way c : Bool) (q : Fault) (s : Stamp) (y : Layer) (b : Bool) (n : ℕ) (xs : List Ending)
     → map said (ending_in (verdict way c q s y b n) n s ++ xs) ≡ entry_says (verdict way c q s y b n) ++ map said xs
-one-frame way true (Bad w) s y b n xs = refl
-one-frame way true Sound s y b n xs = go (eqb n 0) b
+one-frame way true (Some w) s y b n xs = refl
+one-frame way true None s y b n xs = go (eqb n 0) b
   where
     d : Delivery
     d = record { len = n; stamp = s; layer = y }
@@ -28,8 +26,8 @@ one-frame way true Sound s y b n xs = go (eqb n 0) b
     go false true = refl
     go false false = refl
 one-frame true false q s y b n xs = refl
-one-frame false false (Bad w) s y b n xs = refl
-one-frame false false Sound s y b n xs = refl
+one-frame false false (Some w) s y b n xs = refl
+one-frame false false None s y b n xs = refl
 
 -- the strays after it
 past : (ts : List Seen) (is : List Item) → entries_say (map entry_of (strays ts ++ is)) ≡ entries_say (map entry_of is)

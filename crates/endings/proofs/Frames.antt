@@ -1,15 +1,12 @@
 -- What one call more makes of the last run's frame: its ending.
+use Rattle.std.specs.Prelude.{None, Some}
+use Rattle.session_rules.specs.Options.{Fault, Layer, Stamp}
 use Rattle.std.proofs.Common.{◌≡◌, ℕ, ◌+◌, Bool, true, false, cond, not, ◌&&◌, ◌||◌, eqb, List, [], ◌∷◌, ◌++◌, length, sym, refl, ap, ◌∙◌, subst, true≢false}
 use Rattle.sizes.specs.declared.Opening.{Opening}
 use Rattle.sizes.specs.Framing.{by_eof}
 use Rattle.session_rules.specs.declared.Header.{Header}
-use Rattle.session_rules.specs.declared.Stamp.{Stamp}
-use Rattle.session_rules.specs.declared.Layer.{Layer}
 use Rattle.session_rules.specs.declared.Reason.{Reason}
 use Rattle.session_rules.specs.declared.Reason.TheVariants.{Gap, Empty}
-use Rattle.session_rules.specs.declared.Fault.{Fault}
-use Rattle.session_rules.specs.declared.Fault.TheVariants.{Sound, Bad}
-use Rattle.session_rules.specs.declared.Ended.{Ended}
 use Rattle.session_rules.specs.Entry.{Entry}
 use Rattle.books.specs.Rule.{Seen, eof_of, closes, frame_of, closed, complete, data_of, ◌or_stamp◌, first_stamp, ◌then_layer◌, last_layer, still_of, ◌or◌, when, fault_at, gap_after, fault_from, gap_before, fault, handed_out, verdict}
 use Rattle.books.specs.Answer.{frame_entry, reason_in, ended_in, is_sound, hands_in, turns, out_of}
@@ -32,11 +29,11 @@ ending_on o way c f = ending_by way c (fault o f) (first_stamp f) (last_layer f)
 
 -- a complete frame ended as the rule says, whether its run is the last or the session open
 complete-any : (v w : Bool) (q : Fault) (s : Stamp) (y : Layer) (b : Bool) (n : ℕ) → ending_by v true q s y b n ≡ ending_by w true q s y b n
-complete-any v w (Bad x) s y b n = refl
-complete-any v w Sound s y b n = refl
+complete-any v w (Some x) s y b n = refl
+complete-any v w None s y b n = refl
 
 -- its reason names its ending
-pub reason-ending : (e : Entry) (n : ℕ) (s : Stamp) (w : Reason) → reason_in e ≡ Ended.Frame w → ending_in e n s ≡ ending_as (How.Dropped w) n s ∷ []
+pub reason-ending : (e : Entry) (n : ℕ) (s : Stamp) (w : Reason) → reason_in e ≡ Some w → ending_in e n s ≡ ending_as (How.Dropped w) n s ∷ []
 reason-ending (Entry.Delivered d) n s w p = cc
 reason-ending (Entry.Still d) n s w p = cc
 reason-ending (Entry.Dropped v k) n s w p = cc
@@ -57,12 +54,12 @@ module _ (o : Opening) where
   none-none = under_none [] refl
 
   -- and where something ends it, with its reason
-  pub part-ending : (p l : Bool) (u : Seen) (us : List Seen) (w : Reason) → closed o (u ∷ us) ≡ false → ended_in o p l (u ∷ us) ≡ Ended.Frame w
+  pub part-ending : (p l : Bool) (u : Seen) (us : List Seen) (w : Reason) → closed o (u ∷ us) ≡ false → ended_in o p l (u ∷ us) ≡ Some w
       → ending_from o p l (u ∷ us) ≡ ending_as (How.Dropped w) (length (data_of (u ∷ us))) (first_stamp (u ∷ us)) ∷ []
   part-ending p l u us w e q =
       let r : List Seen = u ∷ us in
       reason-ending (frame_entry o p l r) (length (data_of (frame_of o r))) (first_stamp (frame_of o r)) w
-      (sym (ap (λ (c : Bool). cond c Ended.Nothing (reason_in (frame_entry o p l r))) (closed-frame o r ∙ e)) ∙ q)
+      (sym (ap (λ (c : Bool). cond c None (reason_in (frame_entry o p l r))) (closed-frame o r ∙ e)) ∙ q)
       ∙ ap (λ (f : List Seen). ending_as (How.Dropped w) (length (data_of f)) (first_stamp f) ∷ []) (frame-whole o r e)
 
   -- ---- a run that is closed: its frame has ended, whatever comes
@@ -237,8 +234,8 @@ module _ (o : Opening) where
 
   sound-out : (q : Fault) (n : ℕ) (s : Stamp) (y : Layer) (b : Bool) → (is_sound q && not (eqb n 0)) ≡ true
       → ending_by true true q s y b n ≡ ending_as (out_as b) n s ∷ []
-  sound-out (Bad w) n s y b e = absurd (true≢false (sym e))
-  sound-out Sound n s y b e = go (eqb n 0) b e
+  sound-out (Some w) n s y b e = absurd (true≢false (sym e))
+  sound-out None n s y b e = go (eqb n 0) b e
     where
       go : (z c : Bool) → not z ≡ true → ending_in (cond z (Entry.Dropped Empty n) (handed_out c (record { len = n; stamp = s; layer = y }))) n s ≡ ending_as (out_as c) n s ∷ []
       go true c q = absurd (true≢false (sym q))

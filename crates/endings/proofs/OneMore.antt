@@ -1,8 +1,9 @@
 -- One offer more: the frames that ended are those that the session tells of it.
+use Rattle.std.specs.Prelude.{None}
+use Rattle.session_rules.specs.Options.{Stamp, Closing}
 use Rattle.std.proofs.Common.{◌≡◌, ℕ, zero, suc, ◌≤◌, Bool, true, false, cond, not, ◌&&◌, List, [], ◌∷◌, ◌++◌, length, drop, sym, refl, ap, ◌∙◌, subst, true≢false, append-nil, arith, length-drop}
 use Rattle.sizes.specs.declared.Opening.{Opening}
 use Rattle.sizes.specs.Framing.{by_eof}
-use Rattle.session_rules.specs.declared.Stamp.{Stamp}
 use Rattle.session_rules.specs.declared.Reading.{Reading}
 use Rattle.session_rules.specs.declared.Reading.TheVariants.{Idle, Unreadable, Readable}
 use Rattle.session_rules.specs.Transfer.{reading_of}
@@ -10,11 +11,9 @@ use Rattle.session_rules.specs.declared.Reason.{Reason}
 use Rattle.session_rules.specs.declared.Reason.TheVariants.{Cut}
 use Rattle.session_rules.specs.declared.Phase.{Phase}
 use Rattle.session_rules.specs.declared.Phase.TheVariants.{Fresh, Under, Past}
-use Rattle.session_rules.specs.declared.Ended.{Ended}
 use Rattle.session_rules.specs.Turns.{why_of, hands_by, hands_of}
 use Rattle.session_rules.specs.declared.Session.{Session}
 use Rattle.session_rules.specs.declared.Outcome.{Outcome}
-use Rattle.session_rules.specs.declared.Closing.{Closing}
 use Rattle.session_rules.specs.Session.{fresh, hands_for, hands_out, take_by, take_of, close_by, close_of}
 use Rattle.session_rules.specs.Call.{Call}
 use Rattle.session_rules.specs.Calls.{Offer, refusal, after, call_of, unless, taken}
@@ -130,8 +129,8 @@ module _ (o : Opening) (xs : List Offer) where
         let few : length d ≤ length t = rw (length-drop h.len t) (omega arith) in
         grows x ok (Call.transfer t) v (says (Readable h)) refl (ap (λ (q : Reading). event_by q t ∷ []) e)
         (subst (λ (l : List Seen). endings_in o true (runs_by v (runs_in es) (pending false es)) ≡ endings_in o true (runs_in es)
-        ++ (told_in (tell_ended ph (cond (goes_on h last) Ended.Nothing (turned_in o last))) ++ told_in (tell_fate (Readable h) ph (length t) (fate_on o l)))) (sym at_last)
-        (added-ends o g (told_in (tell_ended ph (cond (goes_on h last) Ended.Nothing (turned_in o last))) ++ told_in (tell_fate (Readable h) ph (length t) (fate_on o (grown last g)))) (runs_in es)
+        ++ (told_in (tell_ended ph (cond (goes_on h last) None (turned_in o last))) ++ told_in (tell_fate (Readable h) ph (length t) (fate_on o l)))) (sym at_last)
+        (added-ends o g (told_in (tell_ended ph (cond (goes_on h last) None (turned_in o last))) ++ told_in (tell_fate (Readable h) ph (length t) (fate_on o (grown last g)))) (runs_in es)
         (read-ends o h d (pending false es) (length t) (sym (length-drop h.len t)) ph last (tracks x ok) (fits x ok)
         (subst (λ (p : Opening). hands_by ph p h ≡ false) (after-opening o xs) n) (never-wraps o xs b t ok h.fid (length d) few))))
 

@@ -1,20 +1,17 @@
 -- A readable transfer that is taken: the frames that it ends are those that are told.
+use Rattle.std.specs.Prelude.{None, Some}
+use Rattle.session_rules.specs.Options.{Fault, Layer, Stamp}
 use Rattle.std.proofs.Common.{◌≡◌, ℕ, ◌+◌, ◌-◌, ◌%◌, ◌^◌, ◌<◌, Bool, true, false, cond, eqb, List, [], ◌∷◌, ◌++◌, length, sym, refl, ap, ◌∙◌, subst, append-nil, arith, length-append}
 use mathlib.Core.Bool.{beq}
 use Rattle.rules.specs.IfElse.{if_else}
 use Rattle.sizes.specs.declared.Opening.{Opening}
 use Rattle.session_rules.specs.declared.Header.{Header}
-use Rattle.session_rules.specs.declared.Stamp.{Stamp}
-use Rattle.session_rules.specs.declared.Layer.{Layer}
 use Rattle.session_rules.specs.declared.Reading.{Reading}
 use Rattle.session_rules.specs.declared.Reason.{Reason}
 use Rattle.session_rules.specs.declared.Reason.TheVariants.{Empty}
-use Rattle.session_rules.specs.declared.Fault.{Fault}
-use Rattle.session_rules.specs.declared.Fault.TheVariants.{Sound, Bad}
 use Rattle.session_rules.specs.declared.Run.{Run}
 use Rattle.session_rules.specs.declared.Phase.{Phase}
 use Rattle.session_rules.specs.declared.Phase.TheVariants.{Fresh, Under, Past}
-use Rattle.session_rules.specs.declared.Ended.{Ended}
 use Rattle.session_rules.specs.Turns.{why_of, same_of, turned_why, hands_by}
 use Rattle.session_rules.specs.Entry.{Entry}
 use Rattle.books.specs.Rule.{Seen, frame_of, stray_of, closed, complete, data_of, ◌or_stamp◌, first_stamp, last_layer, still_of, fault, handed_out, verdict}
@@ -34,8 +31,8 @@ use Rattle.endings.proofs.Frames.{ending_by, under_none, none-none, part-ending,
 fate-told : (ph : Phase) (h : Header) (m : ℕ) (c : Bool) (q : Fault) (s : Stamp) (y : Layer) (b : Bool) (k : ℕ) → bytes_with ph h (m - h.len) ≡ k → stamp_with ph h ≡ s
     → told_in (tell_fate (Reading.Readable h) ph m (fate_in (verdict true c q s y b k))) ≡ ending_by true c q s y b k
 fate-told ph h m false q s y b k e f = refl
-fate-told ph h m true (Bad w) s y b k e f = ap (λ (n : ℕ). ending_as (How.Dropped w) n (stamp_with ph h) ∷ []) e ∙ ap (λ (z : Stamp). ending_as (How.Dropped w) k z ∷ []) f
-fate-told ph h m true Sound s y b k e f = go (eqb k 0) b
+fate-told ph h m true (Some w) s y b k e f = ap (λ (n : ℕ). ending_as (How.Dropped w) n (stamp_with ph h) ∷ []) e ∙ ap (λ (z : Stamp). ending_as (How.Dropped w) k z ∷ []) f
+fate-told ph h m true None s y b k e f = go (eqb k 0) b
   where
     go : (z c : Bool)
         → told_in (tell_fate (Reading.Readable h) ph m (fate_in (cond z (Entry.Dropped Empty k) (handed_out c (record { len = k; stamp = s; layer = y })))))
@@ -95,7 +92,7 @@ module _ (o : Opening) (h : Header) (d : List ℕ) (b : Bool) (m : ℕ) (size : 
       bytes_before ph h.fid + length d < 2 ^ 64
       → endings_in o true (added r (seen_with h d b))
       ≡ ending_from o true true r
-      ++ (told_in (tell_ended ph (cond (goes_on h r) Ended.Nothing (turned_in o r))) ++ told_in (tell_fate (Reading.Readable h) ph m (fate_on o (grown r (seen_with h d b)))))
+      ++ (told_in (tell_ended ph (cond (goes_on h r) None (turned_in o r))) ++ told_in (tell_fate (Reading.Readable h) ph m (fate_on o (grown r (seen_with h d b)))))
 
   -- no readable transfer before it
   fresh-ends : Told Fresh []
@@ -123,7 +120,7 @@ module _ (o : Opening) (h : Header) (d : List ℕ) (b : Bool) (m : ℕ) (size : 
         ∙ sym (own-told o h d b (Under x) m size small r j)
         ∙ ap (◌++ told_in (tell_fate (Reading.Readable h) (Under x) m (fate_on o s))) (sym (under_none o r k.1.going)))
 
-    turned-why : goes_on h (u ∷ us) ≡ false → turned_in o (u ∷ us) ≡ Ended.Frame (why_of x.fault (turned_why o))
+    turned-why : goes_on h (u ∷ us) ≡ false → turned_in o (u ∷ us) ≡ Some (why_of x.fault (turned_why o))
     unfolding if_else
     turned-why e =
         let z = (turn-right o h d b (Under x) (u ∷ us) k fit n).ended in

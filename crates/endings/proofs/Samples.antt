@@ -1,4 +1,5 @@
 -- The frames that ended of short lists, by the list alone and as the session tells them, as computed equalities.
+use Rattle.std.specs.Prelude.{None, Some}
 use Rattle.std.proofs.Common.{◌≡◌, ℕ, List, [], ◌∷◌, replicate, refl}
 use Rattle.rules.specs.IfElse.{if_else}
 use Rattle.rules.specs.Numbered.{any_below}
@@ -6,7 +7,6 @@ use Rattle.sizes.specs.declared.Opening.{Opening}
 use Rattle.sizes.specs.declared.HeaderKind.TheVariants.{Old}
 use Rattle.sizes.specs.Framing.{by_eof}
 use Rattle.sizes.specs.Sizes.{frame_size_broken, payload_size_broken, sizes_broken}
-use Rattle.session_rules.specs.declared.Stamp.{Stamp}
 use Rattle.session_rules.specs.Layouts.{header_layout}
 use Rattle.session_rules.specs.Transfer.{flag_of, layer_place, need_of, rows_by, stamp_of, layer_of, header_by, reading_of}
 use Rattle.session_rules.specs.declared.Reason.{Reason}
@@ -64,7 +64,7 @@ take t = Offer.take (replicate 256 0) t
 
 -- DELIVERED: of two transfers, five bytes, and the stamp is the second's, which is the frame's first
 abbrev delivered : List Ending
-delivered = ending_as How.Delivered 5 (Stamp.At 7) ∷ []
+delivered = ending_as How.Delivered 5 (Some 7) ∷ []
 
 pub delivered-list : endings_of eof (Call.transfer (plain two) ∷ Call.transfer (stamped-end three) ∷ []) ≡ delivered
 unfolding if_else by_eof header_layout flag_of layer_place need_of rows_by stamp_of layer_of header_by reading_of
@@ -76,7 +76,7 @@ delivered-told = refl
 
 -- DROPPED, by a gap: five bytes with the first transfer's stamp, when its EOF comes
 abbrev gapped : List Ending
-gapped = ending_as (How.Dropped Reason.Gap) 5 (Stamp.At 7) ∷ []
+gapped = ending_as (How.Dropped Reason.Gap) 5 (Some 7) ∷ []
 
 pub gap-list : endings_of eof (Call.transfer (stamped two) ∷ Call.lost ∷ Call.transfer (plain_end three) ∷ []) ≡ gapped
 unfolding if_else by_eof header_layout flag_of layer_place need_of rows_by stamp_of layer_of header_by reading_of
@@ -88,7 +88,7 @@ gap-told = refl
 
 -- DROPPED, by its clock: five bytes, and the stamp is the first of the two
 abbrev clashed : List Ending
-clashed = ending_as (How.Dropped Reason.Clock) 5 (Stamp.At 7) ∷ []
+clashed = ending_as (How.Dropped Reason.Clock) 5 (Some 7) ∷ []
 
 pub clock-list : endings_of eof (Call.transfer (stamped two) ∷ Call.transfer (later-end three) ∷ []) ≡ clashed
 unfolding if_else by_eof header_layout flag_of layer_place need_of rows_by stamp_of layer_of header_by reading_of
@@ -100,7 +100,7 @@ clock-told = refl
 
 -- A STILL, and a stray after it, which is no part of the frame; a frame begun by the other FID is under way
 abbrev still : List Ending
-still = ending_as How.Still 2 Stamp.Absent ∷ []
+still = ending_as How.Still 2 None ∷ []
 
 pub still-list : endings_of eof (Call.transfer (still-end two) ∷ Call.transfer (stamped three) ∷ Call.transfer (other two) ∷ []) ≡ still
 unfolding if_else by_eof header_layout flag_of layer_place need_of rows_by stamp_of layer_of header_by reading_of
@@ -112,7 +112,7 @@ still-told = refl
 
 -- CUT, the first by the other FID and the second by close; a second close is refused
 abbrev cut : List Ending
-cut = ending_as (How.Dropped Reason.Cut) 2 (Stamp.At 7) ∷ ending_as (How.Dropped Reason.Cut) 3 Stamp.Absent ∷ []
+cut = ending_as (How.Dropped Reason.Cut) 2 (Some 7) ∷ ending_as (How.Dropped Reason.Cut) 3 None ∷ []
 
 pub cut_list : endings_of eof (Call.transfer (stamped two) ∷ Call.transfer (other three) ∷ Call.close ∷ []) ≡ cut
 unfolding if_else by_eof header_layout flag_of layer_place need_of rows_by stamp_of layer_of header_by reading_of
@@ -124,7 +124,7 @@ cut-told = refl
 
 -- TWO BY ONE CALL: a frame cut by the other FID, and then the transfer's own
 abbrev both : List Ending
-both = ending_as (How.Dropped Reason.Cut) 2 (Stamp.At 7) ∷ ending_as How.Delivered 3 Stamp.Absent ∷ []
+both = ending_as (How.Dropped Reason.Cut) 2 (Some 7) ∷ ending_as How.Delivered 3 None ∷ []
 
 pub both-list : endings_of eof (Call.transfer (stamped two) ∷ Call.transfer (other-end three) ∷ []) ≡ both
 unfolding if_else by_eof header_layout flag_of layer_place need_of rows_by stamp_of layer_of header_by reading_of
@@ -136,7 +136,7 @@ both_told = refl
 
 -- HANDED OUT, with D1 clear: the transfer of the other FID hands the frame out, is offered again, and is under way
 abbrev handed : List Ending
-handed = ending_as How.Delivered 5 (Stamp.At 7) ∷ []
+handed = ending_as How.Delivered 5 (Some 7) ∷ []
 
 pub handed-list : endings_of no-eof (Call.transfer (stamped two) ∷ Call.transfer (plain three) ∷ Call.handed ∷ Call.transfer (other two) ∷ []) ≡ handed
 unfolding if_else by_eof header_layout flag_of layer_place need_of rows_by stamp_of layer_of header_by reading_of

@@ -1,8 +1,8 @@
 -- Two answers that a promise allows are equal.
+use Rattle.session_rules.specs.Options.{Closing}
 use Rattle.std.proofs.Common.{◌≡◌, ℕ, List, sym, ◌∙◌}
 use Rattle.session_rules.specs.declared.Rest.{Rest}
 use Rattle.session_rules.specs.declared.Outcome.{Outcome}
-use Rattle.session_rules.specs.declared.Closing.{Closing}
 use Rattle.endings.specs.declared.Endings.{Endings}
 use Rattle.endings.specs.Inner.{tell_taken, tell_closed}
 

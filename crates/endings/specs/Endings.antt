@@ -1,8 +1,8 @@
 -- THE FRAMES THAT ENDED, from the list alone: document 01, "The frame rule, from the list alone", with how each ended, the bytes of its data and its first stamp.
 -- Nothing of the session.
-use Rattle.std.specs.Prelude.{ℕ, Bool, false, List, [], ◌∷◌, ◌++◌, length}
+use Rattle.session_rules.specs.Options.{Stamp}
+use Rattle.std.specs.Prelude.{ℕ, Bool, false, List, [], ◌∷◌, ◌++◌, length, None}
 use Rattle.sizes.specs.declared.Opening.{Opening}
-use Rattle.session_rules.specs.declared.Stamp.{Stamp}
 use Rattle.session_rules.specs.Entry.{Entry}
 use Rattle.session_rules.specs.Call.{Call}
 use Rattle.books.specs.Rule.{events, is_open, Seen, readables, runs, frame_of, data_of, first_stamp, nothing}
@@ -44,7 +44,7 @@ endings_of o cs = endings_in o (is_open cs) (runs (readables false (events o cs)
 abbrev pub entry_says : Entry → List Ending
 entry_says (Entry.Delivered d) = ending_as How.Delivered d.len d.stamp ∷ []
 entry_says (Entry.Still d) = ending_as How.Still d.len d.stamp ∷ []
-entry_says (Entry.Dropped w n) = ending_as (How.Dropped w) n Stamp.Absent ∷ []
+entry_says (Entry.Dropped w n) = ending_as (How.Dropped w) n None ∷ []
 entry_says (Entry.UnderWay n) = []
 entry_says (Entry.Stray n) = []
 entry_says (Entry.Unreadable n) = []
@@ -60,7 +60,7 @@ entries_say (e ∷ es) = entry_says e ++ entries_say es
 abbrev pub said_by : How → ℕ → Stamp → Ending
 said_by How.Delivered n s = ending_as How.Delivered n s
 said_by How.Still n s = ending_as How.Still n s
-said_by (How.Dropped w) n s = ending_as (How.Dropped w) n Stamp.Absent
+said_by (How.Dropped w) n s = ending_as (How.Dropped w) n None
 
 abbrev pub said : Ending → Ending
 said x = said_by x.how x.len x.stamp

@@ -3,7 +3,6 @@
 
 ghost use Rattle.std.specs.Prelude.{◌≡◌, length};
 ghost use Rattle.session_rules.specs.Transfer.{reading_of};
-ghost use Rattle.session_rules.specs.Turns.{same_of, earlier_of};
 ghost use Rattle.endings.specs.Inner.{dropped_as, how_out, bytes_before, stamp_before, tell_ended, tell_dropped, tell_fate, tell_taken, tell_closed};
 
 use session_rules::{
@@ -27,47 +26,25 @@ pub struct Ending {
     pub stamp: Stamp,
 }
 
-#[derive(Drop)]
-pub enum Told {
-    Nothing,
-    Frame(Ending),
-}
-
 // What a call ended, in order: a frame under way before it, or the one handed out; and the frame of its own transfer.
 #[derive(Drop)]
 pub struct Endings {
-    pub first: Told,
-    pub second: Told,
-}
-
-fn same(a: bool, b: bool) -> bool
-    ensures { result ≡ same_of a b }
-{
-    if a { b } else { !b }
-}
-
-// The first stamp of two.
-fn earlier(a: Stamp, b: Stamp) -> Stamp
-    ensures { result ≡ earlier_of a b }
-{
-    match a {
-        Stamp::Absent => b,
-        Stamp::At(_) => a,
-    }
+    pub first: Option<Ending>,
+    pub second: Option<Ending>,
 }
 
 // A frame under way that a transfer's FID, or close, ended.
-fn ended_frame(phase: Phase, ended: Ended) -> Told
+fn ended_frame(phase: Phase, ended: Ended) -> Option<Ending>
     ensures { result ≡ tell_ended phase ended }
 {
     match ended {
-        Ended::Nothing => Told::Nothing,
-        Ended::Frame(why) => match phase {
-            Phase::Fresh => Told::Nothing,
-            Phase::Past(_) => Told::Nothing,
+        None => None,
+        Some(why) => match phase {
+            Phase::Fresh => None,
+            Phase::Past(_) => None,
             Phase::Under(r) => {
                 let stamp = r.stamp;
-                Told::Frame(Ending {
+                Some(Ending {
                     how: How::Dropped(why),
                     len: r.bytes,
                     stamp,
@@ -85,7 +62,7 @@ fn bytes_before(phase: Phase, fid: bool) -> u64
         Phase::Fresh => 0,
         Phase::Past(_) => 0,
         Phase::Under(r) => {
-            if same(r.fid, fid) {
+            if r.fid == fid {
                 return r.bytes;
             }
             0
@@ -98,52 +75,50 @@ fn stamp_before(phase: Phase, fid: bool) -> Stamp
     ensures { result ≡ stamp_before phase fid }
 {
     match phase {
-        Phase::Fresh => Stamp::Absent,
-        Phase::Past(_) => Stamp::Absent,
+        Phase::Fresh => None,
+        Phase::Past(_) => None,
         Phase::Under(r) => {
-            let stamp = r.stamp;
-            if same(r.fid, fid) {
-                return stamp;
+            if r.fid == fid {
+                return r.stamp;
             }
-            Stamp::Absent
+            None
         }
     }
 }
 
 // The frame that a transfer with this header and n bytes of data ended, dropped: with the transfer in it.
-fn dropped_with(phase: Phase, h: Header, n: usize, why: Reason) -> Told
+fn dropped_with(phase: Phase, h: Header, n: usize, why: Reason) -> Option<Ending>
     ensures { result ≡ dropped_as phase h n why }
 {
-    let own = h.stamp;
     let so_far = bytes_before(phase, h.fid);
     let was = stamp_before(phase, h.fid);
     let len = std::num::wrapping_add_u64(so_far, n as u64);
-    let stamp = earlier(was, own);
-    Told::Frame(Ending {
+    let stamp = was.or(h.stamp);
+    Some(Ending {
         how: How::Dropped(why),
         len,
         stamp,
     })
 }
 
-fn dropped_frame(o: Opening, phase: Phase, t: &[u8], why: Reason) -> Told
+fn dropped_frame(o: Opening, phase: Phase, t: &[u8], why: Reason) -> Option<Ending>
     ensures { result ≡ tell_dropped (reading_of o t.now) phase (length t.now) why }
 {
     let reading = payload::read(o, t);
     match reading {
-        Reading::Idle => Told::Nothing,
-        Reading::Unreadable(_) => Told::Nothing,
+        Reading::Idle => None,
+        Reading::Unreadable(_) => None,
         Reading::Readable(h) => dropped_with(phase, h, t.len() - h.len, why),
     }
 }
 
 // A frame with what the answer says of its delivery.
-fn handed_out(still: bool, d: Delivery) -> Told
+fn handed_out(still: bool, d: Delivery) -> Option<Ending>
     ensures { result ≡ how_out still d }
 {
     let stamp = d.stamp;
     let how = if still { How::Still } else { How::Delivered };
-    Told::Frame(Ending {
+    Some(Ending {
         how,
         len: d.len,
         stamp,
@@ -151,14 +126,14 @@ fn handed_out(still: bool, d: Delivery) -> Told
 }
 
 // The frame that a transfer of this fate ended itself.
-fn own_frame(o: Opening, phase: Phase, t: &[u8], fate: Fate) -> Told
+fn own_frame(o: Opening, phase: Phase, t: &[u8], fate: Fate) -> Option<Ending>
     ensures { result ≡ tell_fate (reading_of o t.now) phase (length t.now) fate }
 {
     match fate {
-        Fate::Idle => Told::Nothing,
-        Fate::Kept => Told::Nothing,
-        Fate::Stray => Told::Nothing,
-        Fate::Unreadable(_) => Told::Nothing,
+        Fate::Idle => None,
+        Fate::Kept => None,
+        Fate::Stray => None,
+        Fate::Unreadable(_) => None,
         Fate::Delivered(d) => handed_out(false, d),
         Fate::Still(d) => handed_out(true, d),
         Fate::Dropped(why) => dropped_frame(o, phase, t, why),
@@ -174,8 +149,8 @@ pub fn taken(before: Rest, t: &[u8], outcome: Outcome) -> Endings
     let phase = track.phase;
     match outcome {
         Outcome::Refused(_) => Endings {
-            first: Told::Nothing,
-            second: Told::Nothing,
+            first: None,
+            second: None,
         },
         Outcome::Taken(a) => {
             let ended = a.ended;
@@ -188,7 +163,7 @@ pub fn taken(before: Rest, t: &[u8], outcome: Outcome) -> Endings
             let d = x.delivery;
             Endings {
                 first: handed_out(x.still, d),
-                second: Told::Nothing,
+                second: None,
             }
         }
     }
@@ -201,13 +176,13 @@ pub fn closed(before: Rest, closing: Closing) -> Endings
     let track = before.track;
     let phase = track.phase;
     match closing {
-        Closing::Refused(_) => Endings {
-            first: Told::Nothing,
-            second: Told::Nothing,
+        Err(_) => Endings {
+            first: None,
+            second: None,
         },
-        Closing::Closed(ended) => Endings {
+        Ok(ended) => Endings {
             first: ended_frame(phase, ended),
-            second: Told::Nothing,
+            second: None,
         },
     }
 }

@@ -1,4 +1,5 @@
 -- What is found is the first used place that carries the ID; and one step of the search.
+use Rattle.std.specs.Prelude.{None, Option, Some}
 use Prim.Native.Nat.{ℕ, zero, suc, ◌+◌, ◌-◌, ◌≤◌, ◌<◌}
 use mathlib.Core.Path.{◌≡◌, refl, sym, ap, ◌∙◌, subst}
 use mathlib.Core.Bool.{Bool, true, false}
@@ -18,22 +19,20 @@ use Rattle.rules.proofs.Lists.{no-elements}
 use Rattle.rules.proofs.Padded.{pad-set, pad-length}
 use Rattle.entities.specs.Table.{entities_most, no_entity, entity_at, find_from, found_among}
 use Rattle.entities.specs.declared.Entity.{Entity}
-use Rattle.entities.specs.declared.Found.{Found}
-use Rattle.entities.specs.declared.Found.TheVariants.{At, Nothing}
 
 -- the place that an answer names, counted from i; n places further for none
-abbrev pub place_of : ℕ → Found → ℕ
-place_of n (At i) = i
-place_of n Nothing = n
+abbrev pub place_of : ℕ → Option ℕ → ℕ
+place_of n (Some i) = i
+place_of n None = n
 
 -- the entity at a place carries the ID
 abbrev pub Carries : List Entity → ℕ → ℕ → Type 0
 Carries l id i = (entity_at l i).id ≡ id
 
 -- what a search from place i on answers
-pub data Sought (l : List Entity) (id i : ℕ) : Found → Type 0 where
-  hit : (j : ℕ) → j < length l → First (Carries l id) (length l) j → Sought l id i (At (i + j))
-  missed : First (Carries l id) (length l) (length l) → Sought l id i Nothing
+pub data Sought (l : List Entity) (id i : ℕ) : Option ℕ → Type 0 where
+  hit : (j : ℕ) → j < length l → First (Carries l id) (length l) j → Sought l id i (Some (i + j))
+  missed : First (Carries l id) (length l) (length l) → Sought l id i None
 
 sought : (l : List Entity) (id i : ℕ) → Sought l id i (find_from i l id)
 unfolding find_from if_else
@@ -47,16 +46,16 @@ sought (e ∷ l) id i = go (eqb e.id id) refl (find_from (suc i) l id) (sought l
         b zero h q = n q
         b (suc k) h q = f.before k (omega arith) q
 
-    on : (n : e.id ≡ id → ⊥) (r : Found) → Sought l id (suc i) r → Sought (e ∷ l) id i r
+    on : (n : e.id ≡ id → ⊥) (r : Option ℕ) → Sought l id (suc i) r → Sought (e ∷ l) id i r
     on n r (hit j h f) =
         let z : suc i + j ≡ i + suc j = omega arith in
         rw z (hit (suc j) (omega arith) (back j n f))
     on n r (missed f) = missed (back (length l) n f)
 
-    go : (b : Bool) → eqb e.id id ≡ b → (r : Found) → Sought l id (suc i) r → Sought (e ∷ l) id i (if_else b (At i) r)
+    go : (b : Bool) → eqb e.id id ≡ b → (r : Option ℕ) → Sought l id (suc i) r → Sought (e ∷ l) id i (if_else b (Some i) r)
     go true q r w =
         let z : i ≡ i + 0 = omega arith in
-        let y : Sought (e ∷ l) id i (At (i + 0)) = hit 0 (omega arith) (record { within = omega arith; before = λ j h. absurd (omega arith); here = λ h. eqb-true e.id id q }) in
+        let y : Sought (e ∷ l) id i (Some (i + 0)) = hit 0 (omega arith) (record { within = omega arith; before = λ j h. absurd (omega arith); here = λ h. eqb-true e.id id q }) in
         rw (← z) at y
     go false q r w = on (eqb-false e.id id q) r w
 
@@ -64,7 +63,7 @@ sought (e ∷ l) id i = go (eqb e.id id) refl (find_from (suc i) l id) (sought l
 pub found_first : (l : List Entity) (id : ℕ) → First (Carries l id) (length l) (place_of (length l) (find_from 0 l id))
 found_first l id = go (find_from 0 l id) (sought l id 0)
   where
-    go : (r : Found) → Sought l id 0 r → First (Carries l id) (length l) (place_of (length l) r)
+    go : (r : Option ℕ) → Sought l id 0 r → First (Carries l id) (length l) (place_of (length l) r)
     go r (hit j h f) = let z : 0 + j ≡ j = omega arith in rw z f
     go r (missed f) = f
 
@@ -73,27 +72,27 @@ pub find_first : (l : List Entity) (n id : ℕ) → First (Carries (take n l) id
 find_first l n id = found_first (take n l) id
 
 -- a place that is found is one of the list's
-pub found_within : (l : List Entity) (id j : ℕ) → find_from 0 l id ≡ At j → j < length l
+pub found_within : (l : List Entity) (id j : ℕ) → find_from 0 l id ≡ Some j → j < length l
 found_within l id j e = go (find_from 0 l id) (sought l id 0) e
   where
-    go : (r : Found) → Sought l id 0 r → r ≡ At j → j < length l
+    go : (r : Option ℕ) → Sought l id 0 r → r ≡ Some j → j < length l
     go r (hit k h f) q = let z : 0 + k ≡ j = cc in omega arith
     go r (missed f) q = absurd (let z : ◌≡◌ {A = ℕ} 0 1 = cc in omega arith)
 
 -- the place that a scan of a list finds is the one that the search finds
-pub absent : (l : List Entity) (id : ℕ) → ((i : ℕ) → i < length l → Carries l id i → ⊥) → Nothing ≡ find_from 0 l id
+pub absent : (l : List Entity) (id : ℕ) → ((i : ℕ) → i < length l → Carries l id i → ⊥) → None ≡ find_from 0 l id
 absent l id h = go (find_from 0 l id) refl
   where
-    go : (f : Found) → find_from 0 l id ≡ f → Nothing ≡ f
-    go Nothing e = refl
-    go (At j) e = let w = found_within l id j e in absurd (h j w ((rw e at (found_first l id)).here w))
+    go : (f : Option ℕ) → find_from 0 l id ≡ f → None ≡ f
+    go None e = refl
+    go (Some j) e = let w = found_within l id j e in absurd (h j w ((rw e at (found_first l id)).here w))
 
-pub present : (l : List Entity) (id r : ℕ) → r < length l → First (Carries l id) (length l) r → At r ≡ find_from 0 l id
+pub present : (l : List Entity) (id r : ℕ) → r < length l → First (Carries l id) (length l) r → Some r ≡ find_from 0 l id
 present l id r h w = go (find_from 0 l id) refl
   where
-    go : (f : Found) → find_from 0 l id ≡ f → At r ≡ f
-    go Nothing e = absurd ((rw e at (found_first l id)).before r h (w.here h))
-    go (At j) e = ap At (first-unique (Carries l id) (length l) r j w (rw e at (found_first l id)))
+    go : (f : Option ℕ) → find_from 0 l id ≡ f → Some r ≡ f
+    go None e = absurd ((rw e at (found_first l id)).before r h (w.here h))
+    go (Some j) e = ap Some (first-unique (Carries l id) (length l) r j w (rw e at (found_first l id)))
 
 -- ---- lent places, taken apart into a table of `places`: the first i of them by value
 module _ (places : ℕ) where
@@ -169,22 +168,22 @@ pub record Seeking (l : List Entity) (n id i : ℕ) : Type 0 where
 pub seek : (l : List Entity) (n id : ℕ) → length l ≡ entities_most → Seeking l n id 0
 seek l n id e = record { size = e; within = omega arith; same = refl }
 
-nothing_left : (l : List Entity) (id i : ℕ) → length l ≤ i → find_from i (drop i l) id ≡ Nothing
+nothing_left : (l : List Entity) (id i : ℕ) → length l ≤ i → find_from i (drop i l) id ≡ None
 unfolding find_from
 nothing_left l id i h = rw (no-elements (drop i l) (simp length-drop (omega arith)))
 
 module _ (l : List Entity) (n id i : ℕ) (w : Seeking l n id i) where
-  pub none_left : n ≤ i → Nothing ≡ found_among l n id
+  pub none_left : n ≤ i → None ≡ found_among l n id
   none_left h = let b : length (take n l) ≤ i = simp length-take (omega arith) in sym (nothing_left (take n l) id i b) ∙ w.same
 
-  pub none_more : entities_most ≤ i → Nothing ≡ found_among l n id
+  pub none_more : entities_most ≤ i → None ≡ found_among l n id
   none_more h = let b : length (take n l) ≤ i = simp length-take (omega (arith, w.size)) in sym (nothing_left (take n l) id i b) ∙ w.same
 
   module _ (d : Entity) (h : i < n) (b : i < entities_most) where
     here : drop i (take n l) ≡ get_or l i d ∷ drop (suc i) (take n l)
     here = let c : i < length (take n l) = simp length-take (omega (arith, w.size)) in drop-cons (take n l) i d c ∙ (rw get_or-take)
 
-    pub here-at : (get_or l i d).id ≡ id → At i ≡ found_among l n id
+    pub here-at : (get_or l i d).id ≡ id → Some i ≡ found_among l n id
     unfolding find_from if_else
     here-at e = rw (here, eq-eqb (get_or l i d).id id e) at w.same
 

@@ -1,4 +1,5 @@
 -- Each promise leaves one answer.
+use Rattle.std.specs.Prelude.{Option}
 use Prim.Native.Nat.{ℕ}
 use mathlib.Core.Path.{◌≡◌, sym, ap, ◌∙◌}
 use mathlib.Core.List.{List}
@@ -11,23 +12,22 @@ use Rattle.entities.specs.Revisions.{says_of}
 use Rattle.entities.specs.declared.Revision.{Revision}
 use Rattle.entities.specs.declared.Says.{Says}
 use Rattle.entities.specs.declared.Table.{Table}
-use Rattle.entities.specs.declared.Found.{Found}
 
 pub no-table-unique : (r s : Table) → r ≡ no_table → s ≡ no_table → r ≡ s
 no-table-unique r s p q = p ∙ sym q
 
-pub find-unique : (t : Table) (id : ℕ) (r s : Found) → r ≡ found_in t id → s ≡ found_in t id → r ≡ s
+pub find-unique : (t : Table) (id : ℕ) (r s : Option ℕ) → r ≡ found_in t id → s ≡ found_in t id → r ≡ s
 find-unique t id r s p q = p ∙ sym q
 
 -- of places by value, and of lent ones
-pub find-among-unique : (l : List Entity) (n id : ℕ) (r s : Found) → r ≡ found_among l n id → s ≡ found_among l n id → r ≡ s
+pub find-among-unique : (l : List Entity) (n id : ℕ) (r s : Option ℕ) → r ≡ found_among l n id → s ≡ found_among l n id → r ≡ s
 find-among-unique l n id r s p q = p ∙ sym q
 
-pub find-lent-unique : (l : List Entity) (n id : ℕ) (r s : Found) → r ≡ found_among (take entities_most l) n id → s ≡ found_among (take entities_most l) n id → r ≡ s
+pub find-lent-unique : (l : List Entity) (n id : ℕ) (r s : Option ℕ) → r ≡ found_among (take entities_most l) n id → s ≡ found_among (take entities_most l) n id → r ≡ s
 find-lent-unique l n id r s p q = p ∙ sym q
 
 -- the lookups agree on a table whose places are lent
-pub lookups-agree : (t : Table) (id : ℕ) (r s : Found) → length t.entities ≡ entities_most → r ≡ found_in t id → s ≡ found_among (take entities_most t.entities) t.count id → r ≡ s
+pub lookups-agree : (t : Table) (id : ℕ) (r s : Option ℕ) → length t.entities ≡ entities_most → r ≡ found_in t id → s ≡ found_among (take entities_most t.entities) t.count id → r ≡ s
 lookups-agree t id r s n p q = p ∙ sym (q ∙ ap (λ (l : List Entity). found_among l t.count id) (take_all entities_most t.entities (omega arith)))
 
 pub says-of-unique : (v : Revision) (r s : Says) → r ≡ says_of v → s ≡ says_of v → r ≡ s

@@ -1,12 +1,10 @@
 -- The entity table: what an unused place holds, and which place an ID names.
-use Rattle.std.specs.Prelude.{ℕ, suc, ◌≡◌, List, [], ◌∷◌, length, take, get_or, replicate, eqb}
+use Rattle.std.specs.Prelude.{ℕ, suc, ◌≡◌, List, [], ◌∷◌, length, take, get_or, replicate, eqb, None, Option, Some}
 use Rattle.rules.specs.IfElse.{if_else}
 use Rattle.rules.specs.First.{First}
 use Rattle.entities.specs.declared.Entity.{Entity}
 use Rattle.entities.specs.declared.Table.{Table}
 use Rattle.entities.specs.declared.Revision.TheVariants.{R15}
-use Rattle.entities.specs.declared.Found.{Found}
-use Rattle.entities.specs.declared.Found.TheVariants.{At, Nothing}
 
 -- ours: the most entities of a block, and the places of its table
 abbrev pub entities_most : ℕ
@@ -42,17 +40,17 @@ abbrev pub used : Table → List Entity
 used t = take t.count t.entities
 
 -- the place, counted from i, of the first entity that carries the ID
-unfoldable pub find_from : ℕ → List Entity → ℕ → Found
-find_from i [] id = Nothing
-find_from i (e ∷ l) id = if_else (eqb e.id id) (At i) (find_from (suc i) l id)
+unfoldable pub find_from : ℕ → List Entity → ℕ → Option ℕ
+find_from i [] id = None
+find_from i (e ∷ l) id = if_else (eqb e.id id) (Some i) (find_from (suc i) l id)
 
 -- the same without a search: the first place of the list whose entity carries the ID, or the length where none does
 abbrev pub Finds : List Entity → ℕ → ℕ → Type 0
 Finds l id r = First (λ i. (entity_at l i).id ≡ id) (length l) r
 
 -- FINDING AN ID: the first used place whose entity carries it, where the first n places are used
-abbrev pub found_among : List Entity → ℕ → ℕ → Found
+abbrev pub found_among : List Entity → ℕ → ℕ → Option ℕ
 found_among l n id = find_from 0 (take n l) id
 
-abbrev pub found_in : Table → ℕ → Found
+abbrev pub found_in : Table → ℕ → Option ℕ
 found_in t id = found_among t.entities t.count id

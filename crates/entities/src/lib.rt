@@ -17,7 +17,8 @@ pub const PROCESSING_UNIT: u8 = 5;
 
 pub const ENCODING_UNIT: u8 = 7;
 
-// A terminal or a unit: its ID, its subtype number, its terminal type or 0, and where its descriptor stands.
+// A terminal or a unit: its ID, its subtype number, its terminal type or 0, and where its descriptor stands. (The subtype is a number, since what each requires
+// is decided by its number, with one case for everything unknown.)
 #[derive(Clone, Copy)]
 pub struct Entity {
     pub id: u8,
@@ -58,12 +59,6 @@ pub struct Table {
     pub revision: Revision,
 }
 
-#[derive(Clone, Copy)]
-pub enum Found {
-    At(usize),
-    Nothing,
-}
-
 // The one table of what differs.
 pub fn says_of(revision: Revision) -> Says
     ensures { result ≡ says_of revision }
@@ -100,23 +95,16 @@ pub fn says_of(revision: Revision) -> Says
 pub fn no_table() -> Table
     ensures { result ≡ no_table }
 {
-    let none = Entity {
-        id: 0,
-        kind: 0,
-        terminal: 0,
-        offset: 0,
-    };
-    let entities = [none; ENTITIES_MOST];
     Table {
         count: 0,
-        entities,
+        entities: no_places(),
         clock: 0,
         revision: Revision::R15,
     }
 }
 
 // The first used place of a table whose entity carries the ID.
-pub fn find(t: Table, id: u8) -> Found
+pub fn find(t: Table, id: u8) -> Option<usize>
     ensures { result ≡ found_in t id }
 {
     let entities = t.entities;
@@ -124,32 +112,29 @@ pub fn find(t: Table, id: u8) -> Found
 }
 
 // The lookup, of places by value: the first of the first `count` whose entity carries the ID.
-pub fn find_among(entities: [Entity; ENTITIES_MOST], count: usize, id: u8) -> Found
+pub fn find_among(entities: [Entity; ENTITIES_MOST], count: usize, id: u8) -> Option<usize>
     ensures { result ≡ found_among entities count id }
 {
-    let mut i: usize = 0;
-    while i < ENTITIES_MOST {
+    for (i, e) in entities.iter().enumerate() {
         if count <= i {
-            return Found::Nothing;
+            return None;
         }
-        let e = entities[i];
         if e.id == id {
-            return Found::At(i);
+            return Some(i);
         }
-        i = i + 1;
     }
-    Found::Nothing
+    None
 }
 
 // The same over lent places, as many as a table has: a thin scan takes them apart, and the lookup goes by value.
-pub fn find_lent(entities: &[Entity], count: usize, id: u8) -> Found
+pub fn find_lent(entities: &[Entity], count: usize, id: u8) -> Option<usize>
     ensures { result ≡ found_among (take entities_most entities.now) count id }
 {
     find_placed(taken_apart(entities), entities.len(), count, id)
 }
 
 // The lookup where so many places were lent.
-fn find_placed(all: [Entity; ENTITIES_MOST], places: usize, count: usize, id: u8) -> Found
+fn find_placed(all: [Entity; ENTITIES_MOST], places: usize, count: usize, id: u8) -> Option<usize>
     ensures { result ≡ if_else (leb places count) (found_among all places id) (found_among all count id) }
 {
     if places <= count {
@@ -163,11 +148,9 @@ fn taken_apart(entities: &[Entity]) -> [Entity; ENTITIES_MOST]
     ensures { result ≡ pad entities_most no_entity (take entities_most entities.now) }
 {
     let mut all = no_places();
-    let mut i: usize = 0;
-    while i < entities.len() {
-        let next = with_place(all, i, entities[i]);
+    for (i, e) in entities.iter().enumerate() {
+        let next = with_place(all, i, *e);
         all = next;
-        i += 1;
     }
     all
 }

@@ -1,10 +1,10 @@
--- Taking transfers round by round: what holds after each, and that what is left grows less.
+-- Taking transfers round by round: what holds after each.
 use Prim.Native.Nat.{ℕ, zero, suc, ◌+◌, ◌*◌, ◌-◌, ◌/◌, ◌<◌, ◌≤◌}
-use mathlib.Core.Path.{◌≡◌, refl, sym, ap, ◌∙◌}
+use mathlib.Core.Path.{◌≡◌, refl, ap, ◌∙◌}
 use mathlib.Core.List.{List}
 use lib.ListN.{length, take, drop}
-use lib.Arith.{digits_div}
-use native.Mathlib.Nat.{div-eq_of_lt, div-zero, zero-mul}
+use Rattle.std.proofs.Math.Nat.{div-mul-le_self, mul-le-mul_right}
+use native.Mathlib.Nat.{div-zero}
 use native.Mathlib.Numerals.{add-one}
 use native.Mathlib.Omega.{arith}
 use Rattle.session_rules.specs.declared.Session.{Session}
@@ -25,69 +25,45 @@ use Rattle.session_rules.proofs.Places.{Sized}
 use Rattle.session.specs.Inner.{whole_of, taken_with}
 use Rattle.session_rules.specs.Calls.{Offer}
 
-pub round-less : (times i n at : ℕ) → i < times → (times - (i + 1)) * (n + 1) + (n - 0) < (times - i) * (n + 1) + (n - at)
-round-less times i n at h =
-    let e : times - i ≡ (times - (i + 1)) + 1 = omega arith in
-    rw e (step (times - (i + 1)) n at)
-  where
-    step : (k n at : ℕ) → k * (n + 1) + (n - 0) < (k + 1) * (n + 1) + (n - at)
-    step k n at = omega arith
-
--- ---- a round's transfers are counted by k
-pub record Going (size times : ℕ) (l : List ℕ) (a : State) (b : List ℕ) (s : Session) (i at : ℕ) : Type 0 where
-  pub k : ℕ
-  pub place : at ≡ k * size
+-- ---- some rounds and the first transfers of the next are taken
+pub record Going (size : ℕ) (l : List ℕ) (a : State) (b : List ℕ) (s : Session) (i k : ℕ) : Type 0 where
   pub state : record { session = s; buffer = b } ≡ took_first size l (took_all size l a i) k
-  pub ended : times ≤ i → k ≡ 0
   pub sized : Sized (posted_of s)
 
-pub going_start : (p : Opening) (size times : ℕ) (l b : List ℕ) (o : Opened) → o ≡ open_of p (length b) → length o.session.numbers ≡ number_count →
-    Going size times l (opened p b) b o.session 0 0
+pub going_start : (p : Opening) (size : ℕ) (l b : List ℕ) (o : Opened) → o ≡ open_of p (length b) → length o.session.numbers ≡ number_count → Going size l (opened p b) b o.session 0 0
 unfolding took_first took_all
-going_start p size times l b o e f = record { k = 0; place = sym (zero-mul size); state = rw e refl; ended = λ h. refl; sized = f }
+going_start p size l b o e f = record { state = rw e refl; sized = f }
 
-whole : (size n k : ℕ) → k * size + size ≤ n → n - (k * size + size) < size → n / size ≡ suc k
-whole size n k h e =
-    let m : suc k * size + (n - (k * size + size)) ≡ n = omega arith in
-    ap (λ (x : ℕ). x / size) (sym m) ∙ digits_div (suc k) e
+-- the next transfer lies in the bytes
+pub lies : (size k : ℕ) (l : List ℕ) → k < length l / size → k * size + size ≤ length l
+lies size k l h =
+    let a : (k + 1) * size ≤ length l / size * size = mul-le-mul_right size (omega (arith, h)) in
+    omega (arith, a, div-mul-le_self (length l) size)
 
-module _ (size times : ℕ) (l : List ℕ) (a : State) (b : List ℕ) (s : Session) (i at : ℕ) (g : Going size times l a b s i at) (d : List ℕ) (x : RestTaken) (m : List ℕ)
-    (v : taken_with x m ≡ take_of s (length b) (take (at + size - at) (drop at l))) (w : d ≡ buffer_of s b (take (at + size - at) (drop at l))) where
-  abbrev after : Session
-  after = whole_of x.rest m
-
-  kept : Sized (posted_of after)
-  kept = ap (λ (y : Taken). length y.session.numbers) v ∙ next-sized s g.sized (Offer.take b (take (at + size - at) (drop at l)))
-
-  next : record { session = after; buffer = d } ≡ took_first size l (took_all size l a i) (suc g.k)
+module _ (size : ℕ) (l : List ℕ) (a : State) (b : List ℕ) (s : Session) (i k : ℕ) (g : Going size l a b s i k) where
+  pub going_more : (d : List ℕ) (x : RestTaken) (m : List ℕ) → taken_with x m ≡ take_of s (length b) (take (k * size + size - k * size) (drop (k * size) l))
+      → d ≡ buffer_of s b (take (k * size + size - k * size) (drop (k * size) l)) → Going size l a d (whole_of x.rest m) i (k + 1)
   unfolding took_first
-  next =
-      let e : at + size - at ≡ size = omega arith in
-      ap (λ (y : Taken). record { session = y.session; buffer = d }) v ∙ rw (← g.state, w, e, g.place) refl
+  going_more d x m v w = record {
+    state =
+        let e : k * size + size - k * size ≡ size = omega arith in
+        ap (λ (y : Taken). record { session = y.session; buffer = d }) v ∙ rw (add-one k, ← g.state, w, e) refl;
+    sized = ap (λ (y : Taken). length y.session.numbers) v ∙ next-sized s g.sized (Offer.take b (take (k * size + size - k * size) (drop (k * size) l)));
+  }
 
-  pub going_more : i < times → Going size times l a d after i (at + size)
-  going_more h = record { k = suc g.k; place = rw g.place (step g.k); state = next; ended = λ e. absurd (omega arith); sized = kept }
-    where
-      step : (k : ℕ) → k * size + size ≡ suc k * size
-      step k = omega arith
-
-  pub going-round : at + size ≤ length l → length l - (at + size) < size → Going size times l a d after (i + 1) 0
+  -- the round is over
+  pub going-round : k ≡ length l / size → Going size l a b s (i + 1) 0
   unfolding took_first took_all
-  going-round h e =
-      let n : length l / size ≡ suc g.k = whole size (length l) g.k (rw (← g.place) h) (rw (← g.place) e) in
-      record { k = 0; place = sym (zero-mul size); state = rw (add-one i, n) next; ended = λ z. refl; sized = kept }
+  going-round e = record { state = rw (add-one i, ← e) g.state; sized = g.sized }
 
 -- ---- the answer: the bytes delivered, and the buffer
 abbrev Answered : ℕ → List ℕ → State → ℕ → ℕ → List ℕ → Type 0
 Answered size l a times r b = (r ≡ delivered_of (took_all size l a times)) × (b ≡ (took_all size l a times).buffer)
 
-pub all-taken : (size times : ℕ) (l : List ℕ) (a : State) (b : List ℕ) (s : Session) (i at r : ℕ) → Going size times l a b s i at → i ≤ times → times ≤ i
-    → r ≡ bytes_of (posted_of s) (place_of Account.Delivered) → Answered size l a times r b
+pub all-taken : (size times : ℕ) (l : List ℕ) (a : State) (b : List ℕ) (s : Session) (r : ℕ) → Going size l a b s times 0 → r ≡ bytes_of (posted_of s) (place_of Account.Delivered)
+    → Answered size l a times r b
 unfolding took_first
-all-taken size times l a b s i at r g h e q =
-    let j : i ≡ times = omega arith in
-    let x : record { session = s; buffer = b } ≡ took_all size l a times = rw (g.ended e, j) at g.state in
-    (q ∙ ap (λ (z : State). delivered_of z) x, ap (λ (z : State). z.buffer) x)
+all-taken size times l a b s r g q = (q ∙ ap (λ (z : State). delivered_of z) g.state, ap (λ (z : State). z.buffer) g.state)
 
 no-round : (size : ℕ) (l : List ℕ) (a : State) (i : ℕ) → length l / size ≡ 0 → a ≡ took_all size l a i
 unfolding took_first took_all
@@ -107,6 +83,3 @@ module _ (p : Opening) (size times : ℕ) (l b : List ℕ) where
 
   pub no_size : size ≡ 0 → Answered size l (opened p b) times 0 b
   no_size e = nothing (rw e (div-zero (length l)))
-
-  pub too_short : length l < size → Answered size l (opened p b) times 0 b
-  too_short h = nothing (div-eq_of_lt h)

@@ -7,15 +7,15 @@ ghost use Rattle.std.specs.Prelude.{◌≡◌};
 ghost use Rattle.exports.specs.Numbers.{number_of, number_under, ControlNumber, StreamingNumber, ConfigurationNumber};
 
 use entities::Table;
-use rules::Verdict;
+use rules::{Refused, Verdict};
 
 // 0 for accepted, else the number of the first broken rule.
 fn number_of(verdict: Verdict) -> u64
     ensures { result ≡ number_of verdict }
 {
     match verdict {
-        Verdict::Accepted => 0,
-        Verdict::Refused { number, offset: _ } => number as u64,
+        Ok(()) => 0,
+        Err(Refused { number, offset: _ }) => number as u64,
     }
 }
 
@@ -44,8 +44,8 @@ fn number_under(verdict: Verdict, table: Table, block: &[u8]) -> u64
     ensures { result ≡ number_under verdict table block.now }
 {
     match verdict {
-        Verdict::Refused { number, offset: _ } => number as u64,
-        Verdict::Accepted => {
+        Err(Refused { number, offset: _ }) => number as u64,
+        Ok(()) => {
             let s = streaming::read(table, block);
             let verdict = s.verdict;
             number_of(verdict)

@@ -4,7 +4,7 @@ ghost use Rattle.sizes.specs.declared.HeaderKind.TheVariants.{Old};
 ghost use Rattle.exports.specs.Taking.{opened, took_all, delivered_of};
 
 use recorder::Recorder;
-use session_rules::{Account, Ledger, Session};
+use session_rules::{Account, Ledger};
 use sizes::{HeaderKind, Opening};
 
 // Opens a session, and takes the transfers of `size` bytes that lie one after another in `transfers`, all of them so many times. It answers the bytes delivered.
@@ -36,19 +36,12 @@ pub extern "C" fn palkodhen_take(
     if size == 0 {
         return 0;
     }
-    if transfers.len() < size {
-        return 0;
-    }
-    let mut i: u64 = 0;
-    let mut at: usize = 0;
-    while i < times {
-        let end = at + size;
-        let taken = session::take(rest, &mut numbers, buffer, &transfers[at..end]);
-        rest = taken.rest;
-        at = end;
-        if transfers.len() - at < size {
-            at = 0;
-            i += 1;
+    for _round in 0..times {
+        for k in 0..transfers.len() / size {
+            let at = k * size;
+            let end = at + size;
+            let taken = session::take(rest, &mut numbers, buffer, &transfers[at..end]);
+            rest = taken.rest;
         }
     }
     let last = rest.last;

@@ -1,4 +1,4 @@
 -- Laws of zero fill.
-pub mod Rounds
+pub mod Searched
 pub mod Zeros
 pub mod Unique

@@ -9,12 +9,5 @@ pub fn any_set(r: &[u8], at: usize) -> bool
     requires { at ≤ length r.now }
     ensures { result ≡ any_set (drop at r.now) }
 {
-    let mut i = at;
-    while i < r.len() {
-        if r[i] != 0 {
-            return true;
-        }
-        i += 1;
-    }
-    false
+    r[at..].iter().any(|b| *b != 0)
 }

@@ -1,16 +1,15 @@
 -- What each way of the code says of the lines.
+use Rattle.std.specs.Prelude.{None, Option, Some}
+use Rattle.session_rules.specs.declared.Step.{Step}
+use Rattle.session_rules.specs.Options.{Stamp}
 use Rattle.std.proofs.Common.{◌≡◌, ℕ, ◌+◌, ◌≤◌, List, [], ◌∷◌, ◌++◌, length, sym, refl, ap, ◌∙◌, subst, append_assoc, append-nil, arith}
 use lib.Seq.{paste-zero}
 use Rattle.text.specs.Put.{Put}
 use Rattle.text.proofs.Puts.{then}
-use Rattle.session_rules.specs.declared.Stamp.{Stamp}
 use Rattle.endings.specs.declared.How.{How}
 use Rattle.endings.specs.declared.How.TheVariants.{Delivered, Still, Dropped}
 use Rattle.endings.specs.declared.Ending.{Ending}
-use Rattle.endings.specs.declared.Told.{Told}
 use Rattle.endings.specs.Inner.{told_in}
-use Rattle.frame_lines.specs.declared.Since.{Since}
-use Rattle.frame_lines.specs.declared.Since.TheVariants.{Dash}
 use Rattle.frame_lines.specs.declared.Show.{Show}
 use Rattle.frame_lines.specs.declared.Counted.{Counted}
 use Rattle.frame_lines.specs.Lines.{since_of, last_of, replay_text, frame_text}
@@ -36,15 +35,15 @@ abbrev Said : Show → Counted → List Ending → List ℕ → ℕ → ℕ → 
 Said show c es old at r new d = Put old at (lines_in show c es) r new × ((d ≡ counted_all show c es) × (r ≤ at + line_most))
 
 module _ (c : Counted) (e : Ending) (old : List ℕ) (at : ℕ) where
-  pub delivered : (s : Since) (m : ℕ) (l : Stamp) (r : ℕ) (new : List ℕ) → e.how ≡ Delivered → s ≡ since_of c.last e.stamp → m ≡ next_number c.number → l ≡ last_of c.last e.stamp
+  pub delivered : (s : Option Step) (m : ℕ) (l : Stamp) (r : ℕ) (new : List ℕ) → e.how ≡ Delivered → s ≡ since_of c.last e.stamp → m ≡ next_number c.number → l ≡ last_of c.last e.stamp
       → Put old at (replay_text c.number e.len s) r new → r ≤ at + line_most
       → Ended Show.Replay c e old at r new (record { number = m; last = l })
   delivered s m l r new h q n k p b = (
-    subst (λ (w : How). Put old at (replay_by w c e.len e.stamp) r new) (sym h) (subst (λ (z : Since). Put old at (replay_text c.number e.len z) r new) q p),
+    subst (λ (w : How). Put old at (replay_by w c e.len e.stamp) r new) (sym h) (subst (λ (z : Option Step). Put old at (replay_text c.number e.len z) r new) q p),
     ((λ i. record { number = n i; last = k i }) ∙ ap (λ (w : How). counted_by w c e.stamp) (sym h), b),
   )
 
-  pub still : (m : ℕ) (r : ℕ) (new : List ℕ) → e.how ≡ Still → m ≡ next_number c.number → Put old at (replay_text c.number e.len Dash) r new → r ≤ at + line_most
+  pub still : (m : ℕ) (r : ℕ) (new : List ℕ) → e.how ≡ Still → m ≡ next_number c.number → Put old at (replay_text c.number e.len None) r new → r ≤ at + line_most
       → Ended Show.Replay c e old at r new (record { number = m; last = c.last })
   still m r new h n p b = (
     subst (λ (w : How). Put old at (replay_by w c e.len e.stamp) r new) (sym h) p,
@@ -57,17 +56,17 @@ module _ (c : Counted) (e : Ending) (old : List ℕ) (at : ℕ) where
     (ap (λ (w : How). counted_by w c e.stamp) (sym h), omega arith),
   )
 
-module _ (show : Show) (c : Counted) (t : Told) (old : List ℕ) (at : ℕ) where
-  pub told_none : t ≡ Told.Nothing → at + line_most ≤ length old → Said show c (told_in t) old at at old c
+module _ (show : Show) (c : Counted) (t : Option Ending) (old : List ℕ) (at : ℕ) where
+  pub told_none : t ≡ None → at + line_most ≤ length old → Said show c (told_in t) old at at old c
   told_none h b = rw h (put-nothing old at (omega arith), (refl, omega arith))
 
-  pub told-unshown : (e : Ending) → t ≡ Told.Frame e → show ≡ Show.Nothing → at + line_most ≤ length old → Said show c (told_in t) old at at old c
+  pub told-unshown : (e : Ending) → t ≡ Some e → show ≡ Show.Nothing → at + line_most ≤ length old → Said show c (told_in t) old at at old c
   told-unshown e h s b = rw (h, s) (put-nothing old at (omega arith), (refl, omega arith))
 
-  pub told-replayed : (e : Ending) (r : ℕ) (new : List ℕ) (d : Counted) → t ≡ Told.Frame e → show ≡ Show.Replay → Ended Show.Replay c e old at r new d → Said show c (told_in t) old at r new d
+  pub told-replayed : (e : Ending) (r : ℕ) (new : List ℕ) (d : Counted) → t ≡ Some e → show ≡ Show.Replay → Ended Show.Replay c e old at r new d → Said show c (told_in t) old at r new d
   told-replayed e r new d h s x = rw (h, s) (subst (λ (l : List ℕ). Put old at l r new) (sym (append-nil (line_of Show.Replay c e))) x.0, (x.1.0, x.1.1))
 
-  pub told-frame : (e : Ending) (m r : ℕ) (new : List ℕ) → t ≡ Told.Frame e → show ≡ Show.Frames → m ≡ next_number c.number → Put old at (frame_text c.number e) r new → r ≤ at + line_most
+  pub told-frame : (e : Ending) (m r : ℕ) (new : List ℕ) → t ≡ Some e → show ≡ Show.Frames → m ≡ next_number c.number → Put old at (frame_text c.number e) r new → r ≤ at + line_most
       → Said show c (told_in t) old at r new (record { number = m; last = c.last })
   told-frame e m r new h s n p b =
       rw (h, s) (subst (λ (l : List ℕ). Put old at l r new) (sym (append-nil (frame_text c.number e))) p, (λ i. record { number = n i; last = c.last }, b))

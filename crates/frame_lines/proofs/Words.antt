@@ -1,11 +1,11 @@
 -- THE LINES, as the code counts them, are those of the words: fewer than 2^64 frames end.
+use Rattle.std.specs.Prelude.{None}
+use Rattle.session_rules.specs.Options.{Stamp}
 use Rattle.std.proofs.Common.{◌≡◌, ℕ, ◌+◌, ◌^◌, ◌<◌, List, [], ◌∷◌, ◌++◌, length, refl, ap, ◌∙◌, arith}
-use Rattle.session_rules.specs.declared.Stamp.{Stamp}
 use Rattle.endings.specs.declared.How.{How}
 use Rattle.endings.specs.declared.How.TheVariants.{Delivered, Still, Dropped}
 use Rattle.endings.specs.declared.Ending.{Ending}
 use Rattle.frame_lines.specs.declared.Show.TheVariants.{Nothing, Replay, Frames}
-use Rattle.frame_lines.specs.declared.Since.TheVariants.{Dash}
 use Rattle.frame_lines.specs.declared.Counted.{Counted}
 use Rattle.frame_lines.specs.Lines.{since_of, last_of, replay_text, frame_text, replay_how, replay_lines, frame_lines}
 use Rattle.frame_lines.specs.Inner.{next_number, replay_by, counted_by, lines_in}
@@ -23,7 +23,7 @@ module _ (e : Ending) (es : List Ending) (n : ℕ) (last : Stamp) (h : n + 1 < 2
 
   one_more : (w : How) → replay_by w c e.len e.stamp ++ lines_in Replay (counted_by w c e.stamp) es ≡ replay_how w e.len n last e.stamp (λ m s. replay_lines m s es)
   one_more Delivered = ap (replay_text n e.len (since_of last e.stamp) ++◌) (on (last_of last e.stamp))
-  one_more Still = ap (replay_text n e.len Dash ++◌) (on last)
+  one_more Still = ap (replay_text n e.len None ++◌) (on last)
   one_more (Dropped w) = same
 
 pub replay-lines : (es : List Ending) (n : ℕ) (last : Stamp) → n + length es < 2 ^ 64 → lines_in Replay (record { number = n; last = last }) es ≡ replay_lines n last es

@@ -1,10 +1,9 @@
 -- What the contracts cite: one line after the other, with the number as the code counts it. Nothing here needs to be believed: proofs/Words ties it to the words.
-use Rattle.std.specs.Prelude.{ℕ, ◌+◌, ◌%◌, ◌^◌, List, [], ◌∷◌, ◌++◌}
-use Rattle.session_rules.specs.declared.Stamp.{Stamp}
+use Rattle.session_rules.specs.Options.{Stamp}
+use Rattle.std.specs.Prelude.{ℕ, ◌+◌, ◌%◌, ◌^◌, List, [], ◌∷◌, ◌++◌, None}
 use Rattle.endings.specs.declared.How.{How}
 use Rattle.endings.specs.declared.How.TheVariants.{Delivered, Still, Dropped}
 use Rattle.endings.specs.declared.Ending.{Ending}
-use Rattle.frame_lines.specs.declared.Since.TheVariants.{Dash}
 use Rattle.frame_lines.specs.declared.Show.{Show}
 use Rattle.frame_lines.specs.declared.Show.TheVariants.{Nothing, Replay, Frames}
 use Rattle.frame_lines.specs.declared.Counted.{Counted}
@@ -19,7 +18,7 @@ next_number n = (n + 1) % 2 ^ 64
 
 abbrev pub replay_by : How → Counted → ℕ → Stamp → List ℕ
 replay_by Delivered c len stamp = replay_text c.number len (since_of c.last stamp)
-replay_by Still c len stamp = replay_text c.number len Dash
+replay_by Still c len stamp = replay_text c.number len None
 replay_by (Dropped w) c len stamp = []
 
 abbrev pub counted_by : How → Counted → Stamp → Counted

@@ -1,8 +1,8 @@
 -- Document 02, "Thirteen": "one line per delivered frame or still, one space between: number from 1, length, and signed step from the last stamped delivered frame, or a dash where there is
 -- none and for stills". And ours: a line for every frame that ended, with its number, its fate, its length and its stamp or a dash.
-use Rattle.std.specs.Prelude.{ℕ, ◌+◌, List, [], ◌∷◌, ◌++◌}
-use Rattle.session_rules.specs.declared.Stamp.{Stamp}
-use Rattle.session_rules.specs.declared.Stamp.TheVariants.{Absent, At}
+use Rattle.session_rules.specs.declared.Step.{Step}
+use Rattle.session_rules.specs.Options.{Stamp}
+use Rattle.std.specs.Prelude.{ℕ, ◌+◌, List, [], ◌∷◌, ◌++◌, None, Option, Some}
 use Rattle.session_rules.specs.declared.Reason.TheVariants.{Gap, Error, Clock, Mixed, Long, Cut, Empty}
 use Rattle.session_rules.specs.declared.Step.TheVariants.{Forward, Backward}
 use Rattle.session_rules.specs.Step.{step_of}
@@ -11,29 +11,27 @@ use Rattle.text.specs.Text.{bytes, number}
 use Rattle.endings.specs.declared.How.{How}
 use Rattle.endings.specs.declared.How.TheVariants.{Delivered, Still, Dropped}
 use Rattle.endings.specs.declared.Ending.{Ending}
-use Rattle.frame_lines.specs.declared.Since.{Since}
-use Rattle.frame_lines.specs.declared.Since.TheVariants.{Dash, By}
 
 -- the step from the last stamped delivered frame, where there is one and this frame has a stamp
-abbrev pub since_of : Stamp → Stamp → Since
-since_of last Absent = Dash
-since_of Absent (At b) = Dash
-since_of (At a) (At b) = By (step_of a b)
+abbrev pub since_of : Stamp → Stamp → Option Step
+since_of last None = None
+since_of None (Some b) = None
+since_of (Some a) (Some b) = Some (step_of a b)
 
 -- a frame with no stamp does not move it
 abbrev pub last_of : Stamp → Stamp → Stamp
-last_of last Absent = last
-last_of last (At b) = At b
+last_of last None = last
+last_of last (Some b) = Some b
 
 -- each after a space: a dash, or the signed number
-abbrev pub since_text : Since → List ℕ
-since_text Dash = bytes " -"
-since_text (By (Forward n)) = number n
-since_text (By (Backward n)) = bytes " -" ++ decimal n
+abbrev pub since_text : Option Step → List ℕ
+since_text None = bytes " -"
+since_text (Some (Forward n)) = number n
+since_text (Some (Backward n)) = bytes " -" ++ decimal n
 
 abbrev pub stamp_text : Stamp → List ℕ
-stamp_text Absent = bytes " -"
-stamp_text (At n) = number n
+stamp_text None = bytes " -"
+stamp_text (Some n) = number n
 
 abbrev pub name_of : How → List ℕ
 name_of Delivered = bytes " delivered"
@@ -46,7 +44,7 @@ name_of (Dropped Long) = bytes " long"
 name_of (Dropped Cut) = bytes " cut"
 name_of (Dropped Empty) = bytes " empty"
 
-abbrev pub replay_text : ℕ → ℕ → Since → List ℕ
+abbrev pub replay_text : ℕ → ℕ → Option Step → List ℕ
 replay_text n len s = decimal n ++ (number len ++ (since_text s ++ bytes "\n"))
 
 abbrev pub frame_text : ℕ → Ending → List ℕ
@@ -55,7 +53,7 @@ frame_text n e = decimal n ++ (name_of e.how ++ (number e.len ++ (stamp_text e.s
 -- THE LINES OF A REPLAY, from line n on, where `last` is the stamp of the last delivered frame of film that has one. A still does not move it.
 abbrev pub replay_how : How → ℕ → ℕ → Stamp → Stamp → (ℕ → Stamp → List ℕ) → List ℕ
 replay_how Delivered len n last stamp more = replay_text n len (since_of last stamp) ++ more (n + 1) (last_of last stamp)
-replay_how Still len n last stamp more = replay_text n len Dash ++ more (n + 1) last
+replay_how Still len n last stamp more = replay_text n len None ++ more (n + 1) last
 replay_how (Dropped w) len n last stamp more = more n last
 
 abbrev pub replay_lines : ℕ → Stamp → List Ending → List ℕ

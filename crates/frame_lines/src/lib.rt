@@ -1,17 +1,16 @@
 // A line of text for a frame that ended: as a replay prints it, or as the list of all frames does.
 #![tactic(auto)]
 
-ghost use Rattle.std.specs.Prelude.{◌≡◌, ◌+◌, ◌<◌, ◌≤◌, length};
+ghost use Rattle.std.specs.Prelude.{◌≡◌, [], ◌∷◌, ◌+◌, ◌<◌, ◌≤◌, length, Some};
 ghost use Rattle.text.specs.Put.{Put};
 ghost use Rattle.endings.specs.declared.How.{How};
 ghost use Rattle.endings.specs.Inner.{told_in, list_in};
 ghost use Rattle.session_rules.specs.declared.Step.{Step};
-ghost use Rattle.frame_lines.specs.declared.Since.{Since};
 ghost use Rattle.frame_lines.specs.declared.Show.{Show};
 ghost use Rattle.frame_lines.specs.Lines.{since_of, last_of, since_text, stamp_text, name_of, replay_text, frame_text};
 ghost use Rattle.frame_lines.specs.Inner.{line_most, next_number, line_of, counted_after, lines_in, counted_all};
 
-use endings::{Ending, Endings, How, Told};
+use endings::{Ending, Endings, How};
 use session_rules::{Reason, Stamp, Step};
 
 // What is printed of the frames: nothing by the ledger program, those that were delivered by a replay, all of them by the list.
@@ -29,13 +28,6 @@ pub struct Counted {
     pub last: Stamp,
 }
 
-// The step that a replay's line ends with, or a dash.
-#[derive(Drop)]
-pub enum Since {
-    Dash,
-    By(Step),
-}
-
 #[derive(Drop)]
 pub struct Lines {
     pub counted: Counted,
@@ -50,15 +42,12 @@ fn next(n: u64) -> u64
     std::num::wrapping_add_u64(n, 1)
 }
 
-fn step_from(last: Stamp, stamp: Stamp) -> Since
+fn step_from(last: Stamp, stamp: Stamp) -> Option<Step>
     ensures { result ≡ since_of last stamp }
 {
-    match stamp {
-        Stamp::Absent => Since::Dash,
-        Stamp::At(b) => match last {
-            Stamp::Absent => Since::Dash,
-            Stamp::At(a) => Since::By(ledger::step_between(a, b)),
-        },
+    match (last, stamp) {
+        (Some(a), Some(b)) => Some(ledger::step_between(a, b)),
+        _ => None,
     }
 }
 
@@ -66,29 +55,34 @@ fn step_from(last: Stamp, stamp: Stamp) -> Since
 fn moved(last: Stamp, stamp: Stamp) -> Stamp
     ensures { result ≡ last_of last stamp }
 {
-    match stamp {
-        Stamp::Absent => last,
-        Stamp::At(_) => stamp,
-    }
+    stamp.or(last)
+}
+
+// No step, or no stamp.
+fn put_dash(buf: &mut [u8], at: usize) -> usize
+    requires { at + 2 ≤ length buf.old }
+    ensures { Put buf.old at (32 ∷ 45 ∷ []) result buf.new }
+{
+    text::put(buf, at, b" -")
 }
 
 fn put_backward(buf: &mut [u8], at: usize, n: u32) -> usize
     requires { at + 22 ≤ length buf.old }
-    ensures put { Put buf.old at (since_text (Since.By (Step.Backward n))) result buf.new }
+    ensures put { Put buf.old at (since_text (Some (Step.Backward n))) result buf.new }
     ensures upper_bound { result ≤ at + 22 }
 {
     let minus = text::put(buf, at, b" -");
     text::digits(buf, minus, n as u64)
 }
 
-fn put_since(buf: &mut [u8], at: usize, s: Since) -> usize
+fn put_since(buf: &mut [u8], at: usize, s: Option<Step>) -> usize
     requires { at + 22 ≤ length buf.old }
     ensures put { Put buf.old at (since_text s) result buf.new }
     ensures upper_bound { result ≤ at + 22 }
 {
     match s {
-        Since::Dash => text::put(buf, at, b" -"),
-        Since::By(step) => match step {
+        None => put_dash(buf, at),
+        Some(step) => match step {
             Step::Forward(n) => text::number(buf, at, n as u64),
             Step::Backward(n) => put_backward(buf, at, n),
         },
@@ -96,7 +90,7 @@ fn put_since(buf: &mut [u8], at: usize, s: Since) -> usize
 }
 
 // Number, length and step of a delivered frame or still.
-fn put_replay(buf: &mut [u8], at: usize, n: u64, len: u64, s: Since) -> usize
+fn put_replay(buf: &mut [u8], at: usize, n: u64, len: u64, s: Option<Step>) -> usize
     requires { at + line_most ≤ length buf.old }
     ensures put { Put buf.old at (replay_text n len s) result buf.new }
     ensures upper_bound { result ≤ at + line_most }
@@ -141,8 +135,8 @@ fn put_stamp(buf: &mut [u8], at: usize, stamp: Stamp) -> usize
     ensures upper_bound { result ≤ at + 21 }
 {
     match stamp {
-        Stamp::Absent => text::put(buf, at, b" -"),
-        Stamp::At(n) => text::number(buf, at, n as u64),
+        None => put_dash(buf, at),
+        Some(n) => text::number(buf, at, n as u64),
     }
 }
 
@@ -179,7 +173,7 @@ fn replayed(buf: &mut [u8], at: usize, c: Counted, e: Ending) -> Lines
             },
         },
         How::Still => Lines {
-            at: put_replay(buf, at, c.number, e.len, Since::Dash),
+            at: put_replay(buf, at, c.number, e.len, None),
             counted: Counted {
                 number: next(c.number),
                 last,
@@ -190,14 +184,14 @@ fn replayed(buf: &mut [u8], at: usize, c: Counted, e: Ending) -> Lines
 }
 
 // The line of one frame, where there is one.
-fn told(buf: &mut [u8], at: usize, show: Show, c: Counted, t: Told) -> Lines
+fn told(buf: &mut [u8], at: usize, show: Show, c: Counted, t: Option<Ending>) -> Lines
     requires { at + line_most ≤ length buf.old }
     ensures put { Put buf.old at (lines_in show c (told_in t)) result.at buf.new }
     ensures counted_value { (result.counted ≡ counted_all show c (told_in t)) × (result.at ≤ at + line_most) }
 {
     match t {
-        Told::Nothing => Lines { counted: c, at },
-        Told::Frame(e) => match show {
+        None => Lines { counted: c, at },
+        Some(e) => match show {
             Show::Nothing => Lines { counted: c, at },
             Show::Replay => replayed(buf, at, c, e),
             Show::Frames => {

@@ -1,4 +1,6 @@
 -- Where a transfer's data is written lies within the frame, and stays so from call to call.
+use Rattle.std.specs.Prelude.{None, Some}
+use Rattle.session_rules.specs.Options.{Ended, Fault, Layer, Stamp}
 use Prim.Native.Nat.{ℕ, ◌+◌, ◌≤◌}
 use mathlib.Core.Path.{◌≡◌, refl}
 use mathlib.Core.Bool.{Bool, true, false, true≢false}
@@ -9,17 +11,11 @@ use Rattle.rules.specs.IfElse.{if_else-all}
 use Rattle.sizes.specs.declared.Opening.{Opening}
 use Rattle.session_rules.specs.declared.Header.{Header}
 use Rattle.session_rules.specs.declared.Reason.{Reason}
-use Rattle.session_rules.specs.declared.Stamp.{Stamp}
-use Rattle.session_rules.specs.declared.Layer.{Layer}
 use Rattle.session_rules.specs.declared.Reason.TheVariants.{Gap, Error, Clock, Mixed, Long}
-use Rattle.session_rules.specs.declared.Fault.{Fault}
-use Rattle.session_rules.specs.declared.Fault.TheVariants.{Sound, Bad}
 use Rattle.session_rules.specs.declared.Run.{Run}
 use Rattle.session_rules.specs.declared.Phase.{Phase}
 use Rattle.session_rules.specs.declared.Phase.TheVariants.{Fresh, Under, Past}
 use Rattle.session_rules.specs.declared.Track.{Track}
-use Rattle.session_rules.specs.declared.Ended.{Ended}
-use Rattle.session_rules.specs.declared.Ended.TheVariants.{Nothing, Frame}
 use Rattle.session_rules.specs.declared.Fate.{Fate}
 use Rattle.session_rules.specs.declared.Fate.TheVariants.{Idle, Kept, Stray, Delivered, Still, Dropped, Unreadable}
 use Rattle.session_rules.specs.declared.Turn.{Turn}
@@ -27,14 +23,14 @@ use Rattle.session_rules.specs.Track.{under_bytes, FilledBy, Filled}
 use Rattle.session_rules.specs.Turns.{first_of, clash_of, why_of, same_of, mixed_of, filled_of, written_of, begun_of, fault_of, joined_of, complete_of, ends_of, turned_why, fate_of, phase_of, join_turn, stray_turn, turn_by, turn_of, out_by, out_of, spoilt_by, spoilt_of, closed_by, closed_of}
 
 -- ---- no fault now: none before, and none by this
-first-sound : (f : Fault) (bad : Bool) (why : Reason) → first_of f bad why ≡ Sound → (f ≡ Sound) × (bad ≡ false)
-first-sound (Bad w) bad why e = let z : ◌≡◌ {A = ℕ} 0 1 = cc in absurd (omega arith)
-first-sound Sound true why e = let z : ◌≡◌ {A = ℕ} 0 1 = cc in absurd (omega arith)
-first-sound Sound false why e = (refl, refl)
+first-sound : (f : Fault) (bad : Bool) (why : Reason) → first_of f bad why ≡ None → (f ≡ None) × (bad ≡ false)
+first-sound (Some w) bad why e = let z : ◌≡◌ {A = ℕ} 0 1 = cc in absurd (omega arith)
+first-sound None true why e = let z : ◌≡◌ {A = ℕ} 0 1 = cc in absurd (omega arith)
+first-sound None false why e = (refl, refl)
 
 module _ (o : Opening) (r : Run) (h : Header) (n : ℕ) where
   -- a frame without fault had none before, and is no longer than the frame size
-  pub sound-before : fault_of o r h n ≡ Sound → (r.fault ≡ Sound) × (r.bytes + n ≤ o.frame)
+  pub sound-before : fault_of o r h n ≡ None → (r.fault ≡ None) × (r.bytes + n ≤ o.frame)
   sound-before e =
       let c : Fault = first_of (first_of r.fault h.error Error) (clash_of r.stamp h.stamp) Clock in
       let l = first-sound (first_of c (mixed_of r h) Mixed) (ltb o.frame (r.bytes + n)) Long e in
@@ -44,16 +40,16 @@ module _ (o : Opening) (r : Run) (h : Header) (n : ℕ) where
 
   module _ (q : Filled o r) where
     writes : (f : Fault) → fault_of o r h n ≡ f → r.fill + written_of f n ≤ o.frame
-    writes Sound e = let s = sound-before e in let w = q.whole s.0 in omega arith
-    writes (Bad w) e = omega (arith, q.within)
+    writes None e = let s = sound-before e in let w = q.whole s.0 in omega arith
+    writes (Some w) e = omega (arith, q.within)
 
     fills : (f : Fault) → fault_of o r h n ≡ f → filled_of f r.fill n ≤ o.frame
-    fills Sound e = let s = sound-before e in let w = q.whole s.0 in omega arith
-    fills (Bad w) e = omega (arith, q.within)
+    fills None e = let s = sound-before e in let w = q.whole s.0 in omega arith
+    fills (Some w) e = omega (arith, q.within)
 
-    whole : (f : Fault) → fault_of o r h n ≡ f → f ≡ Sound → filled_of f r.fill n ≡ r.bytes + n
-    whole Sound e g = let w = q.whole (sound-before e).0 in omega arith
-    whole (Bad w) e g = let z : ◌≡◌ {A = ℕ} 0 1 = cc in absurd (omega arith)
+    whole : (f : Fault) → fault_of o r h n ≡ f → f ≡ None → filled_of f r.fill n ≡ r.bytes + n
+    whole None e g = let w = q.whole (sound-before e).0 in omega arith
+    whole (Some w) e g = let z : ◌≡◌ {A = ℕ} 0 1 = cc in absurd (omega arith)
 
     -- what a transfer that joins writes lies within the frame
     pub join-inside : r.fill + written_of (fault_of o r h n) n ≤ o.frame
@@ -93,16 +89,16 @@ pub record Sits (o : Opening) (p : Phase) (n : ℕ) (x : Turn) : Type 0 where
   pub filled : FilledBy o x.track.phase
 
 complete-long : (f : Fault) (n : ℕ) (s : Stamp) (l : Layer) (b : Bool) → LengthOf (complete_of f n s l b) n
-complete-long (Bad why) n s l b = tt
-complete-long Sound n s l b = if_else-all (λ x. LengthOf x n) (eqb n 0) _ _ tt (if_else-all (λ x. LengthOf x n) b _ _ refl refl)
+complete-long (Some why) n s l b = tt
+complete-long None n s l b = if_else-all (λ x. LengthOf x n) (eqb n 0) _ _ tt (if_else-all (λ x. LengthOf x n) b _ _ refl refl)
 
 fate-long : (eof : Bool) (r : Run) → LengthOf (fate_of eof r) r.bytes
 fate-long true r = complete-long r.fault r.bytes r.stamp r.layer r.still
 fate-long false r = tt
 
 no_more : (f : Fault) (n : ℕ) → written_of f n ≤ n
-no_more Sound n = omega arith
-no_more (Bad w) n = omega arith
+no_more None n = omega arith
+no_more (Some w) n = omega arith
 
 module _ (o : Opening) (h : Header) (n : ℕ) where
   joins : (p : Phase) (r : Run) (e : Ended) (gone : ℕ) → Filled o r → r.bytes ≤ under_bytes p → gone ≤ under_bytes p →
@@ -124,19 +120,19 @@ module _ (o : Opening) (h : Header) (n : ℕ) where
   strays p fid = record { short = omega arith; inside = omega arith; gone = omega arith; bytes = omega arith; long = tt; filled = tt }
 
   sits : (p : Phase) (gap : Bool) → FilledBy o p → Sits o p n (turn_by p o gap h n)
-  sits Fresh gap q = begins Fresh gap Nothing 0 (omega arith)
+  sits Fresh gap q = begins Fresh gap None 0 (omega arith)
   sits (Under r) gap q =
-      if_else-all (Sits o (Under r) n) (same_of r.fid h.fid) _ _ (joins (Under r) r Nothing 0 q (omega arith) (omega arith))
-      (begins (Under r) gap (Frame (why_of r.fault (turned_why o))) r.bytes (omega arith))
+      if_else-all (Sits o (Under r) n) (same_of r.fid h.fid) _ _ (joins (Under r) r None 0 q (omega arith) (omega arith))
+      (begins (Under r) gap (Some (why_of r.fault (turned_why o))) r.bytes (omega arith))
   sits (Past fid) gap q = if_else-all (Sits o (Past fid) n) (same_of fid h.fid) _ _ (strays (Past fid) fid)
-      (begins (Past fid) gap Nothing 0 (omega arith))
+      (begins (Past fid) gap None 0 (omega arith))
 
   pub turn-sits : (t : Track) → FilledBy o t.phase → Sits o t.phase n (turn_of o t h n)
   unfolding turn_of
   turn-sits t q = sits t.phase t.gap q
 
 -- ---- an unreadable or lost transfer
-not_sound : (f : Fault) (w : Reason) → first_of f true w ≡ Sound → ⊥
+not_sound : (f : Fault) (w : Reason) → first_of f true w ≡ None → ⊥
 not_sound f w e = true≢false (first-sound f true w e).1
 
 spoils : (o : Opening) (p : Phase) → FilledBy o p → FilledBy o (spoilt_by p)

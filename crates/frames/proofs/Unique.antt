@@ -1,10 +1,10 @@
 -- Two answers that a promise allows are equal.
+use Rattle.session_rules.specs.Options.{Stamp}
 use Prim.Native.Nat.{ℕ}
 use mathlib.Core.Bool.{Bool}
 use mathlib.Core.Path.{◌≡◌, sym, ◌∙◌}
 use Rattle.sizes.specs.declared.Opening.{Opening}
 use Rattle.session_rules.specs.declared.Header.{Header}
-use Rattle.session_rules.specs.declared.Stamp.{Stamp}
 use Rattle.session_rules.specs.declared.Track.{Track}
 use Rattle.session_rules.specs.declared.Turn.{Turn}
 use Rattle.session_rules.specs.declared.HandOut.{HandOut}

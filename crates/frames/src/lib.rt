@@ -3,7 +3,7 @@
 
 ghost use Rattle.std.specs.Prelude.{◌≡◌, ◌+◌, ◌<◌, ◌^◌};
 ghost use Rattle.session_rules.specs.Track.{handing};
-ghost use Rattle.session_rules.specs.Turns.{first_of, clash_of, earlier_of, later_of, why_of, same_of, begun_of, joined_of, filled_of, written_of, complete_of, ends_of, turned_why, fate_of, phase_of, join_turn, stray_turn, turn_of, ready_of, hands_of, out_of, spoilt_of, closed_of, Roomy};
+ghost use Rattle.session_rules.specs.Turns.{first_of, clash_of, begun_of, joined_of, filled_of, written_of, complete_of, ends_of, turned_why, fate_of, phase_of, join_turn, stray_turn, turn_of, ready_of, hands_of, out_of, spoilt_of, closed_of, Roomy};
 
 use session_rules::{
     Answer, Delivery, Ended, Fate, Fault, HandOut, Header, Layer, Out, Phase, Reason, Run, Shut,
@@ -15,58 +15,17 @@ use sizes::Opening;
 fn first_of(f: Fault, bad: bool, why: Reason) -> Fault
     ensures { result ≡ first_of f bad why }
 {
-    match f {
-        Fault::Bad(_) => f,
-        Fault::Sound => if bad { Fault::Bad(why) } else { Fault::Sound },
-    }
+    f.or(bad.then_some(why))
 }
 
 // Inner: two stamps that differ.
 pub fn clash(a: Stamp, b: Stamp) -> bool
     ensures { result ≡ clash_of a b }
 {
-    match a {
-        Stamp::Absent => false,
-        Stamp::At(x) => match b {
-            Stamp::Absent => false,
-            Stamp::At(y) => x != y,
-        },
+    match (a, b) {
+        (Some(x), Some(y)) => x != y,
+        _ => false,
     }
-}
-
-// The first stamp of two.
-fn earlier(a: Stamp, b: Stamp) -> Stamp
-    ensures { result ≡ earlier_of a b }
-{
-    match a {
-        Stamp::Absent => b,
-        Stamp::At(_) => a,
-    }
-}
-
-// The last layer of two.
-fn later(a: Layer, b: Layer) -> Layer
-    ensures { result ≡ later_of a b }
-{
-    match b {
-        Layer::Absent => a,
-        Layer::At(_) => b,
-    }
-}
-
-fn why_of(f: Fault, other: Reason) -> Reason
-    ensures { result ≡ why_of f other }
-{
-    match f {
-        Fault::Sound => other,
-        Fault::Bad(why) => why,
-    }
-}
-
-fn same(a: bool, b: bool) -> bool
-    ensures { result ≡ same_of a b }
-{
-    if a { b } else { !b }
 }
 
 // How much is written once n bytes have come.
@@ -75,8 +34,8 @@ fn filled(f: Fault, fill: usize, n: usize) -> usize
     ensures { result ≡ filled_of f fill n }
 {
     match f {
-        Fault::Sound => fill + n,
-        Fault::Bad(_) => fill,
+        None => fill + n,
+        Some(_) => fill,
     }
 }
 
@@ -85,8 +44,8 @@ fn written(f: Fault, n: usize) -> usize
     ensures { result ≡ written_of f n }
 {
     match f {
-        Fault::Sound => n,
-        Fault::Bad(_) => 0,
+        None => n,
+        Some(_) => 0,
     }
 }
 
@@ -94,15 +53,15 @@ fn written(f: Fault, n: usize) -> usize
 fn begun(gap: bool, fid: bool, still: bool) -> Run
     ensures { result ≡ begun_of gap fid still }
 {
-    let fault = first_of(Fault::Sound, gap, Reason::Gap);
+    let fault = first_of(None, gap, Reason::Gap);
     Run {
         fid,
         still,
         fault,
         bytes: 0,
         fill: 0,
-        stamp: Stamp::Absent,
-        layer: Layer::Absent,
+        stamp: None,
+        layer: None,
     }
 }
 
@@ -116,17 +75,16 @@ fn joined(o: Opening, r: Run, h: Header, n: usize) -> Run
     let bytes = r.bytes + n as u64;
     let long = (o.frame as u64) < bytes;
     let still = r.still;
-    let mixed = !same(still, h.still);
+    let mixed = still != h.still;
     let f = r.fault;
     let e = first_of(f, h.error, Reason::Error);
     let c = first_of(e, clash(a, b), Reason::Clock);
     let m = first_of(c, mixed, Reason::Mixed);
     let fault = first_of(m, long, Reason::Long);
     let fill = filled(fault, r.fill, n);
-    let stamp = earlier(a, b);
-    let before = r.layer;
-    let own = h.layer;
-    let layer = later(before, own);
+    // The first stamp, and the last layer.
+    let stamp = a.or(b);
+    let layer = h.layer.or(r.layer);
     Run {
         fid: r.fid,
         still,
@@ -143,8 +101,8 @@ fn complete(f: Fault, len: u64, stamp: Stamp, layer: Layer, still: bool) -> Fate
     ensures { result ≡ complete_of f len stamp layer still }
 {
     match f {
-        Fault::Bad(why) => Fate::Dropped(why),
-        Fault::Sound => {
+        Some(why) => Fate::Dropped(why),
+        None => {
             if len == 0 {
                 return Fate::Dropped(Reason::Empty);
             }
@@ -160,7 +118,7 @@ fn complete(f: Fault, len: u64, stamp: Stamp, layer: Layer, still: bool) -> Fate
 fn ends(o: Opening, h: Header) -> bool
     ensures { result ≡ ends_of o h }
 {
-    if sizes::by_eof(o) { h.eof } else { false }
+    sizes::by_eof(o) && h.eof
 }
 
 // What another FID calls a frame without fault that was not handed out: cut where EOF should have come, else empty.
@@ -231,7 +189,7 @@ fn stray(fid: bool, n: usize) -> Turn
             gap: false,
         },
         answer: Answer {
-            ended: Ended::Nothing,
+            ended: None,
             fate: Fate::Stray,
         },
         gone: 0,
@@ -245,10 +203,7 @@ fn stray(fid: bool, n: usize) -> Turn
 fn ready(f: Fault, bytes: u64) -> bool
     ensures { result ≡ ready_of f bytes }
 {
-    match f {
-        Fault::Bad(_) => false,
-        Fault::Sound => bytes != 0,
-    }
+    f.is_none() && bytes != 0
 }
 
 // The fate that a frame handed out has in the ledger.
@@ -271,17 +226,10 @@ pub fn hands(track: Track, o: Opening, h: Header) -> bool
     if sizes::by_eof(o) {
         return false;
     }
-    let phase = track.phase;
-    match phase {
+    match track.phase {
         Phase::Fresh => false,
         Phase::Past(_) => false,
-        Phase::Under(r) => {
-            if same(r.fid, h.fid) {
-                return false;
-            }
-            let f = r.fault;
-            ready(f, r.bytes)
-        }
+        Phase::Under(r) => r.fid != h.fid && ready(r.fault, r.bytes),
     }
 }
 
@@ -291,25 +239,14 @@ pub fn hand_out(track: Track) -> Out
 {
     let phase = track.phase;
     match phase {
-        Phase::Fresh => Out {
-            track: track,
+        Phase::Fresh | Phase::Past(_) => Out {
+            track,
             frame: HandOut {
                 still: false,
                 delivery: Delivery {
                     len: 0,
-                    stamp: Stamp::Absent,
-                    layer: Layer::Absent,
-                },
-            },
-        },
-        Phase::Past(_) => Out {
-            track: track,
-            frame: HandOut {
-                still: false,
-                delivery: Delivery {
-                    len: 0,
-                    stamp: Stamp::Absent,
-                    layer: Layer::Absent,
+                    stamp: None,
+                    layer: None,
                 },
             },
         },
@@ -341,27 +278,26 @@ pub fn turn(track: Track, o: Opening, h: Header, n: usize) -> Turn
 {
     let phase = track.phase;
     match phase {
-        Phase::Fresh => join(o, begun(track.gap, h.fid, h.still), h, n, Ended::Nothing, 0),
+        Phase::Fresh => join(o, begun(track.gap, h.fid, h.still), h, n, None, 0),
         Phase::Under(r) => {
-            if same(r.fid, h.fid) {
-                return join(o, r, h, n, Ended::Nothing, 0);
+            if r.fid == h.fid {
+                return join(o, r, h, n, None, 0);
             }
-            let f = r.fault;
-            let why = why_of(f, turned_why(o));
+            let why = r.fault.unwrap_or(turned_why(o));
             join(
                 o,
                 begun(track.gap, h.fid, h.still),
                 h,
                 n,
-                Ended::Frame(why),
+                Some(why),
                 r.bytes,
             )
         }
         Phase::Past(fid) => {
-            if same(fid, h.fid) {
+            if fid == h.fid {
                 return stray(fid, n);
             }
-            join(o, begun(track.gap, h.fid, h.still), h, n, Ended::Nothing, 0)
+            join(o, begun(track.gap, h.fid, h.still), h, n, None, 0)
         }
     }
 }
@@ -375,20 +311,9 @@ pub fn spoilt(track: Track) -> Track
         Phase::Fresh => Track { phase, gap: true },
         Phase::Past(_) => Track { phase, gap: true },
         Phase::Under(r) => {
-            let f = r.fault;
-            let fault = first_of(f, true, Reason::Gap);
-            let stamp = r.stamp;
-            let layer = r.layer;
+            let fault = first_of(r.fault, true, Reason::Gap);
             Track {
-                phase: Phase::Under(Run {
-                    fid: r.fid,
-                    still: r.still,
-                    fault,
-                    bytes: r.bytes,
-                    fill: r.fill,
-                    stamp,
-                    layer,
-                }),
+                phase: Phase::Under(Run { fault, ..r }),
                 gap: true,
             }
         }
@@ -401,25 +326,19 @@ pub fn shut(track: Track) -> Shut
 {
     let phase = track.phase;
     match phase {
-        Phase::Fresh => Shut {
-            track: track,
-            ended: Ended::Nothing,
-            gone: 0,
-        },
-        Phase::Past(_) => Shut {
-            track: track,
-            ended: Ended::Nothing,
+        Phase::Fresh | Phase::Past(_) => Shut {
+            track,
+            ended: None,
             gone: 0,
         },
         Phase::Under(r) => {
-            let f = r.fault;
-            let why = why_of(f, Reason::Cut);
+            let why = r.fault.unwrap_or(Reason::Cut);
             Shut {
                 track: Track {
                     phase: Phase::Past(r.fid),
                     gap: track.gap,
                 },
-                ended: Ended::Frame(why),
+                ended: Some(why),
                 gone: r.bytes,
             }
         }

@@ -1,4 +1,6 @@
 -- What the tests on the bytes say, one law for each way through the code.
+use Rattle.std.specs.Prelude.{None, Some, is_some}
+use Rattle.session_rules.specs.Options.{Fault, Stamp}
 use Prim.Native.Nat.{ℕ, ◌+◌, ◌-◌, ◌≤◌, ◌<◌}
 use mathlib.Core.Path.{◌≡◌, sym, ◌∙◌}
 use mathlib.Core.Bool.{Bool, true, false, not, ◌&&◌}
@@ -12,8 +14,6 @@ use Rattle.rules.proofs.Rows.{and_first, and_second}
 use Rattle.sizes.specs.declared.HeaderKind.TheVariants.{Old}
 use Rattle.sizes.specs.declared.Opening.{Opening}
 use Rattle.session_rules.specs.declared.Run.{Run}
-use Rattle.session_rules.specs.declared.Stamp.{Stamp}
-use Rattle.session_rules.specs.declared.Stamp.TheVariants.{Absent}
 use Rattle.session_rules.specs.Layouts.{header_layout}
 use Rattle.session_rules.specs.Transfer.{length_at, need_of, stamp_of}
 use Rattle.session_rules.specs.OldKind.{old_flags}
@@ -88,12 +88,28 @@ pub said-marked : (s fid still : Bool) (payload : ℕ) (t : List ℕ) → s ≡ 
 said-marked s fid still payload t e n = marked fid still payload t (sym e ∙ not-false s n)
 
 -- ---- the frame goes on, after the tests of its header
-module _ (o : Opening) (r : Run) (t : List ℕ) (a b m : Bool) (p : a ≡ is_old o.kind) (old : not a ≡ false) (q : b ≡ is_sound r.fault) (sound : not b ≡ false)
+sound-none : (f : Fault) (s : Bool) → s ≡ is_some f → not s ≡ is_sound f
+sound-none None s e = rw e
+sound-none (Some w) s e = rw e
+
+twice-not : (s : Bool) → s ≡ false → not (not s) ≡ false
+twice-not s e = rw e
+
+module _ (o : Opening) (r : Run) (t : List ℕ) (a s : Bool) (p : a ≡ is_old o.kind) (old : not a ≡ false) (q : s ≡ is_some r.fault) where
+  pub faulted : s ≡ true → false ≡ bytes_go_on o r t
+  unfolding bytes_go_on
+  faulted y = said-on a _ _ false p old (and-out (is_sound r.fault) _ (sym (sound-none r.fault s q) ∙ rw y))
+
+  pub unmarked : s ≡ false → (m : Bool) → m ≡ is_marked r.fid r.still o.payload t → not m ≡ true → false ≡ bytes_go_on o r t
+  unfolding bytes_go_on
+  unmarked n m e h = said-on a _ _ false p old (said-on (not s) _ _ false (sound-none r.fault s q) (twice-not s n) (said-out m _ _ e h))
+
+module _ (o : Opening) (r : Run) (t : List ℕ) (a s m : Bool) (p : a ≡ is_old o.kind) (old : not a ≡ false) (q : s ≡ is_some r.fault) (sound : s ≡ false)
     (e : m ≡ is_marked r.fid r.still o.payload t) (same : not m ≡ false) where
   tested : (x : Bool) →
       x ≡ (leb (r.fill + data_of t) o.frame && not (clash_of r.stamp (stamp_of (header_layout Old) t (old_flags t)))) → x ≡ bytes_go_on o r t
   unfolding bytes_go_on
-  tested x y = said-on a _ _ x p old (said-on b _ _ x q sound (said-on m _ _ x e same y))
+  tested x y = said-on a _ _ x p old (said-on (not s) _ _ x (sound-none r.fault s q) (twice-not s sound) (said-on m _ _ x e same y))
 
   pub overfilled : o.frame < r.fill → false ≡ bytes_go_on o r t
   overfilled h = tested false (and-out _ _ (lt-leb (r.fill + data_of t) o.frame (omega arith)))
@@ -110,5 +126,5 @@ module _ (a b c : Stamp) (e : c ≡ b) where
   pub clash-said : (x : Bool) → x ≡ clash_of a c → not x ≡ not (clash_of a b)
   clash-said x p = rw (p, e)
 
-  pub absent-earlier : a ≡ Absent → c ≡ earlier_of a b
+  pub absent-earlier : a ≡ None → c ≡ earlier_of a b
   absent-earlier n = rw n e

@@ -1,4 +1,6 @@
 -- A TRANSFER THAT GOES ON WITH THE FRAME UNDER WAY is kept: what the call answers, makes of the session and writes.
+use Rattle.std.specs.Prelude.{None, Some}
+use Rattle.session_rules.specs.Options.{Fault}
 use Prim.Native.Nat.{ℕ, ◌+◌, ◌-◌}
 use mathlib.Core.Path.{◌≡◌, refl, sym}
 use mathlib.Core.Bool.{Bool, true, false, not, ◌&&◌, true≢false}
@@ -13,12 +15,9 @@ use Rattle.sizes.specs.declared.Opening.{Opening}
 use Rattle.sizes.specs.Framing.{by_eof}
 use Rattle.session_rules.specs.declared.Header.{Header}
 use Rattle.session_rules.specs.declared.Reading.TheVariants.{Readable}
-use Rattle.session_rules.specs.declared.Fault.{Fault}
-use Rattle.session_rules.specs.declared.Fault.TheVariants.{Sound, Bad}
 use Rattle.session_rules.specs.declared.Run.{Run}
 use Rattle.session_rules.specs.declared.Phase.TheVariants.{Under}
 use Rattle.session_rules.specs.declared.Fate.{Fate}
-use Rattle.session_rules.specs.declared.Ended.TheVariants.{Nothing}
 use Rattle.session_rules.specs.declared.Track.{Track}
 use Rattle.session_rules.specs.declared.Turn.{Turn}
 use Rattle.session_rules.specs.declared.Session.{Session}
@@ -29,12 +28,12 @@ use Rattle.session_rules.specs.Session.{read_of, took_of, took_buffer, hands_out
 use Rattle.going_on.specs.GoingOn.{is_sound, goes_on, went_on, kept_of, kept_buffer}
 
 -- ---- the tests one by one
-pub sound-is : (f : Fault) → is_sound f ≡ true → f ≡ Sound
-sound-is Sound e = refl
-sound-is (Bad why) e = absurd (true≢false (sym e))
+pub sound-is : (f : Fault) → is_sound f ≡ true → f ≡ None
+sound-is None e = refl
+sound-is (Some why) e = absurd (true≢false (sym e))
 
 record Tests (o : Opening) (r : Run) (h : Header) (n : ℕ) : Type 0 where
-  sound : r.fault ≡ Sound
+  sound : r.fault ≡ None
   fid : same_of r.fid h.fid ≡ true
   still : same_of r.still h.still ≡ true
   ends : ends_of o h ≡ false
@@ -74,10 +73,10 @@ kept_turn r h n =
     }
 
 module _ (o : Opening) (r : Run) (h : Header) (n : ℕ) (g : Tests o r h n) where
-  no-fault : fault_of o r h n ≡ Sound
+  no-fault : fault_of o r h n ≡ None
   no-fault = rw (g.sound, g.error, g.clash, g.still, g.fits)
 
-  joins : join_turn o r h n Nothing 0 ≡ kept_turn r h n
+  joins : join_turn o r h n None 0 ≡ kept_turn r h n
   unfolding kept_turn
   joins = rw (no-fault, g.ends)
 

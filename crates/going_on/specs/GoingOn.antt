@@ -1,11 +1,10 @@
 -- Document 01, "Payload transfers": "Kept means that the frame is still under way". A transfer that goes on with the frame under way, and what is answered to it: one case of
 -- `take_of` (session_rules/specs/Session), which proofs/GoingOn.antt shows. It has both kinds of header and both framings.
-use Rattle.std.specs.Prelude.{ℕ, ◌+◌, ◌-◌, Bool, true, false, not, ◌&&◌, List, length, drop, leb}
+use Rattle.session_rules.specs.Options.{Fault}
+use Rattle.std.specs.Prelude.{ℕ, ◌+◌, ◌-◌, Bool, true, false, not, ◌&&◌, List, length, drop, leb, None, Some}
 use Rattle.std.proofs.Math.Seq.{paste}
 use Rattle.sizes.specs.declared.Opening.{Opening}
 use Rattle.session_rules.specs.declared.Header.{Header}
-use Rattle.session_rules.specs.declared.Fault.{Fault}
-use Rattle.session_rules.specs.declared.Fault.TheVariants.{Sound, Bad}
 use Rattle.session_rules.specs.declared.Run.{Run}
 use Rattle.session_rules.specs.declared.Phase.TheVariants.{Under}
 use Rattle.session_rules.specs.declared.Fate.{Fate}
@@ -19,8 +18,8 @@ use Rattle.session_rules.specs.Refusals.{posted_of}
 use Rattle.session_rules.specs.Session.{counted_of, plainly}
 
 abbrev pub is_sound : Fault → Bool
-is_sound Sound = true
-is_sound (Bad why) = false
+is_sound None = true
+is_sound (Some why) = false
 
 -- THE TESTS: a transfer with the header h and n bytes of data goes on with the frame r. The frame has no fault; the FID and the still bit are the frame's; no EOF
 -- that counts, no error, no stamp that differs from the frame's; and the data is within the frame size.
@@ -37,7 +36,7 @@ went_on r h n =
     record {
       fid = r.fid;
       still = r.still;
-      fault = Sound;
+      fault = None;
       bytes = r.bytes + n;
       fill = r.fill + n;
       stamp = earlier_of r.stamp h.stamp;

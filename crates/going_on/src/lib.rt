@@ -7,10 +7,10 @@ ghost use Rattle.session_rules.specs.Layouts.{header_layout};
 ghost use Rattle.session_rules.specs.Transfer.{need_of, stamp_of};
 ghost use Rattle.session_rules.specs.Turns.{clash_of, earlier_of};
 ghost use Rattle.session_rules.specs.OldKind.{old_header};
-ghost use Rattle.going_on.specs.GoingOn.{is_sound, went_on};
+ghost use Rattle.going_on.specs.GoingOn.{went_on};
 ghost use Rattle.going_on.specs.Bytes.{is_old, one_of, marks_of, is_marked, data_of, bytes_go_on};
 
-use session_rules::{Fault, Run, Stamp};
+use session_rules::{Run, Stamp};
 use sizes::{HeaderKind, Opening};
 
 // The bits of the flag byte that are compared: FID, EOF, still, error and end of header.
@@ -24,19 +24,7 @@ const STILL: u8 = 32;
 fn is_old(kind: HeaderKind) -> bool
     ensures { result ≡ is_old kind }
 {
-    match kind {
-        HeaderKind::Old => true,
-        HeaderKind::Vp8 => false,
-    }
-}
-
-fn is_sound(fault: Fault) -> bool
-    ensures { result ≡ is_sound fault }
-{
-    match fault {
-        Fault::Sound => true,
-        Fault::Bad(_) => false,
-    }
+    matches!(kind, HeaderKind::Old)
 }
 
 fn one(b: bool) -> u8
@@ -74,25 +62,25 @@ fn is_marked(fid: bool, still: bool, payload: usize, t: &[u8]) -> bool
     !payload::old_too_short(from, flags as u32)
 }
 
-// No stamp that differs from the frame's.
+// No stamp that differs from the frame's. A frame that has none lets the transfer's unread.
 fn agrees(was: Stamp, t: &[u8], flags: u32) -> bool
     requires { need_of (header_layout Old) flags ≤ length t.now }
     ensures { result ≡ not (clash_of was (stamp_of (header_layout Old) t.now flags)) }
 {
     match was {
-        Stamp::Absent => true,
-        Stamp::At(_) => !frames::clash(was, payload::old_stamp(t, flags)),
+        None => true,
+        Some(_) => !frames::clash(was, payload::old_stamp(t, flags)),
     }
 }
 
-// The first stamp of two: the frame's, or the transfer's.
+// The first stamp of two: the frame's, or the transfer's. No `or`, which would read the transfer's stamp of each transfer.
 fn first_stamp(was: Stamp, t: &[u8], flags: u32) -> Stamp
     requires { need_of (header_layout Old) flags ≤ length t.now }
     ensures { result ≡ earlier_of was (stamp_of (header_layout Old) t.now flags) }
 {
     match was {
-        Stamp::Absent => payload::old_stamp(t, flags),
-        Stamp::At(_) => was,
+        None => payload::old_stamp(t, flags),
+        Some(_) => was,
     }
 }
 
@@ -100,12 +88,10 @@ fn first_stamp(was: Stamp, t: &[u8], flags: u32) -> Stamp
 pub fn goes_on(o: Opening, r: Run, t: &[u8]) -> bool
     ensures { result ≡ bytes_go_on o r t.now }
 {
-    let kind = o.kind;
-    if !is_old(kind) {
+    if !is_old(o.kind) {
         return false;
     }
-    let fault = r.fault;
-    if !is_sound(fault) {
+    if r.fault.is_some() {
         return false;
     }
     if !is_marked(r.fid, r.still, o.payload, t) {
@@ -118,8 +104,7 @@ pub fn goes_on(o: Opening, r: Run, t: &[u8]) -> bool
     if o.frame - r.fill < n {
         return false;
     }
-    let was = r.stamp;
-    agrees(was, t, t[1] as u32)
+    agrees(r.stamp, t, t[1] as u32)
 }
 
 // Inner: the frame with that transfer.
@@ -128,16 +113,12 @@ pub fn went_on(o: Opening, r: Run, t: &[u8]) -> Run
     ensures { result ≡ went_on r (old_header t.now) (data_of t.now) }
 {
     let n = t.len() - le::wide(t[0]);
-    let was = r.stamp;
-    let stamp = first_stamp(was, t, t[1] as u32);
-    let layer = r.layer;
+    let stamp = first_stamp(r.stamp, t, t[1] as u32);
     Run {
         bytes: r.bytes + n as u64,
         fill: r.fill + n,
         stamp,
-        fid: r.fid,
-        still: r.still,
-        fault: Fault::Sound,
-        layer,
+        fault: None,
+        ..r
     }
 }

@@ -9,21 +9,18 @@ ghost use Rattle.graph.specs.Rows.{places, Edge, Through};
 // The places of a graph, and the bits of a row.
 pub const PLACES: usize = 32;
 
-// The first place on a loop, or `PLACES`.
+// The first place on a loop, or `PLACES`. (No Option: `FirstLoop` is of a number.)
 pub fn first_loop(rows: [u32; PLACES]) -> usize
     ensures { FirstLoop (Edge rows) places result }
 {
     let mut m = rows;
     close(&mut m);
-    let mut i: usize = 0;
-    while i < PLACES {
-        let x = m[i];
-        if bit(x, i) {
+    for (i, x) in m.iter().enumerate() {
+        if bit(*x, i) {
             return i;
         }
-        i += 1;
     }
-    i
+    PLACES
 }
 
 // The rows become the chains: one round for each place that a chain may lead through.
@@ -32,12 +29,10 @@ fn close(m: &mut [u32; PLACES])
     ensures m_len { length m.new ≡ places }
     ensures by_index { (i j : ℕ) → Edge m.new i j ↔ Chain (Edge m.old) i j }
 {
-    let mut k: usize = 0;
-    while k < PLACES {
+    for k in 0..PLACES {
         if m[k] != 0 {
             round(m, k);
         }
-        k += 1;
     }
 }
 
@@ -47,13 +42,11 @@ fn round(m: &mut [u32; PLACES], k: usize)
     ensures m_len { length m.new ≡ places }
     ensures by_index { (i j : ℕ) → Edge m.new i j ↔ Through (Edge m.old) k i j }
 {
-    let mut i: usize = 0;
-    while i < PLACES {
+    for i in 0..PLACES {
         let x = m[i];
         if bit(x, k) {
             m[i] = x | m[k];
         }
-        i += 1;
     }
 }
 

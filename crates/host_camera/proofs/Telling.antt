@@ -1,10 +1,11 @@
 -- What is told, part by part; and of a streaming block behind an accepted control block.
+use Rattle.std.specs.Prelude.{Err}
+use Rattle.rules.specs.declared.Refused.{Refused}
+use Rattle.rules.specs.Verdicts.{Verdict, accept}
 use Prim.Native.Nat.{ℕ}
 use mathlib.Core.Path.{◌≡◌, refl, ◌∙◌}
 use mathlib.Core.List.{List}
 use lib.ListN.{take}
-use Rattle.rules.specs.declared.Verdict.{Verdict}
-use Rattle.rules.specs.declared.Verdict.TheVariants.{Accepted, Refused}
 use Rattle.entities.specs.declared.Table.{Table}
 use Rattle.le.specs.Le.{byte}
 use Rattle.control_map.specs.Answer.{MapIs}
@@ -32,10 +33,10 @@ pub controls-left : (s : List ℕ) (id : ℕ) (m : Map) → MapIs s id m → Con
 controls-left s id m h = record { answer = m; read = h; same = refl }
 
 -- ---- a streaming block
-pub refused-under : (v : Verdict) (table : Table) (t : List ℕ) (k o : ℕ) → v ≡ Refused k o → (r : Told) → r ≡ verdict_told v → r ≡ under_told v table t
-refused-under v table t k o e r g = g ∙ (rw e)
+pub refused-under : (v : Verdict) (table : Table) (t : List ℕ) (w : Refused) → v ≡ Err w → (r : Told) → r ≡ verdict_told v → r ≡ under_told v table t
+refused-under v table t w e r g = g ∙ (rw e)
 
-module _ (v : Verdict) (table : Table) (t : List ℕ) (e : v ≡ Accepted) (s : Streaming) (f : s ≡ streaming_of table t) where
+module _ (v : Verdict) (table : Table) (t : List ℕ) (e : v ≡ accept) (s : Streaming) (f : s ≡ streaming_of table t) where
   pub told_under : (r : Told) → r ≡ verdict_told s.verdict → r ≡ under_told v table t
   told_under r g = rw (e, ← f) g
 

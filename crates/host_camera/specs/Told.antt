@@ -1,8 +1,7 @@
 -- How what the readers answer is told to C.
-use Rattle.std.specs.Prelude.{ℕ, List, take}
+use Rattle.rules.specs.Verdicts.{Verdict, refuse}
+use Rattle.std.specs.Prelude.{ℕ, List, take, Err, Ok}
 use Rattle.le.specs.Le.{byte}
-use Rattle.rules.specs.declared.Verdict.{Verdict}
-use Rattle.rules.specs.declared.Verdict.TheVariants.{Accepted, Refused}
 use Rattle.entities.specs.declared.Entity.{Entity}
 use Rattle.entities.specs.declared.Revision.{Revision}
 use Rattle.entities.specs.declared.Revision.TheVariants.{R10, R11, R15}
@@ -20,8 +19,8 @@ use Rattle.host_camera.specs.declared.ControlsTold.{ControlsTold}
 
 -- of the streaming block t under a control block's answer: the control block's own refusal comes first
 abbrev pub under_told : Verdict → Table → List ℕ → Told
-under_told Accepted table t = verdict_told (streaming_of table t).verdict
-under_told (Refused k o) table t = verdict_told (Refused k o)
+under_told (Ok _) table t = verdict_told (streaming_of table t).verdict
+under_told (Err r) table t = verdict_told (refuse r.number r.offset)
 
 -- ---- a control block
 abbrev pub no_entity : EntityTold
@@ -37,8 +36,8 @@ revision_number R11 = 272
 revision_number R15 = 336
 
 abbrev pub revision_told : Verdict → Revision → ℕ
-revision_told Accepted v = revision_number v
-revision_told (Refused k o) v = 0
+revision_told (Ok _) v = revision_number v
+revision_told (Err r) v = 0
 
 -- a map's length and bytes are 0 where it is refused
 abbrev pub controls_told : Map → ControlsTold
@@ -70,9 +69,9 @@ frame_told s f =
     }
 
 abbrev pub format_under : Verdict → Table → List ℕ → ℕ → FormatTold
-format_under Accepted table t k = kth no_format format_told (take (streaming_of table t).format_count (streaming_of table t).formats) k
-format_under (Refused n o) table t k = no_format
+format_under (Ok _) table t k = kth no_format format_told (take (streaming_of table t).format_count (streaming_of table t).formats) k
+format_under (Err r) table t k = no_format
 
 abbrev pub frame_under : Verdict → Table → List ℕ → ℕ → FrameTold
-frame_under Accepted table t k = kth no_frame (frame_told t) (take (streaming_of table t).frame_count (streaming_of table t).frames) k
-frame_under (Refused n o) table t k = no_frame
+frame_under (Ok _) table t k = kth no_frame (frame_told t) (take (streaming_of table t).frame_count (streaming_of table t).frames) k
+frame_under (Err r) table t k = no_frame

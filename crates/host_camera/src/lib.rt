@@ -88,8 +88,8 @@ fn tell_under(verdict: Verdict, table: Table, block: &[u8]) -> Told
     ensures { result ≡ under_told verdict table block.now }
 {
     match verdict {
-        Verdict::Refused { .. } => host_told::tell(verdict),
-        Verdict::Accepted => {
+        Err(_) => host_told::tell(verdict),
+        Ok(()) => {
             let s = streaming::read(table, block);
             let verdict = s.verdict;
             host_told::tell(verdict)
@@ -174,8 +174,8 @@ fn revision_under(verdict: Verdict, revision: Revision) -> u16
     ensures { result ≡ revision_told verdict revision }
 {
     match verdict {
-        Verdict::Accepted => revision_number(revision),
-        Verdict::Refused { .. } => 0,
+        Ok(()) => revision_number(revision),
+        Err(_) => 0,
     }
 }
 
@@ -227,8 +227,8 @@ fn format_under(verdict: Verdict, table: Table, block: &[u8], k: usize) -> Forma
     ensures { result ≡ format_under verdict table block.now k }
 {
     match verdict {
-        Verdict::Refused { .. } => no_format(),
-        Verdict::Accepted => {
+        Err(_) => no_format(),
+        Ok(()) => {
             let s = streaming::read(table, block);
             let formats = s.formats;
             format_in(formats, s.format_count, k)
@@ -291,8 +291,8 @@ fn frame_under(verdict: Verdict, table: Table, block: &[u8], k: usize) -> FrameT
     ensures { result ≡ frame_under verdict table block.now k }
 {
     match verdict {
-        Verdict::Refused { .. } => no_frame(),
-        Verdict::Accepted => {
+        Err(_) => no_frame(),
+        Ok(()) => {
             let s = streaming::read(table, block);
             let frames = s.frames;
             frame_in(block, frames, s.frame_count, k)

@@ -1,4 +1,6 @@
 -- The settings of an interface of a configuration.
+use Rattle.alternate_settings.specs.declared.Setting.{Setting}
+use Rattle.std.specs.Prelude.{Option}
 use Prim.Native.Nat.{ℕ, ◌≤◌, ◌<◌}
 use mathlib.Core.Path.{◌≡◌, refl}
 use mathlib.Core.List.{List}
@@ -13,7 +15,6 @@ use Rattle.interfaces.specs.Inner.{streams_of, place_of}
 use Rattle.interfaces.specs.declared.Stream.{Stream}
 use Rattle.interfaces.proofs.Listing.{streams-few}
 use Rattle.alternate_settings.specs.Inner.{settings_of, kth_of}
-use Rattle.alternate_settings.specs.declared.Choice.{Choice}
 use Rattle.configuration.specs.Inner.{ConfigurationIs, laid, blocks, sound, refused_by, accepted_with}
 use Rattle.configuration.specs.declared.Configuration.{Configuration}
 use Rattle.picking.specs.Inner.{settings_in}
@@ -35,7 +36,7 @@ module _ (s : List ℕ) (l : List Stream) (n i k : ℕ) (e : k ≡ place_of l n 
   unfolding settings_in kth_of if_else
   no_such h r g = rw (← e, eq-eqb k n h) g
 
-  pub setting-told : (k ≡ n → ⊥) → (c : Choice) → c ≡ kth_of (settings_of s i (get_or l k no_stream).endpoint) j
+  pub setting-told : (k ≡ n → ⊥) → (c : Option Setting) → c ≡ kth_of (settings_of s i (get_or l k no_stream).endpoint) j
       → (r : SettingTold) → r ≡ setting_told c → r ≡ setting_told (kth_of (settings_in s l n i) j)
   unfolding settings_in if_else
   setting-told h c f r g = rw (← e, ne_eqb k n h, ← f) g

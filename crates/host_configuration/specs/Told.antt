@@ -1,11 +1,9 @@
 -- How what the readers of a configuration answer is told to C.
-use Rattle.std.specs.Prelude.{ℕ, zero, suc, List, [], ◌∷◌}
-use Rattle.rules.specs.declared.Verdict.{Verdict}
-use Rattle.rules.specs.declared.Verdict.TheVariants.{Accepted, Refused}
+use Rattle.alternate_settings.specs.declared.Setting.{Setting}
+use Rattle.rules.specs.Verdicts.{Verdict}
+use Rattle.std.specs.Prelude.{ℕ, zero, suc, List, [], ◌∷◌, None, Option, Some, Err, Ok}
 use Rattle.interfaces.specs.declared.Block.{Block}
 use Rattle.interfaces.specs.declared.Stream.{Stream}
-use Rattle.alternate_settings.specs.declared.Choice.{Choice}
-use Rattle.alternate_settings.specs.declared.Choice.TheVariants.{At, Nothing}
 use Rattle.picking.specs.declared.Picked.{Picked}
 use Rattle.host_told.specs.Told.{number_of, offset_of, kth}
 use Rattle.host_configuration.specs.declared.SettingTold.{SettingTold}
@@ -35,20 +33,20 @@ part_at b l (suc k) = kth no_block stream_words l k
 
 -- none in a configuration that is refused
 abbrev pub block_there : Verdict → List Stream → ℕ → ℕ
-block_there Accepted l k = part_there l k
-block_there (Refused n o) l k = 0
+block_there (Ok _) l k = part_there l k
+block_there (Err r) l k = 0
 
 abbrev pub block_at : Verdict → Block → List Stream → ℕ → List ℕ
-block_at Accepted b l k = part_at b l k
-block_at (Refused n o) b l k = no_block
+block_at (Ok _) b l k = part_at b l k
+block_at (Err r) b l k = no_block
 
 -- ---- a setting, and a pick
 abbrev pub no_setting : SettingTold
 no_setting = record { there = 0; number = 0; zero = 0; bytes = 0 }
 
-abbrev pub setting_told : Choice → SettingTold
-setting_told Nothing = no_setting
-setting_told (At x) = record { there = 1; number = x.number; zero = 0; bytes = x.bytes }
+abbrev pub setting_told : Option Setting → SettingTold
+setting_told None = no_setting
+setting_told (Some x) = record { there = 1; number = x.number; zero = 0; bytes = x.bytes }
 
 -- a picked setting's number and bytes are 0 where it is refused
 abbrev pub picked_told : Picked → PickedTold

@@ -6,10 +6,10 @@ ghost use Rattle.interfaces.specs.Limits.{interfaces_most};
 ghost use Rattle.alternate_settings.specs.Inner.{kth_of};
 ghost use Rattle.picking.specs.Inner.{settings_in};
 ghost use Rattle.host_told.specs.Told.{kth};
-ghost use Rattle.host_configuration.specs.Told.{no_setting, setting_told, no_block, control_words, stream_words, there_of, part_at, part_there, block_at, block_there};
+ghost use Rattle.host_configuration.specs.Told.{no_setting, setting_told, no_block, stream_words, there_of, part_at, part_there, block_at, block_there};
 ghost use Rattle.host_configuration.specs.Questions.{ConfigurationTold, BlockThere, BlockAnswer, SettingAnswer, PickAnswer};
 
-use alternate_settings::Choice;
+use alternate_settings::Setting;
 use host_told::Told;
 use interfaces::{Block, INTERFACES_MOST, Stream};
 use rules::Verdict;
@@ -70,11 +70,11 @@ fn block_in(
     ensures to_after { to.new ≡ block_at verdict control (take count streams) k }
 {
     match verdict {
-        Verdict::Refused { .. } => {
+        Err(_) => {
             *to = [0, 0, 0, 0];
             0
         }
-        Verdict::Accepted => part_in(control, streams, count, k, to),
+        Ok(()) => part_in(control, streams, count, k, to),
     }
 }
 
@@ -166,12 +166,12 @@ fn no_setting() -> SettingTold
     }
 }
 
-fn tell_setting(c: Choice) -> SettingTold
+fn tell_setting(c: Option<Setting>) -> SettingTold
     ensures { result ≡ setting_told c }
 {
     match c {
-        Choice::Nothing => no_setting(),
-        Choice::At(x) => SettingTold {
+        None => no_setting(),
+        Some(x) => SettingTold {
             there: 1,
             number: x.number,
             zero: 0,

@@ -1,4 +1,5 @@
 -- Words and blocks, back and forth: reading what was written gives the words of the fields that the revision has, and writing what was read gives the block's bytes.
+use Rattle.rules.specs.Verdicts.{accept}
 use Prim.Native.Nat.{ℕ, suc, ◌+◌, ◌*◌, ◌%◌, ◌^◌, ◌≤◌, ◌<◌}
 use mathlib.Core.Path.{◌≡◌, refl, sym, ap, ◌∙◌}
 use mathlib.Core.Bool.{Bool, true, false, not, true≢false}
@@ -10,7 +11,6 @@ use native.Mathlib.Omega.{arith}
 use native.Mathlib.Decide.{dec_le}
 use native.Mathlib.Nat.{mod-eq_of_lt}
 use Rattle.rules.specs.IfElse.{if_else}
-use Rattle.rules.specs.declared.Verdict.TheVariants.{Accepted}
 use Rattle.rules.specs.First.{First}
 use Rattle.rules.proofs.Places.{Says, first-place}
 use Rattle.entities.specs.declared.Revision.{Revision}
@@ -81,7 +81,7 @@ module _ (v : Revision) (w room old : List ℕ) (h : AllWords w) (n : length w �
   back = whole_back v (fields_in w) room (write_left_as v w room) (held w h) l is-written
 
   module _ (k : probe_size v ≤ length (write_left_as v w room)) where
-    pub reads-back : read_as v (take (probe_size v) (write_left_as v w room)) ≡ verdict_told Accepted
+    pub reads-back : read_as v (take (probe_size v) (write_left_as v w room)) ≡ verdict_told accept
     reads-back = rw (back k)
 
     -- the words, with 0 for what the revision lacks

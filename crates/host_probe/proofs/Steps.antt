@@ -1,4 +1,7 @@
 -- What the functions have, in the order of their code.
+use Rattle.rules.specs.declared.Refused.{Refused}
+use Rattle.std.specs.Prelude.{None, Option, Some, Err}
+use Rattle.rules.specs.Verdicts.{Verdict, accept}
 use Prim.Native.Nat.{ℕ, ◌%◌, ◌≤◌, ◌<◌}
 use mathlib.Core.Path.{◌≡◌, refl, ◌∙◌}
 use mathlib.Core.List.{List, [], ◌∷◌}
@@ -8,8 +11,6 @@ use lib.ListN.{get_or}
 use borrow.Author.Tests.{lt-ltb, le-ltb, eq-eqb, ne_eqb}
 use Rattle.rules.specs.IfElse.{if_else}
 use Rattle.rules.specs.Place.{first_place}
-use Rattle.rules.specs.declared.Verdict.{Verdict}
-use Rattle.rules.specs.declared.Verdict.TheVariants.{Accepted, Refused}
 use Rattle.entities.specs.declared.Revision.{Revision}
 use Rattle.entities.specs.declared.Table.{Table}
 use Rattle.probe.specs.Fields.{probe_of, room_verdict, written}
@@ -20,18 +21,16 @@ use Rattle.host_told.specs.Told.{verdict_told, unknown_told}
 use Rattle.host_told.specs.declared.Told.{Told}
 use Rattle.host_probe.specs.Words.{words_of, layout_in, fields_in, differs, wide_at}
 use Rattle.host_probe.specs.Probe.{read_as, read_told, verdict_left, read_left_as, read_left, wide_told, write_as, write_told, write_left_as, write_left, check_under}
-use Rattle.host_probe.specs.declared.RevisionFound.{RevisionFound}
-use Rattle.host_probe.specs.declared.RevisionFound.TheVariants.{Is, None}
 
 -- ---- reading
-module _ (f g : RevisionFound) (h : f ≡ g) (s w : List ℕ) where
+module _ (f g : Option Revision) (h : f ≡ g) (s w : List ℕ) where
   pub read_none : f ≡ None → (r : Told) → r ≡ unknown_told → r ≡ read_told g s
   read_none e r k = rw (← h, e) k
 
   pub left-none : f ≡ None → w ≡ read_left g s w
   left-none e = rw (← h, e)
 
-  module _ (v : Revision) (e : f ≡ Is v) where
+  module _ (v : Revision) (e : f ≡ Some v) where
     pub read_is : (r : Told) → r ≡ read_as v s → r ≡ read_told g s
     read_is r k = rw (← h, e) k
 
@@ -45,21 +44,21 @@ module _ (v : Revision) (s : List ℕ) (f : Fields) (e : f ≡ probe_of v s) whe
   pub left-fields : (w left : List ℕ) → left ≡ verdict_left f.verdict (words_of f.probe) w → left ≡ read_left_as v s w
   left-fields w left l = rw (← e) l
 
-pub left-accepted : (v : Verdict) (new w l : List ℕ) → v ≡ Accepted → l ≡ new → l ≡ verdict_left v new w
+pub left-accepted : (v : Verdict) (new w l : List ℕ) → v ≡ accept → l ≡ new → l ≡ verdict_left v new w
 left-accepted v new w l e f = rw e f
 
-pub left-refused : (v : Verdict) (new w : List ℕ) (k o : ℕ) → v ≡ Refused k o → w ≡ verdict_left v new w
-left-refused v new w k o e = rw e
+pub left-refused : (v : Verdict) (new w : List ℕ) (r : Refused) → v ≡ Err r → w ≡ verdict_left v new w
+left-refused v new w r e = rw e
 
 -- ---- writing
-module _ (f g : RevisionFound) (h : f ≡ g) (w room : List ℕ) where
+module _ (f g : Option Revision) (h : f ≡ g) (w room : List ℕ) where
   pub write-none : f ≡ None → (r : Told) → r ≡ unknown_told → r ≡ write_told g w room
   write-none e r k = rw (← h, e) k
 
   pub room-none : f ≡ None → room ≡ write_left g w room
   room-none e = rw (← h, e)
 
-  module _ (v : Revision) (e : f ≡ Is v) where
+  module _ (v : Revision) (e : f ≡ Some v) where
     pub write-is : (r : Told) → r ≡ write_as v w room → r ≡ write_told g w room
     write-is r k = rw (← h, e) k
 
@@ -105,8 +104,8 @@ pub fields-are : (w l : List ℕ) → l ≡ layout_in w
 fields-are w l e = rw e
 
 -- ---- checking
-pub refused-check : (v : Verdict) (table : Table) (t a : List ℕ) (k o : ℕ) → v ≡ Refused k o → (r : Told) → r ≡ verdict_told v → r ≡ check_under v table t a
-refused-check v table t a k o e r g = g ∙ (rw e)
+pub refused-check : (v : Verdict) (table : Table) (t a : List ℕ) (w : Refused) → v ≡ Err w → (r : Told) → r ≡ verdict_told v → r ≡ check_under v table t a
+refused-check v table t a w e r g = g ∙ (rw e)
 
-pub accepted-check : (v : Verdict) (table : Table) (t a : List ℕ) → v ≡ Accepted → (u : Verdict) → u ≡ check_of table t a → (r : Told) → r ≡ verdict_told u → r ≡ check_under v table t a
+pub accepted-check : (v : Verdict) (table : Table) (t a : List ℕ) → v ≡ accept → (u : Verdict) → u ≡ check_of table t a → (r : Told) → r ≡ verdict_told u → r ≡ check_under v table t a
 accepted-check v table t a e u f r g = rw (e, ← f) g

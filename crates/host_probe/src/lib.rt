@@ -14,13 +14,6 @@ use rules::Verdict;
 // A probe block's fields as words, in the order of the block; the eight bytes of the layout are a word each.
 pub const WORDS: usize = 29;
 
-// The revision that a number is.
-#[derive(Drop)]
-pub enum RevisionFound {
-    Is(Revision),
-    None,
-}
-
 // Reads a probe block's fields into the words; a refusal changes none. Unknown: a revision that is not 0x0100, 0x0110 or 0x0150.
 #[unsafe(no_mangle)]
 pub extern "C" fn palkodhen_probe_read(to: &mut [u32; WORDS], block: &[u8], revision: u16) -> Told
@@ -28,8 +21,8 @@ pub extern "C" fn palkodhen_probe_read(to: &mut [u32; WORDS], block: &[u8], revi
     ensures to_after { to.new ≡ read_left (revision_in revision) block.now to.old }
 {
     match revision_of(revision) {
-        RevisionFound::None => host_told::unknown(),
-        RevisionFound::Is(v) => read_as(to, block, v),
+        None => host_told::unknown(),
+        Some(v) => read_as(to, block, v),
     }
 }
 
@@ -49,10 +42,10 @@ fn leave(to: &mut [u32; WORDS], verdict: Verdict, p: Probe)
     ensures { to.new ≡ verdict_left verdict (words_of p) to.old }
 {
     match verdict {
-        Verdict::Accepted => {
+        Ok(()) => {
             *to = words_of(p);
         }
-        Verdict::Refused { .. } => {}
+        Err(_) => {}
     }
 }
 
@@ -63,8 +56,8 @@ pub extern "C" fn palkodhen_probe_write(from: &[u32; WORDS], room: &mut [u8], re
     ensures room_after { room.new ≡ write_left (revision_in revision) from.now room.old }
 {
     match revision_of(revision) {
-        RevisionFound::None => host_told::unknown(),
-        RevisionFound::Is(v) => write_as(from, room, v),
+        None => host_told::unknown(),
+        Some(v) => write_as(from, room, v),
     }
 }
 
@@ -106,32 +99,31 @@ fn check_under(verdict: Verdict, table: Table, block: &[u8], probe: &[u8]) -> To
     ensures { result ≡ check_under verdict table block.now probe.now }
 {
     match verdict {
-        Verdict::Refused { .. } => host_told::tell(verdict),
-        Verdict::Accepted => host_told::tell(probe_check::check(table, block, probe)),
+        Err(_) => host_told::tell(verdict),
+        Ok(()) => host_told::tell(probe_check::check(table, block, probe)),
     }
 }
 
-fn revision_of(n: u16) -> RevisionFound
+// The revision that a number is.
+fn revision_of(n: u16) -> Option<Revision>
     ensures { result ≡ revision_in n }
 {
     match n {
-        0x0100 => RevisionFound::Is(Revision::R10),
-        0x0110 => RevisionFound::Is(Revision::R11),
-        0x0150 => RevisionFound::Is(Revision::R15),
-        _ => RevisionFound::None,
+        0x0100 => Some(Revision::R10),
+        0x0110 => Some(Revision::R11),
+        0x0150 => Some(Revision::R15),
+        _ => None,
     }
 }
 
-// The first word that is not that of its field, and so over its width; WORDS where none is.
+// The first word that is not that of its field, and so over its width; WORDS where none is. (No Option: `first_place` gives the number.)
 fn wide_at(from: &[u32; WORDS], words: [u32; WORDS]) -> usize
     ensures { result ≡ first_place (differs from.now words) word_count }
 {
-    let mut i: usize = 0;
-    while i < WORDS {
+    for i in 0..WORDS {
         if from[i] != words[i] {
             return i;
         }
-        i = i + 1;
     }
     WORDS
 }

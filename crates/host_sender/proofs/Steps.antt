@@ -1,11 +1,12 @@
 -- What the functions have, in the order of their code.
+use Rattle.std.specs.Prelude.{None, Some}
+use Rattle.session_rules.specs.Options.{Stamp}
 use Prim.Native.Nat.{ℕ, ◌≤◌, ◌<◌}
 use mathlib.Core.Path.{◌≡◌, refl}
 use mathlib.Core.List.{List, [], ◌∷◌}
 use lib.ListN.{length, get_or}
 use borrow.Author.Tests.{lt-ltb, le-ltb, eq-eqb, ne_eqb}
 use Rattle.rules.specs.IfElse.{if_else}
-use Rattle.session_rules.specs.declared.Stamp.{Stamp}
 use Rattle.sender.specs.Send.{new_sender, next_of, send_of, room_of}
 use Rattle.sender.specs.declared.Sender.{Sender}
 use Rattle.sender.specs.declared.Sending.{Sending}
@@ -15,11 +16,11 @@ use Rattle.host_told.specs.Told.{unknown}
 use Rattle.host_sender.specs.Words.{one_of, words_of, sender_in, stamp_in, sending_told, unsound_told, worked_told, worked_words, worked_room, sent_told, words_left, room_left, next_told, next_left}
 use Rattle.host_sender.specs.declared.SentTold.{SentTold}
 
-pub stamp-none : (a x : ℕ) → a ≡ 0 → Stamp.Absent ≡ stamp_in a x
+pub stamp-none : (a x : ℕ) → a ≡ 0 → None ≡ stamp_in a x
 unfolding stamp_in if_else
 stamp-none a x e = rw (eq-eqb a 0 e)
 
-pub stamp-some : (a x : ℕ) → (a ≡ 0 → ⊥) → Stamp.At x ≡ stamp_in a x
+pub stamp-some : (a x : ℕ) → (a ≡ 0 → ⊥) → Some x ≡ stamp_in a x
 unfolding stamp_in if_else
 stamp-some a x e = rw (ne_eqb a 0 e)
 

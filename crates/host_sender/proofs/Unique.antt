@@ -1,8 +1,8 @@
 -- The promise of each function leaves one answer, and one content of what is lent.
+use Rattle.session_rules.specs.Options.{Stamp}
 use Prim.Native.Nat.{ℕ}
 use mathlib.Core.Path.{◌≡◌, sym, ◌∙◌}
 use mathlib.Core.List.{List}
-use Rattle.session_rules.specs.declared.Stamp.{Stamp}
 use Rattle.sender.specs.Send.{new_sender}
 use Rattle.host_sender.specs.Words.{words_of, sent_told, words_left, room_left, next_told, next_left}
 use Rattle.host_sender.specs.declared.SentTold.{SentTold}

@@ -1,7 +1,7 @@
 -- A sender as two words that a C host keeps, the FID and how many bytes of the frame are sent; and what a call tells and leaves.
-use Rattle.std.specs.Prelude.{ℕ, Bool, true, false, List, [], ◌∷◌, length, get_or, ltb, eqb}
+use Rattle.session_rules.specs.Options.{Stamp}
+use Rattle.std.specs.Prelude.{ℕ, Bool, true, false, List, [], ◌∷◌, length, get_or, ltb, eqb, None, Some}
 use Rattle.rules.specs.IfElse.{if_else}
-use Rattle.session_rules.specs.declared.Stamp.{Stamp}
 use Rattle.sender.specs.Send.{next_of, send_of, room_of}
 use Rattle.sender.specs.declared.Sender.{Sender}
 use Rattle.sender.specs.declared.Sending.{Sending}
@@ -26,7 +26,7 @@ unsound_in w = ltb 1 (get_or w 0 0)
 
 -- a stamp, or none where `stamped` is 0
 unfoldable pub stamp_in : ℕ → ℕ → Stamp
-stamp_in stamped x = if_else (eqb stamped 0) Stamp.Absent (Stamp.At x)
+stamp_in stamped x = if_else (eqb stamped 0) None (Some x)
 
 -- what is told of a call: 80, 81 or 82; or the bytes of the transfer, 0 after the last
 abbrev pub sending_told : Sending → SentTold

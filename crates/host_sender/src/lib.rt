@@ -113,9 +113,9 @@ fn stamp_in(stamped: u8, stamp: u32) -> Stamp
     ensures { result ≡ stamp_in stamped stamp }
 {
     if stamped == 0 {
-        return Stamp::Absent;
+        return None;
     }
-    Stamp::At(stamp)
+    Some(stamp)
 }
 
 fn sender_in(w: &Words) -> Sender

@@ -1,4 +1,3 @@
 -- Laws of the calls from C.
 pub mod Ways
-pub mod Laying
 pub mod Urb

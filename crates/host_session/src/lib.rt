@@ -3,8 +3,8 @@
 
 mod packets;
 
-ghost use Rattle.std.specs.Prelude.{◌≡◌, true, false, length, get_or};
-ghost use Rattle.rules.specs.Numbered.{first_row};
+ghost use Rattle.std.specs.Prelude.{◌≡◌, true, false, length};
+ghost use Rattle.rules.specs.Numbered.{first_row, kept};
 ghost use Rattle.sizes.specs.declared.HeaderKind.TheVariants.{Old, Vp8};
 ghost use Rattle.session_rules.specs.Accounts.{number_count};
 ghost use Rattle.session_rules.specs.Refusals.{take_rows, record_broken};
@@ -27,18 +27,15 @@ fn write(w: &mut Words, r: Rest)
     *w = x;
 }
 
-// What refuses a transfer of n bytes; where it is known, what is posted is not asked again.
-fn refusal(rest: Rest, m: &Numbers, room: usize, n: usize, known: bool) -> u8
-    requires { (length m.now ≡ number_count) × (known ≡ true → posted_broken m.now rest.taken ≡ false) }
-    ensures { result ≡ first_row (take_rows (whole_of rest m.now) room n) }
+// Ok, or what refuses a transfer of n bytes; where it is known, what is posted is not asked again.
+fn refusal(rest: &Rest, m: &Numbers, room: usize, n: usize, known: bool) -> Result<(), u8>
+    requires { (length m.now ≡ number_count) × (known ≡ true → posted_broken m.now rest.now.taken ≡ false) }
+    ensures { result ≡ kept (first_row (take_rows (whole_of rest.now m.now) room n)) }
 {
     if !known {
         return short_way::refusal(rest, m, room, n);
     }
-    let opening = rest.opening;
-    let track = rest.track;
-    let phase = track.phase;
-    refusals::take_refusal(false, opening, phase, rest.closed, rest.taken, room, n)
+    refusals::take_refusal(false, rest, room, n)
 }
 
 // Inner: the short way, before the words are taken apart: a transfer that goes on with a frame without fault.
@@ -55,7 +52,7 @@ pub fn goes(m: &mut Numbers, w: &mut Words, buffer: &mut [u8], t: &[u8], known: 
     let phase = track.phase;
     if let Phase::Under(run) = phase {
         if going_on::goes_on(opening, run, t) {
-            if refusal(rest, m, buffer.len(), t.len(), known) == 0 {
+            if refusal(&rest, m, buffer.len(), t.len(), known).is_ok() {
                 let next = short_way::keep(rest, run, m, buffer, t);
                 write(w, next);
                 return true;
@@ -252,27 +249,13 @@ fn is_broken(rest: Rest, m: &Numbers) -> bool
     rule_50::posted_broken(m, rest.taken)
 }
 
-// The number of a place; those of the rest hold 0.
-fn number_at(numbers: &Numbers, k: usize) -> u64
-    requires { length numbers.now ≡ number_count }
-    ensures { result ≡ get_or numbers.now k 0 }
-{
-    if k < 31 {
-        return numbers[k];
-    }
-    0
-}
-
 // The numbers in their forty places, the rest zero.
 fn lay(to: &mut [u64; 40], numbers: &Numbers)
     requires { (length numbers.now ≡ number_count) × (length to.old ≡ 40) }
     ensures { to.new ≡ places_of numbers.now }
 {
-    let mut k: usize = 0;
-    while k < 40 {
-        to[k] = number_at(numbers, k);
-        k += 1;
-    }
+    *to = [0; 40];
+    to[..31].copy_from_slice(numbers);
 }
 
 // The ledger, with the frame under way in its account, in its forty places.

@@ -158,9 +158,8 @@ pub extern "C" fn palkodhen_session_packets(
 {
     let mut known = is_sound(m, w);
     let mut at: usize = 0;
-    let mut k: usize = 0;
-    while k < lengths.len() {
-        let n = lengths[k] as usize;
+    for (k, length) in lengths.iter().enumerate() {
+        let n = *length as usize;
         let step = packet(m, w, buffer, bytes, at, stride, n, known);
         let told = step.told;
         if !is_quiet(told) {
@@ -170,8 +169,7 @@ pub extern "C" fn palkodhen_session_packets(
         }
         known = step.known;
         at = next(bytes, at, stride);
-        k = more(k, lengths.len());
     }
-    *taken = [k as u64];
+    *taken = [lengths.len() as u64];
     telling::plain(0, 0, 0)
 }

@@ -1,15 +1,12 @@
 -- What the functions have, in the order of their code: the setting and the request that a number is, or none.
+use Rattle.std.specs.Prelude.{None, Option, Some}
+use Rattle.rules.specs.Verdicts.{Verdict}
 use Prim.Native.Nat.{ℕ}
 use mathlib.Core.Path.{◌≡◌}
 use mathlib.Core.List.{List}
-use Rattle.rules.specs.declared.Verdict.{Verdict}
 use Rattle.camera_settings.specs.Numbers.{selector_of, code_of, SettingIs, SettingIs.has-selector, SettingIs.no-selector, RequestIs, RequestIs.has_code, RequestIs.no_code}
 use Rattle.camera_settings.specs.declared.Setting.{Setting}
 use Rattle.camera_settings.specs.declared.Request.{Request}
-use Rattle.camera_settings.specs.declared.SettingFound.{SettingFound}
-use Rattle.camera_settings.specs.declared.SettingFound.TheVariants as setting
-use Rattle.camera_settings.specs.declared.RequestFound.{RequestFound}
-use Rattle.camera_settings.specs.declared.RequestFound.TheVariants as request
 use Rattle.packets.specs.Packets.{packet_of, leaves}
 use Rattle.packets.specs.declared.Reading.{Reading}
 use Rattle.packets.specs.declared.Reading.TheVariants as reading
@@ -23,39 +20,39 @@ use Rattle.host_setup.specs.Setup as setup
 use Rattle.host_setup.specs.declared.AskedTold.{AskedTold}
 use Rattle.host_setup.specs.declared.MovedTold.{MovedTold}
 
-a-setting : (n : ℕ) (c : Setting) → SettingIs n (setting.Is c) → n ≡ selector_of c
+a-setting : (n : ℕ) (c : Setting) → SettingIs n (Some c) → n ≡ selector_of c
 a-setting n c (has-selector d e) = e
 
-none-setting : (n : ℕ) → SettingIs n setting.None → NoSetting n
+none-setting : (n : ℕ) → SettingIs n None → NoSetting n
 none-setting n (no-selector e) = e
 
-a-request : (n : ℕ) (q : Request) → RequestIs n (request.Is q) → n ≡ code_of q
+a-request : (n : ℕ) (q : Request) → RequestIs n (Some q) → n ≡ code_of q
 a-request n q (has_code d e) = e
 
-none-request : (n : ℕ) → RequestIs n request.None → NoRequest n
+none-request : (n : ℕ) → RequestIs n None → NoRequest n
 none-request n (no_code e) = e
 
 module _ (s : List ℕ) (interface unit n q : ℕ) (room : List ℕ) where
-  module _ (f : SettingFound) (h : SettingIs n f) where
-    pub no-setting : f ≡ setting.None → (r : Told) → r ≡ unknown_told → SetupIs s interface unit n q room r room
+  module _ (f : Option Setting) (h : SettingIs n f) where
+    pub no-setting : f ≡ None → (r : Told) → r ≡ unknown_told → SetupIs s interface unit n q room r room
     no-setting e r g = rw g (by-setting (none-setting n (rw e at h)))
 
-    pub this-setting : (c : Setting) → f ≡ setting.Is c → (r : Told) (left : List ℕ) → SetupWith s interface unit c q room r left → SetupIs s interface unit n q room r left
+    pub this-setting : (c : Setting) → f ≡ Some c → (r : Told) (left : List ℕ) → SetupWith s interface unit c q room r left → SetupIs s interface unit n q room r left
     this-setting c e r left w = with-setting c (a-setting n c (rw e at h)) r left w
 
-  module _ (c : Setting) (f : RequestFound) (h : RequestIs q f) where
-    pub no-request : f ≡ request.None → (r : Told) → r ≡ unknown_told → SetupWith s interface unit c q room r room
+  module _ (c : Setting) (f : Option Request) (h : RequestIs q f) where
+    pub no-request : f ≡ None → (r : Told) → r ≡ unknown_told → SetupWith s interface unit c q room r room
     no-request e r g = rw g (by-request (none-request q (rw e at h)))
 
-    pub this-request : (d : Request) → f ≡ request.Is d → (v : Verdict) (left : List ℕ) → BuildIs s unit c room v → left ≡ leaves v (packet_of interface unit c d) room
+    pub this-request : (d : Request) → f ≡ Some d → (v : Verdict) (left : List ℕ) → BuildIs s unit c room v → left ≡ leaves v (packet_of interface unit c d) room
         → (r : Told) → r ≡ verdict_told v → SetupWith s interface unit c q room r left
     this-request d e v left b l r g = rw (g, l) (with-request d (a-request q d (rw e at h)) v b)
 
-module _ (n minimum maximum step wanted : ℕ) (f : SettingFound) (h : SettingIs n f) where
-  pub no_number : f ≡ setting.None → (r : MovedTold) → r ≡ unknown_moved → MovedIs n minimum maximum step wanted r
+module _ (n minimum maximum step wanted : ℕ) (f : Option Setting) (h : SettingIs n f) where
+  pub no_number : f ≡ None → (r : MovedTold) → r ≡ unknown_moved → MovedIs n minimum maximum step wanted r
   no_number e r g = rw g (setup.MovedIs.by-setting (none-setting n (rw e at h)))
 
-  pub this-number : (c : Setting) → f ≡ setting.Is c → (m : Moved) → NearestIs c minimum maximum step wanted m → (r : MovedTold) → r ≡ moved_told m → MovedIs n minimum maximum step wanted r
+  pub this-number : (c : Setting) → f ≡ Some c → (m : Moved) → NearestIs c minimum maximum step wanted m → (r : MovedTold) → r ≡ moved_told m → MovedIs n minimum maximum step wanted r
   this-number c e m b r g = rw g (setup.MovedIs.with-setting c (a-setting n c (rw e at h)) m b)
 
 pub moved_by : (m : Moved) (n : ℕ) → n ≡ number_of m.verdict → record { number = n; word = m.word } ≡ moved_told m

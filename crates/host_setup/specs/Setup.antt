@@ -1,6 +1,6 @@
 -- Settings and requests by the class's numbers, and what a C host is told of what `setup` and `nearest` answer. `s` is the control block.
+use Rattle.rules.specs.Verdicts.{Verdict}
 use Rattle.std.specs.Prelude.{ℕ, ◌≡◌, List}
-use Rattle.rules.specs.declared.Verdict.{Verdict}
 use Rattle.camera_settings.specs.Numbers.{selector_of, code_of}
 use Rattle.camera_settings.specs.declared.Setting.{Setting}
 use Rattle.camera_settings.specs.declared.Request.{Request}

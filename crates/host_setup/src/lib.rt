@@ -5,7 +5,7 @@ ghost use Rattle.std.specs.Prelude.{◌≡◌};
 ghost use Rattle.packets.specs.declared.Reading.{Reading};
 ghost use Rattle.host_setup.specs.Setup.{SetupIs, SetupWith, asked_told, AskedAnswer, moved_told, unknown_moved, MovedIs};
 
-use camera_settings::{Request, RequestFound, Setting, SettingFound};
+use camera_settings::{Request, Setting};
 use host_told::Told;
 use nearest::Moved;
 use packets::Reading;
@@ -43,8 +43,8 @@ pub extern "C" fn palkodhen_setup(
     ensures { SetupIs control.now interface unit setting request packet.old result packet.new }
 {
     match camera_settings::setting_of(setting) {
-        SettingFound::None => host_told::unknown(),
-        SettingFound::Is(s) => setup_with(control, interface, unit, s, request, packet),
+        None => host_told::unknown(),
+        Some(s) => setup_with(control, interface, unit, s, request, packet),
     }
 }
 
@@ -60,8 +60,8 @@ fn setup_with(
     ensures { SetupWith control.now interface unit setting request packet.old result packet.new }
 {
     match camera_settings::request_of(request) {
-        RequestFound::None => host_told::unknown(),
-        RequestFound::Is(q) => {
+        None => host_told::unknown(),
+        Some(q) => {
             let verdict = setup::build(control, interface, unit, setting, q, packet);
             host_told::tell(verdict)
         }
@@ -123,8 +123,8 @@ pub extern "C" fn palkodhen_nearest(
     ensures { MovedIs setting minimum maximum step wanted result }
 {
     match camera_settings::setting_of(setting) {
-        SettingFound::None => no_move(),
-        SettingFound::Is(s) => tell_moved(nearest::nearest(s, minimum, maximum, step, wanted)),
+        None => no_move(),
+        Some(s) => tell_moved(nearest::nearest(s, minimum, maximum, step, wanted)),
     }
 }
 

@@ -1,7 +1,7 @@
 -- The promises leave one answer.
+use Rattle.rules.specs.Verdicts.{Verdict}
 use Prim.Native.Nat.{ℕ}
 use mathlib.Core.Path.{◌≡◌, sym, ap, ◌∙◌}
-use Rattle.rules.specs.declared.Verdict.{Verdict}
 use Rattle.host_told.specs.Told.{number_of, offset_of, verdict_told, unknown_told, From}
 use Rattle.host_told.specs.declared.Told.{Told}
 

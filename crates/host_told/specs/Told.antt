@@ -1,16 +1,15 @@
 -- What a C host is told of a verdict: 0 for accepted, else the number and the place.
-use Rattle.std.specs.Prelude.{ℕ, zero, suc, ◌≡◌, List, [], ◌∷◌}
-use Rattle.rules.specs.declared.Verdict.{Verdict}
-use Rattle.rules.specs.declared.Verdict.TheVariants.{Accepted, Refused}
+use Rattle.rules.specs.Verdicts.{Verdict}
+use Rattle.std.specs.Prelude.{ℕ, zero, suc, ◌≡◌, List, [], ◌∷◌, Err, Ok}
 use Rattle.host_told.specs.declared.Told.{Told}
 
 abbrev pub number_of : Verdict → ℕ
-number_of Accepted = 0
-number_of (Refused k o) = k
+number_of (Ok _) = 0
+number_of (Err r) = r.number
 
 abbrev pub offset_of : Verdict → ℕ
-offset_of Accepted = 0
-offset_of (Refused k o) = o
+offset_of (Ok _) = 0
+offset_of (Err r) = r.offset
 
 abbrev pub verdict_told : Verdict → Told
 verdict_told v = record { number = number_of v; zero = 0; offset = offset_of v }

@@ -4,7 +4,7 @@
 ghost use Rattle.std.specs.Prelude.{◌≡◌};
 ghost use Rattle.host_told.specs.Told.{number_of, offset_of, verdict_told, unknown_told};
 
-use rules::Verdict;
+use rules::{Refused, Verdict};
 
 // The number of the first broken rule and the place that breaks it; all 0 for accepted.
 #[repr(C)]
@@ -43,8 +43,8 @@ pub fn number_of(verdict: Verdict) -> u8
     ensures { result ≡ number_of verdict }
 {
     match verdict {
-        Verdict::Accepted => 0,
-        Verdict::Refused { number, offset: _ } => number,
+        Ok(()) => 0,
+        Err(Refused { number, offset: _ }) => number,
     }
 }
 
@@ -53,7 +53,7 @@ pub fn offset_of(verdict: Verdict) -> usize
     ensures { result ≡ offset_of verdict }
 {
     match verdict {
-        Verdict::Accepted => 0,
-        Verdict::Refused { number: _, offset } => offset,
+        Ok(()) => 0,
+        Err(Refused { number: _, offset }) => offset,
     }
 }

@@ -4,13 +4,11 @@ use mathlib.Core.Path.{◌≡◌, refl, sym, ◌∙◌}
 use mathlib.Core.List.{List}
 use mathlib.Core.Bool.{Bool, true, false}
 use lib.ListN.{length}
-use lib.Dec.{leb}
 use native.Mathlib.Omega.{arith}
-use Rattle.rules.specs.IfElse.{if_else}
 use Rattle.configuration_rules.specs.Descriptors.{number_at, after_at, is_sought}
 use Rattle.configuration_rules.specs.declared.Sought.{Sought}
-use Rattle.configuration_rules.specs.declared.Sought.TheVariants.{Listed, Setting, Outside}
-use Rattle.interfaces.specs.Inner.{next_of, one_too_many, block_at, stream_at}
+use Rattle.configuration_rules.specs.declared.Sought.TheVariants.{Outside}
+use Rattle.interfaces.specs.Inner.{next_of, block_at, stream_at}
 use Rattle.le.specs.Le.{byte}
 use Rattle.interfaces.specs.declared.Block.{Block}
 use Rattle.interfaces.proofs.Lines.{after_on, next-end, next_here, next-skip, next-is}
@@ -47,16 +45,6 @@ module _ (w : Sought) (s : List ℕ) (o : ℕ) where
 
     pub seek-none : length s ≤ i → length s ≡ next_of w s o
     seek-none h = sym (next-end s w i h) ∙ k.same
-
--- ---- 75 of one descriptor
-module _ (s : List ℕ) (o m n : ℕ) (t a : Bool) (e : t ≡ is_sought Listed s o) (f : a ≡ if_else t (leb 8 m) false) where
-  pub ninth : a ≡ true → true ≡ one_too_many s o m n
-  unfolding one_too_many
-  ninth h = rw (← e, ← f, h)
-
-  pub or-33rd : (x : ℕ) (u b : Bool) → a ≡ false → x ≡ number_at s o → u ≡ is_sought (Setting x) s o → b ≡ if_else u (leb 32 n) false → b ≡ one_too_many s o m n
-  unfolding one_too_many
-  or-33rd x u b h p q r = rw (← e, ← f, h, ← p, ← q) r
 
 -- ---- a loop that steps on comes to an end
 pub falls : (s : List ℕ) (i j : ℕ) → i < length s → j ≡ after_at s i → length s - j < length s - i

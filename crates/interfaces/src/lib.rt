@@ -41,10 +41,12 @@ pub struct Streams {
 type Counts = [u8; 256];
 
 // Inner: `at` is a descriptor's place, or the end. The first descriptor from there on that is what is sought; the end where none is.
+// (No Option: who walks goes on from there, and `next_of` gives the end.)
 pub fn next(s: &[u8], at: usize, what: Sought) -> usize
     requires { at ≤ length s.now }
     ensures { result ≡ next_of what s.now at }
 {
+    // A descriptor's own length is the step.
     let mut i = at;
     while i < s.len() {
         if configuration_rules::is_sought(s, i, what) {
@@ -104,6 +106,7 @@ pub fn listed(s: &[u8]) -> Streams
     let no_stream = no_stream();
     let mut streams = [no_stream; INTERFACES_MOST];
     let mut count: usize = 0;
+    // What the search finds is the next place.
     let mut at = next(s, 0, Sought::Listed);
     while at < s.len() {
         if count == INTERFACES_MOST {
@@ -117,52 +120,45 @@ pub fn listed(s: &[u8]) -> Streams
 }
 
 // Inner: the callers have at most 8 streams. The place of the first stream of this number; `count` where there is none.
+// (No Option: `place_of` gives the number.)
 pub fn place_of(streams: [Stream; INTERFACES_MOST], count: usize, number: u8) -> usize
     requires { count ≤ interfaces_most }
     ensures { result ≡ place_of streams count number }
 {
-    let mut i: usize = 0;
-    while i < count {
-        let e = streams[i];
-        if e.interface == number {
+    for i in 0..count {
+        if streams[i].interface == number {
             return i;
         }
-        i = i + 1;
     }
     count
 }
 
 // Whether this is one more than the most.
+#[tactic(auto, unfolding(rules::specs::IfElse::if_else))]
 fn is_full(there: bool, seen: u8, most: u8) -> bool
     ensures { result ≡ if_else there (leb most seen) Bool.false }
 {
-    if there { most <= seen } else { false }
+    there && most <= seen
 }
 
 // 75: a ninth streaming descriptor of setting 0, or the 33rd of its number.
+#[tactic(auto, unfolding(crate::specs::Inner::one_too_many, rules::specs::IfElse::if_else))]
 fn one_too_many(s: &[u8], at: usize, listed: u8, seen: u8) -> bool
     requires { at < length s.now }
     ensures { result ≡ one_too_many s.now at listed seen }
 {
     let number = configuration_rules::byte_of(s, at, 2);
-    if is_full(
-        configuration_rules::is_sought(s, at, Sought::Listed),
-        listed,
-        INTERFACES_MOST as u8,
-    ) {
-        return true;
-    }
-    is_full(
-        configuration_rules::is_sought(s, at, Sought::Setting(number)),
-        seen,
-        SETTINGS_MOST as u8,
-    )
+    let is_listed = configuration_rules::is_sought(s, at, Sought::Listed);
+    let is_setting = configuration_rules::is_sought(s, at, Sought::Setting(number));
+    is_full(is_listed, listed, INTERFACES_MOST as u8)
+        || is_full(is_setting, seen, SETTINGS_MOST as u8)
 }
 
+#[tactic(auto, unfolding(rules::specs::IfElse::if_else))]
 fn one_if(there: bool) -> u8
     ensures { result ≡ if_else there 1 0 }
 {
-    if there { 1 } else { 0 }
+    u8::from(there)
 }
 
 fn no_counts() -> Counts
@@ -177,6 +173,7 @@ pub fn too_many(s: &[u8]) -> usize
 {
     let mut counts = no_counts();
     let mut listed: u8 = 0;
+    // A descriptor's own length is the step.
     let mut at: usize = 0;
     while at < s.len() {
         let number = configuration_rules::byte_of(s, at, 2);

@@ -3,49 +3,47 @@ use Prim.Native.Nat.{ℕ, zero, suc, ◌+◌, ◌-◌, ◌*◌, ◌≤◌, ◌<�
 use mathlib.Core.Path.{◌≡◌, refl}
 use mathlib.Core.List.{List, [], ◌∷◌}
 use mathlib.Core.Bool.{Bool, true, false}
-use lib.ListN.{length}
 use borrow.Author.Tests.{le-leb, lt-leb, eq-eqb, ne_eqb}
 use native.Mathlib.Omega.{arith}
 use Rattle.le.specs.Le.{le32_at}
 use Rattle.rules.specs.IfElse.{if_else}
 use Rattle.intervals.specs.Intervals.{span, list_at, rises, among, listed, stepped, offered}
 
--- ---- the rest of a list, from `at` on, with `left` intervals to come
-pub record Rest (s : List ℕ) (p k at left : ℕ) (f : List ℕ → Bool) (whole : Bool) : Type 0 where
-  pub within : at + 4 * left ≤ length s
-  pub few : left ≤ k
-  pub same : f (list_at s at left) ≡ whole
+-- ---- the rest of a list, behind its first i intervals: a test says of it what it says of the whole
+pub record Rest (s : List ℕ) (p k i : ℕ) (f : List ℕ → Bool) (whole : Bool) : Type 0 where
+  pub same : f (list_at s (p + 4 * i) (k - i)) ≡ whole
 
-pub rest-start : (s : List ℕ) (p k : ℕ) (f : List ℕ → Bool) → p + 4 * k ≤ length s → Rest s p k p k f (f (list_at s p k))
-rest-start s p k f h = record { within = h; few = omega arith; same = refl }
+pub rest-start : (s : List ℕ) (p k : ℕ) (f : List ℕ → Bool) → Rest s p k 0 f (f (list_at s p k))
+rest-start s p k f = let e : p + 4 * 0 ≡ p = omega arith in let d : k - 0 ≡ k = omega arith in record { same = rw (e, d) }
 
-list-more : (s : List ℕ) (at left : ℕ) → 0 < left → list_at s at left ≡ le32_at s at ∷ list_at s (at + 4) (left - 1)
+list-more : (s : List ℕ) (p k i : ℕ) → i < k → list_at s (p + 4 * i) (k - i) ≡ le32_at s (p + 4 * i) ∷ list_at s (p + 4 * (i + 1)) (k - (i + 1))
 unfolding list_at
-list-more s at zero h = absurd (omega arith)
-list-more s at (suc n) h = let e : suc n - 1 ≡ n = omega arith in rw e
+list-more s p k i h =
+    let e : k - i ≡ suc (k - (i + 1)) = omega arith in
+    let d : p + 4 * i + 4 ≡ p + 4 * (i + 1) = omega arith in
+    rw (e, d)
 
-pub none_left : (s : List ℕ) (p k at left : ℕ) (f : List ℕ → Bool) (w : Bool) → Rest s p k at left f w → left ≤ 0 → f [] ≡ w
+pub none_left : (s : List ℕ) (p k i : ℕ) (f : List ℕ → Bool) (w : Bool) → Rest s p k i f w → k ≤ i → f [] ≡ w
 unfolding list_at
-none_left s p k at zero f w r h = r.same
-none_left s p k at (suc n) f w r h = absurd (omega arith)
+none_left s p k i f w r h = let e : k - i ≡ 0 = omega arith in rw e at r.same
 
-module _ (s : List ℕ) (p k at left before : ℕ) (w : Bool) (r : Rest s p k at left (rises before) w) (h : 0 < left) (y : ℕ) (e : y ≡ le32_at s at) where
+module _ (s : List ℕ) (p k i before : ℕ) (w : Bool) (r : Rest s p k i (rises before) w) (h : i < k) (y : ℕ) (e : y ≡ le32_at s (p + 4 * i)) where
   pub not-rising : y ≤ before → false ≡ w
   unfolding rises if_else
-  not-rising l = rw (list-more s at left h, ← e, le-leb y before l) at r.same
+  not-rising l = rw (list-more s p k i h, ← e, le-leb y before l) at r.same
 
-  pub rising-on : before < y → Rest s p k (at + 4) (left - 1) (rises y) w
+  pub rising-on : before < y → Rest s p k (i + 1) (rises y) w
   unfolding rises if_else
-  rising-on l = record { within = omega (arith, r.within); few = omega (arith, r.few); same = rw (list-more s at left h, ← e, lt-leb y before l) at r.same }
+  rising-on l = record { same = rw (list-more s p k i h, ← e, lt-leb y before l) at r.same }
 
-module _ (s : List ℕ) (p k at left x : ℕ) (w : Bool) (r : Rest s p k at left (among x) w) (h : 0 < left) (y : ℕ) (e : y ≡ le32_at s at) where
+module _ (s : List ℕ) (p k i x : ℕ) (w : Bool) (r : Rest s p k i (among x) w) (h : i < k) (y : ℕ) (e : y ≡ le32_at s (p + 4 * i)) where
   pub here-among : y ≡ x → true ≡ w
   unfolding among if_else
-  here-among l = rw (list-more s at left h, ← e, eq-eqb y x l) at r.same
+  here-among l = rw (list-more s p k i h, ← e, eq-eqb y x l) at r.same
 
-  pub among-on : (y ≡ x → ⊥) → Rest s p k (at + 4) (left - 1) (among x) w
+  pub among-on : (y ≡ x → ⊥) → Rest s p k (i + 1) (among x) w
   unfolding among if_else
-  among-on l = record { within = omega (arith, r.within); few = omega (arith, r.few); same = rw (list-more s at left h, ← e, ne_eqb y x l) at r.same }
+  among-on l = record { same = rw (list-more s p k i h, ← e, ne_eqb y x l) at r.same }
 
 -- ---- the two ways of a frame
 pub span-some : (k : ℕ) → (k ≡ 0 → ⊥) → span k ≡ 4 * k

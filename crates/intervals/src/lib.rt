@@ -10,16 +10,12 @@ fn rise(s: &[u8], p: usize, k: usize) -> bool
     ensures { result ≡ rises 0 (list_at s.now p k) }
 {
     let mut before: u32 = 0;
-    let mut at = p;
-    let mut left = k;
-    while 0 < left {
-        let interval = le::le32(s, at);
+    for i in 0..k {
+        let interval = le::le32(s, p + 4 * i);
         if interval <= before {
             return false;
         }
         before = interval;
-        at = at + 4;
-        left = left - 1;
     }
     true
 }
@@ -29,19 +25,16 @@ fn has(s: &[u8], p: usize, k: usize, x: u32) -> bool
     requires { (p + 4 * k ≤ length s.now) × (k < 256) }
     ensures { result ≡ among x (list_at s.now p k) }
 {
-    let mut at = p;
-    let mut left = k;
-    while 0 < left {
-        if le::le32(s, at) == x {
+    for i in 0..k {
+        if le::le32(s, p + 4 * i) == x {
             return true;
         }
-        at = at + 4;
-        left = left - 1;
     }
     false
 }
 
 // Whether x is shortest plus a multiple of step and at most longest; step at least 1, and shortest nonzero and at most longest.
+// Six tests, each on a line as in the definition: one `&&` of all would be no plainer.
 fn steps_to(shortest: u32, longest: u32, step: u32, x: u32) -> bool
     ensures { result ≡ stepped shortest longest step x }
 {
@@ -71,8 +64,5 @@ pub fn offers(s: &[u8], p: usize, k: usize, x: u32) -> bool
     if k == 0 {
         return steps_to(le::le32(s, p), le::le32(s, p + 4), le::le32(s, p + 8), x);
     }
-    if rise(s, p, k) {
-        return has(s, p, k, x);
-    }
-    false
+    rise(s, p, k) && has(s, p, k, x)
 }

@@ -1,13 +1,11 @@
 -- The ledger of lent numbers: one law for each way through the code.
+use Rattle.std.specs.Prelude.{None, Some}
+use Rattle.session_rules.specs.Options.{Ended, Stamp}
 use Prim.Native.Nat.{ℕ}
 use mathlib.Core.Path.{◌≡◌, refl, ◌∙◌}
 use mathlib.Core.List.{List}
-use Rattle.session_rules.specs.declared.Stamp.{Stamp}
-use Rattle.session_rules.specs.declared.Stamp.TheVariants.{Absent, At}
 use Rattle.session_rules.specs.declared.Reason.{Reason}
 use Rattle.session_rules.specs.declared.Delivery.{Delivery}
-use Rattle.session_rules.specs.declared.Ended.{Ended}
-use Rattle.session_rules.specs.declared.Ended.TheVariants.{Nothing, Frame}
 use Rattle.session_rules.specs.declared.Fate.{Fate}
 use Rattle.session_rules.specs.declared.Account.{Account}
 use Rattle.session_rules.specs.declared.Step.{Step}
@@ -27,8 +25,8 @@ module _ (l : List ℕ) (s : Stamp) where
 
   pub with-ended : (e : Ended) (gone : ℕ) → ended_of (ledger_with l s) e gone ≡ ledger_with (ended_in l e gone) s
   unfolding post_of plus_of
-  with-ended Nothing gone = refl
-  with-ended (Frame why) gone = refl
+  with-ended None gone = refl
+  with-ended (Some why) gone = refl
 
   pub with-headers : (n : ℕ) → post_of (ledger_with l s) (Entry.Headers n) ≡ ledger_with (entered_in l Account.Headers n) s
   unfolding post_of plus_of
@@ -40,18 +38,18 @@ module _ (l : List ℕ) (s : Stamp) where
 
 -- ---- the time of a delivered frame
 module _ (l : List ℕ) (last s : Stamp) where
-  pub timed-none : (m : List ℕ) → s ≡ Absent → m ≡ plus_at l untimed_at 1 → ledger_with m last ≡ timed_of (ledger_with l last) s
+  pub timed-none : (m : List ℕ) → s ≡ None → m ≡ plus_at l untimed_at 1 → ledger_with m last ≡ timed_of (ledger_with l last) s
   unfolding timed_of plus_of
   timed-none m e p = rw (e, p)
 
-  pub timed-first : (b : ℕ) → s ≡ At b → last ≡ Absent → ledger_with l s ≡ timed_of (ledger_with l last) s
+  pub timed-first : (b : ℕ) → s ≡ Some b → last ≡ None → ledger_with l s ≡ timed_of (ledger_with l last) s
   unfolding timed_of
   timed-first b e p = rw (e, p)
 
-  pub timed-step : (a b : ℕ) (t : Step) (m : List ℕ) → s ≡ At b → last ≡ At a → t ≡ step_of a b → m ≡ stepped_in l t →
+  pub timed-step : (a b : ℕ) (t : Step) (m : List ℕ) → s ≡ Some b → last ≡ Some a → t ≡ step_of a b → m ≡ stepped_in l t →
       ledger_with m s ≡ timed_of (ledger_with l last) s
   unfolding timed_of
-  timed-step a b t m e p q r = rw (e, p, r, q, with-stepped l (At a) (step_of a b))
+  timed-step a b t m e p q r = rw (e, p, r, q, with-stepped l (Some a) (step_of a b))
 
 -- ---- a transfer's fate
 module _ (l : List ℕ) (last : Stamp) (f : Fate) (n : ℕ) where

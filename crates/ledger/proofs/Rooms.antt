@@ -1,4 +1,6 @@
 -- How large a ledger's numbers are after each operation, so that no sum wraps.
+use Rattle.std.specs.Prelude.{None, Some}
+use Rattle.session_rules.specs.Options.{Ended}
 use Prim.Native.Nat.{ℕ, ◌+◌, ◌≤◌, ◌<◌, ◌^◌}
 use mathlib.Core.Path.{◌≡◌}
 use mathlib.Core.List.{List}
@@ -6,8 +8,6 @@ use native.Mathlib.Omega.{arith}
 use native.Mathlib.Decide.{ℕ_discrete, dec_lt}
 use lib.ListN.{length, get_or}
 use lib.Seq.{set_out, get_or-set_same, get_or-set_other}
-use Rattle.session_rules.specs.declared.Ended.{Ended}
-use Rattle.session_rules.specs.declared.Ended.TheVariants.{Nothing, Frame}
 use Rattle.session_rules.specs.declared.Account.{Account}
 use Rattle.session_rules.proofs.Places.{place-lt}
 use Rattle.session_rules.specs.Accounts.{account_count, number_count, under_at, place_of, account_for, count_at, bytes_at, lost_at}
@@ -43,8 +43,8 @@ room-entered b m l a n r h =
     room-plus (b + 1) m (plus_at l (count_at (place_of a)) 1) (bytes_at (place_of a)) n (room-plus b (b + 1) l (count_at (place_of a)) 1 r (omega arith)) h
 
 pub room-ended : (b m : ℕ) (l : List ℕ) (e : Ended) (gone : ℕ) → Room b l → gone ≤ 2 ^ 50 → b + 2 ^ 51 ≤ m → Room m (ended_in l e gone)
-room-ended b m l Nothing gone r n h = room-up b m l r (omega arith)
-room-ended b m l (Frame why) gone r n h = room-entered b m l (account_for why) gone r (omega arith)
+room-ended b m l None gone r n h = room-up b m l r (omega arith)
+room-ended b m l (Some why) gone r n h = room-entered b m l (account_for why) gone r (omega arith)
 
 -- ---- what the code asks before it adds
 -- an account other than the one under way has room

@@ -1,8 +1,6 @@
 -- What the inner contracts cite: the same entries on lent numbers, and room for them. Nothing here needs to be believed: proofs/Lent.antt ties it to the ledger.
-use Rattle.std.specs.Prelude.{ℕ, ◌+◌, ◌≤◌, ◌<◌, ◌≡◌, List, get_or, set}
-use Rattle.session_rules.specs.declared.Stamp.{Stamp}
-use Rattle.session_rules.specs.declared.Ended.{Ended}
-use Rattle.session_rules.specs.declared.Ended.TheVariants.{Nothing, Frame}
+use Rattle.session_rules.specs.Options.{Ended, Stamp}
+use Rattle.std.specs.Prelude.{ℕ, ◌+◌, ◌≤◌, ◌<◌, ◌≡◌, List, get_or, set, None, Some}
 use Rattle.session_rules.specs.declared.Fate.{Fate}
 use Rattle.session_rules.specs.declared.Account.{Account}
 use Rattle.session_rules.specs.declared.Step.{Step}
@@ -29,8 +27,8 @@ stepped_in l (Backward n) = plus_at l backward_at 1
 
 -- a frame that was ended, with its bytes
 abbrev pub ended_in : List ℕ → Ended → ℕ → List ℕ
-ended_in l Nothing gone = l
-ended_in l (Frame why) gone = entered_in l (account_for why) gone
+ended_in l None gone = l
+ended_in l (Some why) gone = entered_in l (account_for why) gone
 
 -- the bytes that a fate enters
 abbrev pub fate_bytes : Fate → ℕ → ℕ

@@ -2,7 +2,7 @@
 #![tactic(auto)]
 
 ghost use Rattle.std.specs.Prelude.{◌≡◌, ◌+◌, ◌<◌, ◌≤◌, ◌^◌, get_or};
-ghost use Rattle.session_rules.specs.Ledger.{no_ledger, timed_of, fated_of, answered_of, shown_of, count_of, bytes_of};
+ghost use Rattle.session_rules.specs.Ledger.{timed_of, fated_of, answered_of, shown_of, count_of, bytes_of};
 ghost use Rattle.session_rules.specs.Track.{under_count, under_bytes};
 ghost use Rattle.session_rules.specs.Step.{step_of};
 ghost use Rattle.session_rules.specs.Accounts.{account_count, number_count, place_of, account_for};
@@ -62,13 +62,13 @@ fn timed(m: &mut Numbers, last: Stamp, s: Stamp) -> Stamp
     ensures { ledger_with m.new result ≡ timed_of (ledger_with m.old last) s }
 {
     match s {
-        Stamp::Absent => {
+        None => {
             plus(m, Ledger::UNTIMED, 1);
             last
         }
-        Stamp::At(b) => match last {
-            Stamp::Absent => s,
-            Stamp::At(a) => {
+        Some(b) => match last {
+            None => s,
+            Some(a) => {
                 stepped(m, step_between(a, b));
                 s
             }
@@ -82,8 +82,8 @@ pub fn ended(m: &mut Numbers, e: Ended, gone: u64)
     ensures { m.new ≡ ended_in m.old e gone }
 {
     match e {
-        Ended::Nothing => {}
-        Ended::Frame(why) => entered(m, account_for(why), gone),
+        None => {}
+        Some(why) => entered(m, account_for(why), gone),
     }
 }
 

@@ -1,4 +1,5 @@
 -- What each way through a call answers and leaves: refused by 54, refused by the session, or not refused.
+use Rattle.std.specs.Prelude.{Err}
 use Prim.Native.Nat.{ℕ}
 use mathlib.Core.Path.{◌≡◌, sym, ap, ◌∙◌}
 use mathlib.Core.Bool.{Bool, true, false}
@@ -11,8 +12,6 @@ use Rattle.session.specs.declared.RestTaken.{RestTaken}
 use Rattle.session.specs.declared.RestReported.{RestReported}
 use Rattle.session.specs.declared.RestClosed.{RestClosed}
 use Rattle.session_rules.specs.declared.Outcome.{Outcome}
-use Rattle.session_rules.specs.declared.Report.{Report}
-use Rattle.session_rules.specs.declared.Closing.{Closing}
 use Rattle.session_rules.specs.declared.Taken.{Taken}
 use Rattle.session_rules.specs.declared.Reported.{Reported}
 use Rattle.session_rules.specs.declared.Closed.{Closed}
@@ -69,7 +68,7 @@ module _ (r : List ℕ) (rest : Rest) (b t : List ℕ) (x : Bool) (e : x ≡ bro
 
 -- ---- a lost report
 module _ (r : List ℕ) (rest : Rest) (x : Bool) (e : x ≡ broken54 r) where
-  pub lost-54 : x ≡ true → (record { rest = rest; report = Report.Refused 54 } ≡ lost_in r rest) × (r ≡ lost_left r rest)
+  pub lost-54 : x ≡ true → (record { rest = rest; report = Err 54 } ≡ lost_in r rest) × (r ≡ lost_left r rest)
   unfolding lost_in lost_left
   lost-54 p = let q : true ≡ broken54 r = sym p ∙ e in (ap (λ (z : Bool). lost_by z r rest) q, ap (λ (z : Bool). lost_left_by z r rest) q)
 
@@ -99,7 +98,7 @@ module _ (r : List ℕ) (rest : Rest) (x : Bool) (e : x ≡ broken54 r) where
 
 -- ---- close
 module _ (r : List ℕ) (rest : Rest) (x : Bool) (e : x ≡ broken54 r) where
-  pub close-54 : x ≡ true → (record { rest = rest; closing = Closing.Refused 54 } ≡ close_in r rest) × (r ≡ close_left r rest)
+  pub close-54 : x ≡ true → (record { rest = rest; closing = Err 54 } ≡ close_in r rest) × (r ≡ close_left r rest)
   unfolding close_in close_left
   close-54 p = let q : true ≡ broken54 r = sym p ∙ e in (ap (λ (z : Bool). close_by z r rest) q, ap (λ (z : Bool). close_left_by z r rest) q)
 

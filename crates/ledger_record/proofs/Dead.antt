@@ -1,16 +1,14 @@
 -- THE TWO PLACES OF THE FRAME UNDER WAY ARE DEAD in a ledger's numbers: no entry reads or writes them, so that whatever stands there stays there, and what is shown covers it.
+use Rattle.std.specs.Prelude.{None, Some}
+use Rattle.session_rules.specs.Options.{Ended, Stamp}
 use Prim.Native.Nat.{ℕ, ◌+◌}
 use mathlib.Core.Path.{◌≡◌, refl, sym, ap, ◌∙◌}
 use mathlib.Core.List.{List}
 use native.Mathlib.Omega.{arith}
 use lib.ListN.{get_or, set}
 use lib.Seq.{set-set, set_comm, get_or-set_other}
-use Rattle.session_rules.specs.declared.Stamp.{Stamp}
-use Rattle.session_rules.specs.declared.Stamp.TheVariants.{Absent, At}
 use Rattle.session_rules.specs.declared.Reason.{Reason}
 use Rattle.session_rules.specs.declared.Reason.TheVariants.{Gap, Error, Clock, Mixed, Long, Cut, Empty}
-use Rattle.session_rules.specs.declared.Ended.{Ended}
-use Rattle.session_rules.specs.declared.Ended.TheVariants.{Nothing, Frame}
 use Rattle.session_rules.specs.declared.Fate.{Fate}
 use Rattle.session_rules.specs.declared.Answer.{Answer}
 use Rattle.session_rules.specs.declared.Phase.{Phase}
@@ -81,9 +79,9 @@ module _ (c b : ℕ) where
   step-dead l (Backward n) = plus-dead l backward_at 1 (away backward_at (λ z. omega arith) (λ z. omega arith))
 
   timed-by : (last : Stamp) (l : Ledger) (s : Stamp) → timed_by last (under_is c b l) s ≡ under_is c b (timed_by last l s)
-  timed-by last l Absent = plus-dead l untimed_at 1 (away untimed_at (λ z. omega arith) (λ z. omega arith))
-  timed-by Absent l (At y) = refl
-  timed-by (At x) l (At y) = ap (λ (m : Ledger). last_is m (At y)) (step-dead l (step_of x y))
+  timed-by last l None = plus-dead l untimed_at 1 (away untimed_at (λ z. omega arith) (λ z. omega arith))
+  timed-by None l (Some y) = refl
+  timed-by (Some x) l (Some y) = ap (λ (m : Ledger). last_is m (Some y)) (step-dead l (step_of x y))
 
   timed-dead : (l : Ledger) (s : Stamp) → timed_of (under_is c b l) s ≡ under_is c b (timed_of l s)
   unfolding timed_of
@@ -113,8 +111,8 @@ module _ (c b : ℕ) where
   post-dead l Entry.Idle s = plus-dead l idle_at 1 (away idle_at (λ z. omega arith) (λ z. omega arith))
 
   pub ended-dead : (l : Ledger) (e : Ended) (n : ℕ) → ended_of (under_is c b l) e n ≡ under_is c b (ended_of l e n)
-  ended-dead l Nothing n = refl
-  ended-dead l (Frame w) n = post-dead l (Entry.Dropped w n) tt
+  ended-dead l None n = refl
+  ended-dead l (Some w) n = post-dead l (Entry.Dropped w n) tt
 
   pub fated-dead : (l : Ledger) (f : Fate) (n : ℕ) → fated_of (under_is c b l) f n ≡ under_is c b (fated_of l f n)
   fated-dead l Fate.Idle n = post-dead l Entry.Idle tt

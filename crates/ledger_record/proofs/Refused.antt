@@ -1,4 +1,6 @@
 -- A call on the record is refused exactly when a row of its list is broken, by the first one, 54 before the session's own; and then nothing changes.
+use Rattle.std.specs.Prelude.{Err, Ok}
+use Rattle.session_rules.specs.Options.{Report, Closing}
 use Prim.Native.Nat.{ℕ}
 use mathlib.Core.Path.{◌≡◌, refl, sym, ap, ◌∙◌}
 use mathlib.Core.Bool.{Bool, true, false}
@@ -9,8 +11,6 @@ use Rattle.rules.specs.Numbered.{Row, row, Given, here, later}
 use Rattle.session_rules.specs.declared.Rest.{Rest}
 use Rattle.session_rules.specs.declared.Session.{Session}
 use Rattle.session_rules.specs.declared.Outcome.{Outcome}
-use Rattle.session_rules.specs.declared.Report.{Report}
-use Rattle.session_rules.specs.declared.Closing.{Closing}
 use Rattle.session_rules.specs.Refusals.{take_rows, lost_rows, close_rows}
 use Rattle.session_rules.specs.Session.{take_of, lost_of, close_of}
 use Rattle.session_rules.proofs.Refused as session
@@ -60,38 +60,38 @@ module _ (r : List ℕ) (rest : Rest) where
 
   -- ---- a lost report
   report-number : Report → ℕ
-  report-number (Report.Refused k) = k
-  report-number Report.Noted = 0
+  report-number (Err k) = k
+  report-number (Ok _) = 0
 
-  pub lost-refused-exactly : (k : ℕ) → ((lost_in r rest).report ≡ Report.Refused k) ↔ Given (lost_rows54 r rest) k
+  pub lost-refused-exactly : (k : ℕ) → ((lost_in r rest).report ≡ Err k) ↔ Given (lost_rows54 r rest) k
   unfolding lost_in report-number
   lost-refused-exactly k =
-      first-54 Report Report.Refused report-number (λ j. refl) (lost_rows (session_of r rest)) (lost_in r rest).report (broken54 r) (λ b. (lost_by b r rest).report) refl refl
+      first-54 Report Err report-number (λ j. refl) (lost_rows (session_of r rest)) (lost_in r rest).report (broken54 r) (λ b. (lost_by b r rest).report) refl refl
       (λ j. session.lost-refused-exactly (session_of r rest) j) k
 
-  pub lost-as-it-was : (k : ℕ) → (lost_in r rest).report ≡ Report.Refused k → (lost_left r rest ≡ r) × ((lost_in r rest).rest ≡ rest)
+  pub lost-as-it-was : (k : ℕ) → (lost_in r rest).report ≡ Err k → (lost_left r rest ≡ r) × ((lost_in r rest).rest ≡ rest)
   unfolding lost_in lost_left
   lost-as-it-was k e = go (broken54 r) e
     where
-      go : (b : Bool) → (lost_by b r rest).report ≡ Report.Refused k → (lost_left_by b r rest ≡ r) × ((lost_by b r rest).rest ≡ rest)
+      go : (b : Bool) → (lost_by b r rest).report ≡ Err k → (lost_left_by b r rest ≡ r) × ((lost_by b r rest).rest ≡ rest)
       go true q = (refl, refl)
       go false q = (ap (λ (x : Report). left (is_refused_report x) r (lost_of (session_of r rest)).session) q, ap (λ (x : Session). x.rest) (session.lost-as-it-was (session_of r rest) k q))
 
   -- ---- close
   closing-number : Closing → ℕ
-  closing-number (Closing.Refused k) = k
-  closing-number (Closing.Closed e) = 0
+  closing-number (Err k) = k
+  closing-number (Ok e) = 0
 
-  pub close-refused-exactly : (k : ℕ) → ((close_in r rest).closing ≡ Closing.Refused k) ↔ Given (close_rows54 r rest) k
+  pub close-refused-exactly : (k : ℕ) → ((close_in r rest).closing ≡ Err k) ↔ Given (close_rows54 r rest) k
   unfolding close_in closing-number
   close-refused-exactly k =
-      first-54 Closing Closing.Refused closing-number (λ j. refl) (close_rows (session_of r rest)) (close_in r rest).closing (broken54 r) (λ b. (close_by b r rest).closing) refl refl
+      first-54 Closing Err closing-number (λ j. refl) (close_rows (session_of r rest)) (close_in r rest).closing (broken54 r) (λ b. (close_by b r rest).closing) refl refl
       (λ j. session.close-refused-exactly (session_of r rest) j) k
 
-  pub close-as-it-was : (k : ℕ) → (close_in r rest).closing ≡ Closing.Refused k → (close_left r rest ≡ r) × ((close_in r rest).rest ≡ rest)
+  pub close-as-it-was : (k : ℕ) → (close_in r rest).closing ≡ Err k → (close_left r rest ≡ r) × ((close_in r rest).rest ≡ rest)
   unfolding close_in close_left
   close-as-it-was k e = go (broken54 r) e
     where
-      go : (b : Bool) → (close_by b r rest).closing ≡ Closing.Refused k → (close_left_by b r rest ≡ r) × ((close_by b r rest).rest ≡ rest)
+      go : (b : Bool) → (close_by b r rest).closing ≡ Err k → (close_left_by b r rest ≡ r) × ((close_by b r rest).rest ≡ rest)
       go true q = (refl, refl)
       go false q = (ap (λ (x : Closing). left (is_refused_closing x) r (close_of (session_of r rest)).session) q, ap (λ (x : Session). x.rest) (session.close-as-it-was (session_of r rest) k q))

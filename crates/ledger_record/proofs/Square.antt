@@ -1,5 +1,6 @@
 -- EACH OPERATION ON THE RECORD GIVES THE RECORD OF THE OLD RESULT (document 02, Eight), hand-outs and refusals included; and before it, that no call depends on what stands in the two places
 -- of the frame under way.
+use Rattle.std.specs.Prelude.{Ok}
 use Prim.Native.Nat.{ℕ, zero, suc, ◌-◌}
 use mathlib.Core.Path.{◌≡◌, refl, sym, ap, ◌∙◌}
 use mathlib.Core.Bool.{Bool, true, false}
@@ -21,8 +22,6 @@ use Rattle.session_rules.specs.Rule50.{rule50}
 use Rattle.session_rules.specs.Refusals.{take_rows_by, lost_rows_by, close_rows_by}
 use Rattle.session_rules.specs.declared.Session.{Session}
 use Rattle.session_rules.specs.declared.Outcome.{Outcome}
-use Rattle.session_rules.specs.declared.Report.{Report}
-use Rattle.session_rules.specs.declared.Closing.{Closing}
 use Rattle.session_rules.specs.declared.Taken.{Taken}
 use Rattle.session_rules.specs.declared.Reported.{Reported}
 use Rattle.session_rules.specs.declared.Closed.{Closed}
@@ -41,7 +40,7 @@ abbrev shut_by : Session → Ledger → Closed
 shut_by s l =
     record {
       session = record { rest = record { opening = s.rest.opening; closed = true; taken = s.rest.taken; track = (closed_of s.rest.track).track; last = l.last }; numbers = l.numbers };
-      closing = Closing.Closed (closed_of s.rest.track).ended;
+      closing = Ok (closed_of s.rest.track).ended;
     }
 
 module _ (c b : ℕ) where
@@ -129,7 +128,7 @@ module _ (c b : ℕ) where
       rows = ap (λ (x : Bool). first_row (lost_rows_by x s.rest.closed s.rest.taken)) (broken-dead s)
 
       go : (k : ℕ) → lost_by k (dead c b s) ≡ dead_reported c b (lost_by k s)
-      go zero = ap (λ (l : Ledger). record { session = counted_of s (spoilt_of s.rest.track) l; report = Report.Noted }) (post-dead c b (posted_of s) Entry.Lost tt)
+      go zero = ap (λ (l : Ledger). record { session = counted_of s (spoilt_of s.rest.track) l; report = Ok tt }) (post-dead c b (posted_of s) Entry.Lost tt)
       go (suc k) = refl
 
   -- and close

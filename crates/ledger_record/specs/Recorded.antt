@@ -1,12 +1,11 @@
 -- Document 02, Eight: "each operation on the record gives the record of the old result". The rest of the session goes by value beside the record: transfers taken, the last stamp, the
 -- frame under way and the gap flag are not printed and not in it.
-use Rattle.std.specs.Prelude.{ℕ, List, ◌∷◌, Bool, true, false}
+use Rattle.session_rules.specs.Options.{Report, Closing}
+use Rattle.std.specs.Prelude.{ℕ, List, ◌∷◌, Bool, true, false, Err, Ok}
 use Rattle.rules.specs.Numbered.{Row, row}
 use Rattle.session_rules.specs.declared.Rest.{Rest}
 use Rattle.session_rules.specs.declared.Session.{Session}
 use Rattle.session_rules.specs.declared.Outcome.{Outcome}
-use Rattle.session_rules.specs.declared.Report.{Report}
-use Rattle.session_rules.specs.declared.Closing.{Closing}
 use Rattle.session_rules.specs.declared.Taken.{Taken}
 use Rattle.session_rules.specs.declared.Reported.{Reported}
 use Rattle.session_rules.specs.declared.Closed.{Closed}
@@ -72,14 +71,14 @@ take_buffer r rest buffer t = take_buffer_by (broken54 r) r rest buffer t
 
 -- LOST
 abbrev pub is_refused_report : Report → Bool
-is_refused_report (Report.Refused k) = true
-is_refused_report Report.Noted = false
+is_refused_report (Err k) = true
+is_refused_report (Ok _) = false
 
 abbrev pub rest_reported : Reported → RestReported
 rest_reported x = record { rest = x.session.rest; report = x.report }
 
 abbrev pub lost_by : Bool → List ℕ → Rest → RestReported
-lost_by true r rest = record { rest = rest; report = Report.Refused 54 }
+lost_by true r rest = record { rest = rest; report = Err 54 }
 lost_by false r rest = rest_reported (lost_of (session_of r rest))
 
 abbrev pub lost_left_by : Bool → List ℕ → Rest → List ℕ
@@ -94,14 +93,14 @@ lost_left r rest = lost_left_by (broken54 r) r rest
 
 -- CLOSE
 abbrev pub is_refused_closing : Closing → Bool
-is_refused_closing (Closing.Refused k) = true
-is_refused_closing (Closing.Closed e) = false
+is_refused_closing (Err k) = true
+is_refused_closing (Ok e) = false
 
 abbrev pub rest_closed : Closed → RestClosed
 rest_closed x = record { rest = x.session.rest; closing = x.closing }
 
 abbrev pub close_by : Bool → List ℕ → Rest → RestClosed
-close_by true r rest = record { rest = rest; closing = Closing.Refused 54 }
+close_by true r rest = record { rest = rest; closing = Err 54 }
 close_by false r rest = rest_closed (close_of (session_of r rest))
 
 abbrev pub close_left_by : Bool → List ℕ → Rest → List ℕ

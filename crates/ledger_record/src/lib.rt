@@ -13,29 +13,19 @@ use session_rules::{Closing, Ledger, Numbers, Outcome, Report, Rest};
 fn is_refused(o: Outcome) -> bool
     ensures { result ≡ is_refused o }
 {
-    match o {
-        Outcome::Refused(_) => true,
-        Outcome::Taken(_) => false,
-        Outcome::Handed(_) => false,
-    }
+    matches!(o, Outcome::Refused(_))
 }
 
 fn is_refused_report(x: Report) -> bool
     ensures { result ≡ is_refused_report x }
 {
-    match x {
-        Report::Refused(_) => true,
-        Report::Noted => false,
-    }
+    matches!(x, Err(_))
 }
 
 fn is_refused_closing(x: Closing) -> bool
     ensures { result ≡ is_refused_closing x }
 {
-    match x {
-        Closing::Refused(_) => true,
-        Closing::Closed(_) => false,
-    }
+    matches!(x, Err(_))
 }
 
 // Makes the record that of a session: its numbers, with the frame under way in its account.
@@ -83,7 +73,7 @@ pub fn lost(r: &mut [u8], rest: Rest) -> RestReported
     if places::broken(r) {
         return RestReported {
             rest,
-            report: Report::Refused(54),
+            report: Err(54),
         };
     }
     let mut numbers = places::numbers_of(r);
@@ -105,7 +95,7 @@ pub fn close(r: &mut [u8], rest: Rest) -> RestClosed
     if places::broken(r) {
         return RestClosed {
             rest,
-            closing: Closing::Refused(54),
+            closing: Err(54),
         };
     }
     let mut numbers = places::numbers_of(r);

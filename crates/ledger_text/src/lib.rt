@@ -97,15 +97,7 @@ pub fn write(buf: &mut [u8], printed: Printed) -> usize
 fn is_unsaid(show: Show, state: State) -> bool
     ensures { result ≡ is_unsaid show state }
 {
-    match show {
-        Show::Nothing => false,
-        Show::Replay => false,
-        Show::Frames => match state {
-            State::Good => true,
-            State::Bad(_) => false,
-            State::Refused(_, _) => false,
-        },
-    }
+    matches!((show, state), (Show::Frames, State::Good))
 }
 
 // What stands after the lines of the frames, as `write` writes it.

@@ -16,11 +16,8 @@ fn clear(buf: &mut [u8], at: usize, n: usize)
     requires { at + n ≤ length buf.old }
     ensures { buf.new ≡ paste buf.old at (replicate n 0) n }
 {
-    let mut i = 0;
-    while i < n {
-        buf[at + i] = 0;
-        i += 1;
-    }
+    let end = at + n;
+    buf[at..end].fill(0);
 }
 
 // Inner: a record of this kind with these bytes, from `at` on; answers the place after it.

@@ -41,8 +41,8 @@ at_other t from i k h e = record { within = omega arith; same = omega (arith, on
     one-longer : name_length (drop i t) ≡ suc (name_length (drop (i + 1) t))
     one-longer = rw (add-one i, drop-cons t i 0 h, ne_eqb (get_or t i 0) 10 e)
 
-pub at_last : (t : List ℕ) (from i : ℕ) → Looks t from i → length t ≤ i → Ends t from i
-at_last t from i k h = record { within = k.within; here = omega (arith, length_most (drop i t), length-drop i t) }
+pub at_last : (t : List ℕ) (from i : ℕ) → Looks t from i → length t ≤ i → Ends t from (length t)
+at_last t from i k h = record { within = omega arith; here = omega (arith, k.within, k.same, length_most (drop i t), length-drop i t) }
 
 -- the next name begins behind the end of this one
 pub rest_from : (t : List ℕ) (from r : ℕ) → Ends t from r → rest (drop from t) ≡ drop (r + 1) t

@@ -12,14 +12,12 @@ fn end(names: &[u8], from: usize) -> usize
     requires { from ≤ length names.now }
     ensures { Ends names.now from result }
 {
-    let mut i = from;
-    while i < names.len() {
+    for i in from..names.len() {
         if names[i] == b'\n' {
             return i;
         }
-        i += 1;
     }
-    i
+    names.len()
 }
 
 // Where the k-th name begins, from 0 on; the table's end where it has fewer.
@@ -27,14 +25,12 @@ fn begin(names: &[u8], k: usize) -> usize
     ensures { Begins names.now k result }
 {
     let mut at = 0;
-    let mut i = 0;
-    while i < k {
+    for _i in 0..k {
         let to = end(names, at);
         if to == names.len() {
             return to;
         }
         at = to + 1;
-        i += 1;
     }
     at
 }
@@ -58,14 +54,12 @@ pub fn lines(buf: &mut [u8], start: usize, names: &[u8], counts: &[usize], ns: &
     let mut at = start;
     let mut name = 0;
     let mut from = 0;
-    let mut i = 0;
-    while i < counts.len() {
+    for count in counts {
         let named = end(names, name);
-        let to = from + counts[i];
+        let to = from + *count;
         at = text::line(buf, at, &names[name..named], &ns[from..to]);
         name = named + 1;
         from = to;
-        i += 1;
     }
     at
 }

@@ -1,6 +1,6 @@
 -- What `nearest` answers, of words as they stand in the data stage: 92 minimum above maximum, 93 step 0 or below, else the word of the nearest allowed number.
+use Rattle.rules.specs.Verdicts.{accept, refuse}
 use Rattle.std.specs.Prelude.{ℕ, ◌<◌, ◌^◌, pos, ◌≤ℤ◌, ◌<ℤ◌}
-use Rattle.rules.specs.declared.Verdict.TheVariants.{Accepted, Refused}
 use Rattle.camera_settings.specs.declared.Setting.{Setting}
 use Rattle.nearest.specs.Word.{integer_of}
 use Rattle.nearest.specs.Nearest.{Range, Nearest}
@@ -8,10 +8,10 @@ use Rattle.nearest.specs.declared.Moved.{Moved}
 
 -- refused at 0, with the word 0
 abbrev pub refused_by : ℕ → Moved
-refused_by k = record { verdict = Refused k 0; word = 0 }
+refused_by k = record { verdict = refuse k 0; word = 0 }
 
 abbrev pub moved_to : ℕ → Moved
-moved_to w = record { verdict = Accepted; word = w }
+moved_to w = record { verdict = accept; word = w }
 
 -- three words as a range of the setting's integers
 abbrev pub range_of : Setting → ℕ → ℕ → ℕ → Range

@@ -6,9 +6,9 @@ ghost use Rattle.nearest.specs.Answer.{NearestIs, refused_by};
 ghost use Rattle.nearest.specs.Inner.{shifted, turned, Closest};
 
 use camera_settings::Setting;
-use rules::Verdict;
+use rules::{Refused, Verdict};
 
-// The verdict, and the word of the nearest allowed number; 0 where it is refused.
+// The verdict, and the word of the nearest allowed number; 0 where it is refused. (No Result: `NearestIs` says so.)
 #[derive(Drop)]
 pub struct Moved {
     pub verdict: Verdict,
@@ -29,7 +29,7 @@ pub fn nearest(setting: Setting, minimum: u16, maximum: u16, step: u16, wanted: 
     }
     let place = closest(low, high, step as u32, shift(setting, wanted));
     Moved {
-        verdict: Verdict::Accepted,
+        verdict: Ok(()),
         word: shift(setting, place as u16) as u16,
     }
 }
@@ -38,7 +38,7 @@ fn refused(number: u8) -> Moved
     ensures { result ≡ refused_by number }
 {
     Moved {
-        verdict: Verdict::Refused { number, offset: 0 },
+        verdict: Err(Refused { number, offset: 0 }),
         word: 0,
     }
 }

@@ -1,4 +1,6 @@
 -- What a call leaves in the words is read back as it was, of a session with old headers.
+use Rattle.std.specs.Prelude.{None, Some}
+use Rattle.session_rules.specs.Options.{Fault, Stamp}
 use Prim.Native.Nat.{ℕ, ◌<◌}
 use mathlib.Core.Path.{◌≡◌, refl}
 use mathlib.Core.Bool.{Bool, true, false}
@@ -7,11 +9,7 @@ use lib.Dec.{eqb}
 use borrow.Author.Tests.{lt-ltb}
 use Rattle.rules.specs.IfElse.{if_else}
 use Rattle.sizes.specs.declared.HeaderKind.TheVariants.{Old}
-use Rattle.session_rules.specs.declared.Stamp.{Stamp}
-use Rattle.session_rules.specs.declared.Layer.{Layer}
 use Rattle.session_rules.specs.declared.Reason.TheVariants.{Gap, Error, Clock, Mixed, Long, Cut, Empty}
-use Rattle.session_rules.specs.declared.Fault.{Fault}
-use Rattle.session_rules.specs.declared.Fault.TheVariants.{Sound, Bad}
 use Rattle.session_rules.specs.declared.Run.{Run}
 use Rattle.session_rules.specs.declared.Phase.{Phase}
 use Rattle.session_rules.specs.declared.Phase.TheVariants.{Fresh, Under, Past}
@@ -21,12 +19,12 @@ use Rattle.one_call.specs.Words.{absent, one_of, stamp_in, stamp_word, fault_in,
 
 -- what the types and the old headers say of a record
 pub data StampFits : Stamp → Type 0 where
-  none : StampFits Stamp.Absent
-  at : {x : ℕ} → x < absent → StampFits (Stamp.At x)
+  none : StampFits None
+  at : {x : ℕ} → x < absent → StampFits (Some x)
 
 pub data PhaseFits : Phase → Type 0 where
   fresh : PhaseFits Fresh
-  under : {run : Run} → StampFits run.stamp → run.layer ≡ Layer.Absent → PhaseFits (Under run)
+  under : {run : Run} → StampFits run.stamp → run.layer ≡ None → PhaseFits (Under run)
   past : {fid : Bool} → PhaseFits (Past fid)
 
 pub record Fits (r : Rest) : Type 0 where
@@ -42,19 +40,19 @@ bool-back false = refl
 
 stamp-back : (s : Stamp) → StampFits s → stamp_in (stamp_word s) ≡ s
 unfolding stamp_in if_else
-stamp-back Stamp.Absent none = refl
-stamp-back (Stamp.At x) (at h) = rw (lt-ltb x absent h)
+stamp-back None none = refl
+stamp-back (Some x) (at h) = rw (lt-ltb x absent h)
 
 fault-back : (f : Fault) → fault_in (fault_word f) ≡ f
 unfolding fault_in if_else
-fault-back Sound = refl
-fault-back (Bad Gap) = refl
-fault-back (Bad Error) = refl
-fault-back (Bad Clock) = refl
-fault-back (Bad Mixed) = refl
-fault-back (Bad Long) = refl
-fault-back (Bad Cut) = refl
-fault-back (Bad Empty) = refl
+fault-back None = refl
+fault-back (Some Gap) = refl
+fault-back (Some Error) = refl
+fault-back (Some Clock) = refl
+fault-back (Some Mixed) = refl
+fault-back (Some Long) = refl
+fault-back (Some Cut) = refl
+fault-back (Some Empty) = refl
 
 -- a run, by way of its words
 abbrev again : Run → Run
@@ -66,7 +64,7 @@ again r =
       fid = eqb (one_of r.fid) 1;
       still = eqb (one_of r.still) 1;
       fault = fault_in (fault_word r.fault);
-      layer = Layer.Absent;
+      layer = None;
     }
 
 phase-back : (p : Phase) → PhaseFits p → phase_in (phase_word p) (again (run_of p)) ≡ p

@@ -1,13 +1,10 @@
 -- A session record as C keeps it: sixteen words, of old headers, and the ledger's numbers. The last two words are what a call answers.
-use Rattle.std.specs.Prelude.{ℕ, ◌%◌, Bool, true, false, List, [], ◌∷◌, get_or, eqb, ltb}
+use Rattle.session_rules.specs.Options.{Fault, Stamp}
+use Rattle.std.specs.Prelude.{ℕ, ◌%◌, Bool, true, false, List, [], ◌∷◌, get_or, eqb, ltb, None, Some}
 use Rattle.rules.specs.IfElse.{if_else}
 use Rattle.sizes.specs.declared.HeaderKind.TheVariants.{Old}
-use Rattle.session_rules.specs.declared.Stamp.{Stamp}
-use Rattle.session_rules.specs.declared.Layer.{Layer}
 use Rattle.session_rules.specs.declared.Reason.{Reason}
 use Rattle.session_rules.specs.declared.Reason.TheVariants.{Gap, Error, Clock, Mixed, Long, Cut, Empty}
-use Rattle.session_rules.specs.declared.Fault.{Fault}
-use Rattle.session_rules.specs.declared.Fault.TheVariants.{Sound, Bad}
 use Rattle.session_rules.specs.declared.Run.{Run}
 use Rattle.session_rules.specs.declared.Phase.{Phase}
 use Rattle.session_rules.specs.declared.Phase.TheVariants.{Fresh, Under, Past}
@@ -28,21 +25,21 @@ one_of true = 1
 one_of false = 0
 
 unfoldable pub stamp_in : ℕ → Stamp
-stamp_in x = if_else (ltb x absent) (Stamp.At x) Stamp.Absent
+stamp_in x = if_else (ltb x absent) (Some x) None
 
 abbrev pub stamp_word : Stamp → ℕ
-stamp_word (Stamp.At x) = x
-stamp_word Stamp.Absent = absent
+stamp_word (Some x) = x
+stamp_word None = absent
 
 unfoldable pub fault_in : ℕ → Fault
 fault_in x =
-    if_else (eqb x 0) Sound
-    (if_else (eqb x 1) (Bad Gap)
-    (if_else (eqb x 2) (Bad Error)
-    (if_else (eqb x 3) (Bad Clock)
-    (if_else (eqb x 4) (Bad Mixed)
-    (if_else (eqb x 5) (Bad Long)
-    (if_else (eqb x 6) (Bad Cut) (Bad Empty)))))))
+    if_else (eqb x 0) None
+    (if_else (eqb x 1) (Some Gap)
+    (if_else (eqb x 2) (Some Error)
+    (if_else (eqb x 3) (Some Clock)
+    (if_else (eqb x 4) (Some Mixed)
+    (if_else (eqb x 5) (Some Long)
+    (if_else (eqb x 6) (Some Cut) (Some Empty)))))))
 
 abbrev pub reason_word : Reason → ℕ
 reason_word Gap = 1
@@ -54,8 +51,8 @@ reason_word Cut = 6
 reason_word Empty = 7
 
 abbrev pub fault_word : Fault → ℕ
-fault_word Sound = 0
-fault_word (Bad why) = reason_word why
+fault_word None = 0
+fault_word (Some why) = reason_word why
 
 unfoldable pub phase_in : ℕ → Run → Phase
 phase_in x run = if_else (eqb x 0) Fresh (if_else (eqb x 1) (Under run) (Past run.fid))
@@ -67,7 +64,7 @@ phase_word (Past fid) = 2
 
 -- no frame under way, with the FID of the run
 abbrev pub no_run : Bool → Run
-no_run fid = record { bytes = 0; fill = 0; stamp = Stamp.Absent; fid = fid; still = false; fault = Sound; layer = Layer.Absent }
+no_run fid = record { bytes = 0; fill = 0; stamp = None; fid = fid; still = false; fault = None; layer = None }
 
 abbrev pub run_of : Phase → Run
 run_of Fresh = no_run false
@@ -114,7 +111,7 @@ run_in w =
       fid = eqb (get_or w 8 0) 1;
       still = eqb (get_or w 12 0) 1;
       fault = fault_in (get_or w 13 0);
-      layer = Layer.Absent;
+      layer = None;
     }
 
 abbrev pub rest_in : List ℕ → Rest

@@ -6,7 +6,7 @@ ghost use Rattle.session_rules.specs.Accounts.{number_count};
 ghost use Rattle.session_rules.specs.Session.{take_of, buffer_of};
 ghost use Rattle.one_call.specs.Words.{one_of, stamp_in, stamp_word, fault_in, reason_word, fault_word, phase_in, phase_word, no_run, run_of, fate_word, fate_length, told_of, length_of, rest_in, words_of, session_in, answered_in};
 
-use session_rules::{Fate, Fault, Layer, Outcome, Phase, Reason, Rest, Run, Stamp, Track};
+use session_rules::{Fate, Fault, Outcome, Phase, Reason, Rest, Run, Stamp, Track};
 use sizes::{HeaderKind, Opening};
 
 // The opening (of old headers) in 0 to 2, closed, taken, gap and the last stamp in 3 to 6, the phase and its FID in 7 and 8, the frame under way in 9 to 13, what
@@ -25,19 +25,15 @@ fn one(b: bool) -> u64
 fn stamp_in(x: u64) -> Stamp
     ensures { result ≡ stamp_in x }
 {
-    if x < ABSENT {
-        Stamp::At(x as u32)
-    } else {
-        Stamp::Absent
-    }
+    if x < ABSENT { Some(x as u32) } else { None }
 }
 
 fn stamp_word(s: Stamp) -> u64
     ensures { result ≡ stamp_word s }
 {
     match s {
-        Stamp::At(x) => x as u64,
-        Stamp::Absent => ABSENT,
+        Some(x) => x as u64,
+        None => ABSENT,
     }
 }
 
@@ -45,14 +41,14 @@ fn fault_in(x: u64) -> Fault
     ensures { result ≡ fault_in x }
 {
     match x {
-        0 => Fault::Sound,
-        1 => Fault::Bad(Reason::Gap),
-        2 => Fault::Bad(Reason::Error),
-        3 => Fault::Bad(Reason::Clock),
-        4 => Fault::Bad(Reason::Mixed),
-        5 => Fault::Bad(Reason::Long),
-        6 => Fault::Bad(Reason::Cut),
-        _ => Fault::Bad(Reason::Empty),
+        0 => None,
+        1 => Some(Reason::Gap),
+        2 => Some(Reason::Error),
+        3 => Some(Reason::Clock),
+        4 => Some(Reason::Mixed),
+        5 => Some(Reason::Long),
+        6 => Some(Reason::Cut),
+        _ => Some(Reason::Empty),
     }
 }
 
@@ -74,8 +70,8 @@ fn fault_word(f: Fault) -> u64
     ensures { result ≡ fault_word f }
 {
     match f {
-        Fault::Sound => 0,
-        Fault::Bad(why) => reason_word(why),
+        None => 0,
+        Some(why) => reason_word(why),
     }
 }
 
@@ -106,11 +102,11 @@ fn no_run(fid: bool) -> Run
     Run {
         bytes: 0,
         fill: 0,
-        stamp: Stamp::Absent,
+        stamp: None,
         fid,
         still: false,
-        fault: Fault::Sound,
-        layer: Layer::Absent,
+        fault: None,
+        layer: None,
     }
 }
 
@@ -139,7 +135,7 @@ fn rest_in(w: &Words) -> Rest
             fid: w[8] == 1,
             still: w[12] == 1,
             fault,
-            layer: Layer::Absent,
+            layer: None,
         },
     );
     Rest {

@@ -1,4 +1,5 @@
 -- What the bytes of a packet tell: its request, its setting, its unit.
+use Rattle.std.specs.Prelude.{None, Option, Some}
 use Prim.Native.Nat.{ℕ}
 use mathlib.Core.Path.{◌≡◌, sym, ap, ◌∙◌}
 use mathlib.Core.List.{List}
@@ -8,10 +9,6 @@ use lib.ListN.{get_or}
 use Rattle.camera_settings.specs.Numbers.{selector_of, code_of, SettingIs, RequestIs}
 use Rattle.camera_settings.specs.declared.Setting.{Setting}
 use Rattle.camera_settings.specs.declared.Request.{Request}
-use Rattle.camera_settings.specs.declared.SettingFound.{SettingFound}
-use Rattle.camera_settings.specs.declared.SettingFound.TheVariants as setting
-use Rattle.camera_settings.specs.declared.RequestFound.{RequestFound}
-use Rattle.camera_settings.specs.declared.RequestFound.TheVariants as request
 use Rattle.camera_settings.proofs.Known.{selector-different, code-different}
 use Rattle.camera_settings.proofs.Told.{selector-is, selector-none, code_is, code-none}
 use Rattle.packets.specs.Packets.{packet_of, SpeltIs, SpeltIs.spelt, SpeltIs.by-95}
@@ -43,21 +40,21 @@ module _ (interface : ℕ) (bytes : List ℕ) where
       rw z (by-none (λ v k. not-both (sym n ∙ f (k ∙ sym (e ∙ ap (λ (x : ℕ). packet_of interface x c q) (h ∙ unit-told v c q k))))))
 
   -- ---- by the setting that is found
-  module _ (q : Request) (g : SettingFound) (x : ℕ) (h : x ≡ get_or bytes 3 0) (i : SettingIs x g) where
-    pub no-setting : (r : Reading) → g ≡ setting.None → r ≡ Refused 95 0 → SpeltWith interface q bytes r
+  module _ (q : Request) (g : Option Setting) (x : ℕ) (h : x ≡ get_or bytes 3 0) (i : SettingIs x g) where
+    pub no-setting : (r : Reading) → g ≡ None → r ≡ Refused 95 0 → SpeltWith interface q bytes r
     no-setting r n z = rw z (with_none (λ u c e. selector-none x i n c (h ∙ selector-told u c q e)))
 
-    pub this-setting : (c : Setting) {r : Reading} → g ≡ setting.Is c → SpeltBy interface c q bytes r → SpeltWith interface q bytes r
+    pub this-setting : (c : Setting) {r : Reading} → g ≡ Some c → SpeltBy interface c q bytes r → SpeltWith interface q bytes r
     this-setting c n (by u e) = with u c e
     this-setting c n (by-none f) =
         with_none (λ u d e. let z : d ≡ c = selector-different d c (sym (h ∙ selector-told u d q e) ∙ selector-is x i c n) in f u (rw z at e))
 
   -- ---- by the request that is found
-  module _ (g : RequestFound) (x : ℕ) (h : x ≡ get_or bytes 1 0) (i : RequestIs x g) where
-    pub no-request : (r : Reading) → g ≡ request.None → r ≡ Refused 95 0 → SpeltIs interface bytes r
+  module _ (g : Option Request) (x : ℕ) (h : x ≡ get_or bytes 1 0) (i : RequestIs x g) where
+    pub no-request : (r : Reading) → g ≡ None → r ≡ Refused 95 0 → SpeltIs interface bytes r
     no-request r n z = rw z (by-95 (λ u c q e. code-none x i n q (h ∙ code-told u c q e)))
 
-    pub this-request : (q : Request) {r : Reading} → g ≡ request.Is q → SpeltWith interface q bytes r → SpeltIs interface bytes r
+    pub this-request : (q : Request) {r : Reading} → g ≡ Some q → SpeltWith interface q bytes r → SpeltIs interface bytes r
     this-request q n (with u c e) = spelt u c q e
     this-request q n (with_none f) =
         by-95 (λ u c p e. let z : p ≡ q = code-different p q (sym (h ∙ code-told u c p e) ∙ code_is x i q n) in f u c (rw z at e))

@@ -1,8 +1,8 @@
 -- The promises of the crate leave one answer and one content of the room.
+use Rattle.rules.specs.Verdicts.{Verdict}
 use Prim.Native.Nat.{ℕ}
 use mathlib.Core.Path.{◌≡◌, refl, sym, ◌∙◌}
 use mathlib.Core.List.{List}
-use Rattle.rules.specs.declared.Verdict.{Verdict}
 use Rattle.packets.specs.Packets.{room_verdict, leaves, SpeltIs, SpeltIs.spelt, SpeltIs.by-95}
 use Rattle.packets.specs.declared.Reading.{Reading}
 use Rattle.packets.proofs.Spelling.{packet-different}

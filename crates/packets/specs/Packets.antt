@@ -1,8 +1,7 @@
 -- Source document 000, 4.1 and 4.2.2.3: the setup packet of a request to a processing unit's control; and document 02, Eleven: writing it, and which packet bytes are.
-use Rattle.std.specs.Prelude.{ℕ, ◌≡◌, List, [], ◌∷◌, ◌++◌, length, drop, ltb}
+use Rattle.rules.specs.Verdicts.{Verdict, accept, refuse}
+use Rattle.std.specs.Prelude.{ℕ, ◌≡◌, List, [], ◌∷◌, ◌++◌, length, drop, ltb, Err, Ok}
 use Rattle.rules.specs.IfElse.{if_else}
-use Rattle.rules.specs.declared.Verdict.{Verdict}
-use Rattle.rules.specs.declared.Verdict.TheVariants as verdict
 use Rattle.camera_settings.specs.Numbers.{selector_of, code_of, type_of}
 use Rattle.camera_settings.specs.declared.Setting.{Setting}
 use Rattle.camera_settings.specs.declared.Request.{Request}
@@ -28,12 +27,12 @@ packet_of interface unit c q =
 
 -- 94: there is room for fewer than 8 bytes
 abbrev pub room_verdict : List ℕ → Verdict
-room_verdict room = if_else (ltb (length room) packet_size) (verdict.Refused 94 0) verdict.Accepted
+room_verdict room = if_else (ltb (length room) packet_size) (refuse 94 0) accept
 
 -- what a verdict leaves in the room: the packet in its first 8 bytes, and the rest as it was; a refusal changes no byte
 abbrev pub leaves : Verdict → List ℕ → List ℕ → List ℕ
-leaves verdict.Accepted packet room = packet ++ drop packet_size room
-leaves (verdict.Refused k o) packet room = room
+leaves (Ok _) packet room = packet ++ drop packet_size room
+leaves (Err r) packet room = room
 
 -- the unit, setting and request whose packet the bytes are; 95 where they are none's
 pub data SpeltIs (interface : ℕ) (bytes : List ℕ) : Reading → Type 0 where

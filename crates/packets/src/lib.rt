@@ -5,8 +5,8 @@ ghost use Rattle.std.specs.Prelude.{◌≡◌};
 ghost use Rattle.packets.specs.Packets.{packet_of, room_verdict, leaves, SpeltIs};
 ghost use Rattle.packets.specs.Inner.{SpeltWith, SpeltBy};
 
-use camera_settings::{Request, RequestFound, Setting, SettingFound};
-use rules::Verdict;
+use camera_settings::{Request, Setting};
+use rules::{Refused, Verdict};
 
 // The bytes of a packet.
 pub const SIZE: usize = 8;
@@ -14,7 +14,7 @@ pub const SIZE: usize = 8;
 // The bytes of a setting's number, which the data stage carries: wLength.
 const NUMBER: u8 = 2;
 
-// What a packet asks for: which setting of which unit, by which request; or why it is no packet.
+// What a packet asks for: which setting of which unit, by which request; or why it is no packet. (Theorems of setup and of its printing speak of these two cases.)
 #[derive(Clone, Copy)]
 pub enum Reading {
     Asks {
@@ -56,14 +56,14 @@ pub fn write(
     ensures room_after { room.new ≡ leaves result (packet_of interface unit setting request) room.old }
 {
     if room.len() < SIZE {
-        return Verdict::Refused {
+        return Err(Refused {
             number: 94,
             offset: 0,
-        };
+        });
     }
     let packet = packet_of(interface, unit, setting, request);
     room[..SIZE].copy_from_slice(&packet);
-    Verdict::Accepted
+    Ok(())
 }
 
 // The unit, setting and request whose packet at this interface has just these bytes; 95 where there are none.
@@ -71,8 +71,8 @@ pub fn spelt(interface: u8, bytes: &[u8]) -> Reading
     ensures { SpeltIs interface bytes.now result }
 {
     match camera_settings::request_of(le::byte_at(bytes, 1)) {
-        RequestFound::None => no_packet(),
-        RequestFound::Is(request) => spelt_with(interface, bytes, request),
+        None => no_packet(),
+        Some(request) => spelt_with(interface, bytes, request),
     }
 }
 
@@ -81,8 +81,8 @@ fn spelt_with(interface: u8, bytes: &[u8], request: Request) -> Reading
     ensures { SpeltWith interface request bytes.now result }
 {
     match camera_settings::setting_of(le::byte_at(bytes, 3)) {
-        SettingFound::None => no_packet(),
-        SettingFound::Is(setting) => spelt_by(interface, bytes, setting, request),
+        None => no_packet(),
+        Some(setting) => spelt_by(interface, bytes, setting, request),
     }
 }
 

@@ -1,4 +1,5 @@
 -- Two answers that a promise allows are equal.
+use Rattle.session_rules.specs.Options.{Stamp}
 use Prim.Native.Nat.{ℕ}
 use mathlib.Core.Path.{◌≡◌, sym, ◌∙◌}
 use mathlib.Core.Bool.{Bool}
@@ -8,7 +9,6 @@ use Rattle.session_rules.specs.Layouts.{header_layout}
 use Rattle.session_rules.specs.Transfer.{need_of, stamp_of, reading_of}
 use Rattle.sizes.specs.declared.Opening.{Opening}
 use Rattle.sizes.specs.declared.HeaderKind.TheVariants.{Old}
-use Rattle.session_rules.specs.declared.Stamp.{Stamp}
 use Rattle.session_rules.specs.declared.Reading.{Reading}
 
 pub read-unique : (o : Opening) (t : List ℕ) (r s : Reading) → r ≡ reading_of o t → s ≡ reading_of o t → r ≡ s

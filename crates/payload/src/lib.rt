@@ -3,7 +3,7 @@
 
 ghost use Rattle.std.specs.Prelude.{◌≡◌, not, ◌&&◌, ◌<◌, ◌≤◌, length, ltb};
 ghost use Rattle.rules.specs.IfElse.{if_else};
-ghost use Rattle.rules.specs.Numbered.{first_row};
+ghost use Rattle.rules.specs.Numbered.{first_row, kept};
 ghost use Rattle.sizes.specs.declared.HeaderKind.TheVariants.{Old};
 ghost use Rattle.session_rules.specs.Layouts.{Laid, header_layout};
 ghost use Rattle.session_rules.specs.Transfer.{flag_of, flags_at, has_layer, layer_place, need_of, stamp_missing, stamp_of, layer_of, header_by, rows_by, sorted_by, reading_of};
@@ -91,7 +91,7 @@ fn layer_place(l: Layout, flags: u32) -> usize
 fn has_layer(l: Layout, flags: u32) -> bool
     ensures { result ≡ has_layer l flags }
 {
-    if l.layered { flag(flags, LAYER) } else { false }
+    l.layered && flag(flags, LAYER)
 }
 
 // 65: the header is shorter than what its flags say it holds.
@@ -115,39 +115,39 @@ fn unended(l: Layout, flags: u32) -> bool
 fn stamp_missing(l: Layout, flags: u32) -> bool
     ensures { result ≡ stamp_missing l flags }
 {
-    if l.timed { !flag(flags, PTS) } else { false }
+    l.timed && !flag(flags, PTS)
 }
 
-// The first of 61 to 67 that a transfer breaks; 0 where none is broken.
-fn unreadable_by(l: Layout, payload: usize, t: &[u8]) -> u8
+// Ok, or the first of 61 to 67 that a transfer breaks.
+fn unreadable_by(l: Layout, payload: usize, t: &[u8]) -> Result<(), u8>
     requires { Laid l }
-    ensures { result ≡ first_row (rows_by l payload t.now) }
+    ensures { result ≡ kept (first_row (rows_by l payload t.now)) }
 {
     let n = t.len();
     if n < l.least {
-        return 61;
+        return Err(61);
     }
     if payload < n {
-        return 62;
+        return Err(62);
     }
     let len = t[0] as usize;
     if len < l.least {
-        return 63;
+        return Err(63);
     }
     if n < len {
-        return 64;
+        return Err(64);
     }
     let flags = flags_at(l, t);
     if too_short(l, len, flags) {
-        return 65;
+        return Err(65);
     }
     if unended(l, flags) {
-        return 66;
+        return Err(66);
     }
     if stamp_missing(l, flags) {
-        return 67;
+        return Err(67);
     }
-    0
+    Ok(())
 }
 
 // The stamp of a header whose flags are given.
@@ -156,9 +156,9 @@ fn stamp_of(l: Layout, t: &[u8], flags: u32) -> Stamp
     ensures { result ≡ stamp_of l t.now flags }
 {
     if flag(flags, PTS) {
-        Stamp::At(le::le32(t, l.least))
+        Some(le::le32(t, l.least))
     } else {
-        Stamp::Absent
+        None
     }
 }
 
@@ -168,16 +168,16 @@ fn layer_of(l: Layout, t: &[u8], flags: u32) -> Layer
     ensures { result ≡ layer_of l t.now flags }
 {
     if has_layer(l, flags) {
-        Layer::At(le::le16(t, layer_place(l, flags)))
+        Some(le::le16(t, layer_place(l, flags)))
     } else {
-        Layer::Absent
+        None
     }
 }
 
 fn is_still(l: Layout, flags: u32) -> bool
     ensures { result ≡ l.stills && flag_of flags 5 }
 {
-    if l.stills { flag(flags, STILL) } else { false }
+    l.stills && flag(flags, STILL)
 }
 
 fn header_by(l: Layout, t: &[u8]) -> Header
@@ -208,11 +208,10 @@ fn read_by(l: Layout, payload: usize, t: &[u8]) -> Reading
     requires { Laid l }
     ensures { result ≡ sorted_by l payload t.now }
 {
-    let number = unreadable_by(l, payload, t);
-    if number != 0 {
-        return Reading::Unreadable(number);
+    match unreadable_by(l, payload, t) {
+        Err(number) => Reading::Unreadable(number),
+        Ok(()) => Reading::Readable(header_by(l, t)),
     }
-    Reading::Readable(header_by(l, t))
 }
 
 // Reads one transfer: idle, unreadable by its number, or its header.
@@ -222,8 +221,7 @@ pub fn read(o: Opening, t: &[u8]) -> Reading
     if t.len() == 0 {
         return Reading::Idle;
     }
-    let kind = o.kind;
-    match kind {
+    match o.kind {
         HeaderKind::Old => read_by(OLD, o.payload, t),
         HeaderKind::Vp8 => read_by(VP8, o.payload, t),
     }

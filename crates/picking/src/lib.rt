@@ -6,11 +6,11 @@ ghost use Rattle.alternate_settings.specs.Inner.{fewest_of};
 ghost use Rattle.interfaces.specs.Limits.{interfaces_most};
 ghost use Rattle.picking.specs.Inner.{settings_in, refused_by, answer_of, PickIs};
 
-use alternate_settings::{Choice, Setting};
+use alternate_settings::Setting;
 use interfaces::{INTERFACES_MOST, Stream};
-use rules::Verdict;
+use rules::{Refused, Verdict};
 
-// The verdict, and the setting's number and bytes: zero where it is refused.
+// The verdict, and the setting's number and bytes: zero where it is refused. (No Result: `zero-pick` says so.)
 #[derive(Drop)]
 pub struct Picked {
     pub verdict: Verdict,
@@ -25,7 +25,7 @@ fn refused(number: u8, offset: usize) -> Picked
         bytes: 0,
     };
     Picked {
-        verdict: Verdict::Refused { number, offset },
+        verdict: Err(Refused { number, offset }),
         setting,
     }
 }
@@ -47,9 +47,9 @@ fn pick_among(
     }
     let e = streams[i];
     match alternate_settings::fewest(s, interface, e.endpoint, payload) {
-        Choice::Nothing => refused(74, 0),
-        Choice::At(setting) => Picked {
-            verdict: Verdict::Accepted,
+        None => refused(74, 0),
+        Some(setting) => Picked {
+            verdict: Ok(()),
             setting,
         },
     }
@@ -63,7 +63,7 @@ pub fn pick(s: &[u8], interface: u8, payload: u32) -> Picked
     let verdict = c.verdict;
     let streams = c.streams;
     let count = c.count;
-    if let Verdict::Refused { number, offset } = verdict {
+    if let Err(Refused { number, offset }) = verdict {
         return refused(number, offset);
     }
     pick_among(s, streams, count, interface, payload)

@@ -1,4 +1,5 @@
--- What each way through `broken`, `number_at` and `numbers_of` says of the definitions.
+-- What each way through `read`, `write`, `number_at` and `numbers_of` says of the definitions.
+use Rattle.rules.specs.Verdicts.{accept, refuse}
 use Prim.Native.Nat.{ℕ, zero, suc, ◌+◌, ◌*◌, ◌≤◌, ◌<◌}
 use mathlib.Core.Path.{◌≡◌, refl, sym, ap, ◌∙◌}
 use mathlib.Core.Bool.{Bool, true, false, not}
@@ -9,7 +10,6 @@ use lib.ListN.{length, get_or, set, drop, replicate, get_or-eq_default}
 use lib.Dec.{eqb}
 use borrow.Author.Tests.{eq-eqb, ne_eqb, eqb-true, not-false}
 use Rattle.rules.specs.Pad.{pad}
-use Rattle.rules.specs.declared.Verdict.TheVariants.{Accepted, Refused}
 use Rattle.rules.proofs.Padded.{pad-set}
 use Rattle.rules.proofs.Rows.{or-first}
 use Rattle.fill.specs.Fill.{any_set}
@@ -17,32 +17,24 @@ use Rattle.places.specs.Places.{word_at, words_from, record_of, numbers_in, brok
 
 -- ---- 54
 module _ (r : List ℕ) where
-  pub broken-size : (length r ≡ 320 → ⊥) → true ≡ broken54 r
-  unfolding broken54
-  broken-size h = rw (ne_eqb (length r) 320 h)
-
-  pub broken-rest : (x : Bool) → length r ≡ 320 → x ≡ any_set (drop 248 r) → x ≡ broken54 r
-  unfolding broken54
-  broken-rest x h e = rw (eq-eqb (length r) 320 h) e
-
   pub right-size : (x : Bool) → x ≡ broken54 r → x ≡ false → length r ≡ 320
   unfolding broken54
   right-size x e f = eqb-true (length r) 320 (not-false (eqb (length r) 320) (or-first (not (eqb (length r) 320)) (any_set (drop 248 r)) (sym e ∙ f)))
 
   -- ---- reading and writing
-  pub held_none : (x : Bool) → x ≡ broken54 r → x ≡ true → record { verdict = Refused 54 0; numbers = replicate 31 0 } ≡ held_of r
+  pub held_none : (x : Bool) → x ≡ broken54 r → x ≡ true → record { verdict = refuse 54 0; numbers = replicate 31 0 } ≡ held_of r
   unfolding held_of
   held_none x e f = ap (λ (z : Bool). held_by z r) (sym f ∙ e)
 
-  pub held_all : (x : Bool) (ns : List ℕ) → x ≡ broken54 r → x ≡ false → ns ≡ numbers_in r → record { verdict = Accepted; numbers = ns } ≡ held_of r
+  pub held_all : (x : Bool) (ns : List ℕ) → x ≡ broken54 r → x ≡ false → ns ≡ numbers_in r → record { verdict = accept; numbers = ns } ≡ held_of r
   unfolding held_of
-  held_all x ns e f g = ap (λ (l : List ℕ). record { verdict = Accepted; numbers = l }) g ∙ ap (λ (z : Bool). held_by z r) (sym f ∙ e)
+  held_all x ns e f g = ap (λ (l : List ℕ). record { verdict = accept; numbers = l }) g ∙ ap (λ (z : Bool). held_by z r) (sym f ∙ e)
 
-  pub written_none : (ns : List ℕ) → (length r ≡ 320 → ⊥) → (Refused 54 0 ≡ write_verdict r) × (r ≡ written r ns)
+  pub written_none : (ns : List ℕ) → (length r ≡ 320 → ⊥) → (refuse 54 0 ≡ write_verdict r) × (r ≡ written r ns)
   unfolding write_verdict written
   written_none ns h = (rw (ne_eqb (length r) 320 h), rw (ne_eqb (length r) 320 h))
 
-  pub written_all : (ns new : List ℕ) → length r ≡ 320 → new ≡ record_of ns → (Accepted ≡ write_verdict r) × (new ≡ written r ns)
+  pub written_all : (ns new : List ℕ) → length r ≡ 320 → new ≡ record_of ns → (accept ≡ write_verdict r) × (new ≡ written r ns)
   unfolding write_verdict written
   written_all ns new h e = (rw (eq-eqb (length r) 320 h), rw (eq-eqb (length r) 320 h) e)
 

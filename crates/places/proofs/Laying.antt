@@ -1,5 +1,6 @@
 -- A record is laid out place by place: the numbers first, and zeros in the places of the rest.
-use Prim.Native.Nat.{ℕ, ◌+◌, ◌-◌, ◌*◌, ◌≤◌, ◌<◌}
+use Rattle.std.specs.Int.{w64, to_le_bytes}
+use Prim.Native.Nat.{ℕ, ◌+◌, ◌-◌, ◌*◌, ◌/◌, ◌≤◌, ◌<◌}
 use mathlib.Core.Path.{◌≡◌, refl, sym, ap, ◌∙◌}
 use mathlib.Core.List.{List, [], ◌∷◌, ◌++◌, append_assoc, append-nil}
 use native.Mathlib.Numerals.{add-one}
@@ -17,6 +18,17 @@ eights-length (n ∷ ns) = let e : length (eights ns) ≡ 8 * length ns = eights
 eights-append : (ns ms : List ℕ) → eights (ns ++ ms) ≡ eights ns ++ eights ms
 eights-append [] ms = refl
 eights-append (n ∷ ns) ms = ap (λ (l : List ℕ). little_of 8 n ++ l) (eights-append ns ms) ∙ sym (append_assoc (little_of 8 n) (eights ns) (eights ms))
+
+-- the library's bytes of a number are these
+le-little : (n : ℕ) → to_le_bytes w64 n ≡ little_of 8 n
+le-little n =
+    let f2 : n / 256 / 256 ≡ n / 65536 = omega arith in
+    let f3 : n / 65536 / 256 ≡ n / 16777216 = omega arith in
+    let f4 : n / 16777216 / 256 ≡ n / 4294967296 = omega arith in
+    let f5 : n / 4294967296 / 256 ≡ n / 1099511627776 = omega arith in
+    let f6 : n / 1099511627776 / 256 ≡ n / 281474976710656 = omega arith in
+    let f7 : n / 281474976710656 / 256 ≡ n / 72057594037927936 = omega arith in
+    rw (f2, f3, f4, f5, f6, f7)
 
 -- the forty numbers that a ledger's numbers make
 abbrev pub forty : List ℕ → List ℕ
@@ -49,8 +61,8 @@ module _ (r₀ ns : List ℕ) (k : ℕ) (r : List ℕ) where
       = ap eights t ∙ eights-append (take k (forty ns)) (n ∷ []) ∙ ap (λ (l : List ℕ). q ++ l) (append-nil (little_of 8 n)) in
       (omega arith, p.1, p.2, length-paste r (8 * k) (little_of 8 n) 8 (omega (arith, p.3)) (omega arith) ∙ p.3, (λ i. a i ++ little_of 8 n ++ b i) ∙ ap (λ (l : List ℕ). l ++ drop (8 * (k + 1)) r₀) (sym u))
 
-  pub one-laid : (n : ℕ) (b new : List ℕ) → k < 40 → Laid r₀ ns k r → n ≡ get_or ns k 0 → b ≡ little_of 8 n → new ≡ paste r (8 * k) b (length b) → Laid r₀ ns (k + 1) new
-  one-laid n b new h p e f g = rw (g, f) (laid_more n h p e)
+  pub one-laid : (n : ℕ) (b new : List ℕ) → k < 40 → Laid r₀ ns k r → n ≡ get_or ns k 0 → b ≡ to_le_bytes w64 n → new ≡ paste r (8 * k) b (length b) → Laid r₀ ns (k + 1) new
+  one-laid n b new h p e f g = let w : b ≡ little_of 8 n = f ∙ le-little n in rw (g, w) (laid_more n h p e)
 
   pub all_laid : 40 ≤ k → Laid r₀ ns k r → r ≡ record_of ns
   unfolding record_of

@@ -1,9 +1,9 @@
 -- Each promise leaves one answer, and one content of the lent record.
+use Rattle.rules.specs.Verdicts.{Verdict}
 use Prim.Native.Nat.{ℕ}
 use mathlib.Core.Path.{◌≡◌, sym, ◌∙◌}
 use mathlib.Core.Bool.{Bool}
 use mathlib.Core.List.{List}
-use Rattle.rules.specs.declared.Verdict.{Verdict}
 use Rattle.places.specs.declared.Held.{Held}
 use Rattle.places.specs.Places.{record_of, numbers_in, broken54, held_of, write_verdict, written}
 

@@ -1,10 +1,9 @@
 -- Document 02, Eight: the ledger as one record of 320 bytes, eight bytes a number, little-endian, in the order that the ledger program prints, rest zero.
+use Rattle.rules.specs.Verdicts.{Verdict, accept, refuse}
 use Rattle.std.specs.Prelude.{ℕ, zero, suc, ◌+◌, ◌-◌, ◌*◌, ◌/◌, ◌%◌, ◌^◌, ◌<◌, ◌≡◌, Bool, true, false, not, ◌||◌, List, [], ◌∷◌, ◌++◌, length, drop, replicate, eqb}
 use Rattle.le.specs.Le.{le32_at}
 use Rattle.fill.specs.Fill.{any_set}
 use Rattle.session_rules.specs.Accounts.{number_count}
-use Rattle.rules.specs.declared.Verdict.{Verdict}
-use Rattle.rules.specs.declared.Verdict.TheVariants.{Accepted, Refused}
 use Rattle.places.specs.declared.Held.{Held}
 
 abbrev pub record_size : ℕ
@@ -42,16 +41,16 @@ broken54 r = not (eqb (length r) record_size) || any_set (drop (8 * number_count
 
 -- READ: what a record holds, or 54 and nothing
 abbrev pub held_by : Bool → List ℕ → Held
-held_by true r = record { verdict = Refused 54 0; numbers = replicate number_count 0 }
-held_by false r = record { verdict = Accepted; numbers = numbers_in r }
+held_by true r = record { verdict = refuse 54 0; numbers = replicate number_count 0 }
+held_by false r = record { verdict = accept; numbers = numbers_in r }
 
 unfoldable pub held_of : List ℕ → Held
 held_of r = held_by (broken54 r) r
 
 -- WRITE: all 320 bytes, or 54 where there are not so many, and nothing changes
 abbrev pub write_by : Bool → Verdict
-write_by true = Accepted
-write_by false = Refused 54 0
+write_by true = accept
+write_by false = refuse 54 0
 
 abbrev pub written_by : Bool → List ℕ → List ℕ → List ℕ
 written_by true r ns = record_of ns

@@ -2,14 +2,14 @@
 #![tactic(auto)]
 
 ghost use Rattle.std.specs.Prelude.{◌≡◌, ◌+◌, ◌≤◌, length, get_or};
-ghost use Rattle.places.specs.Places.{record_size, little_of, word_at, record_of, numbers_in, broken54, held_of, write_verdict, written};
+ghost use Rattle.places.specs.Places.{record_size, word_at, record_of, numbers_in, broken54, held_of, write_verdict, written};
 
-use rules::Verdict;
+use rules::{Refused, Verdict};
 use session_rules::{Ledger, Numbers};
 
 pub const SIZE: usize = 320;
 
-// What a record holds: the numbers of its ledger. Refused, they are all zero.
+// What a record holds: the numbers of its ledger. Refused, they are all zero. (No Result: `held_of` says so.)
 #[derive(Drop)]
 pub struct Held {
     pub verdict: Verdict,
@@ -21,13 +21,11 @@ const PLACES: usize = 40;
 const USED: usize = 8 * Ledger::NUMBERS;
 
 // 54: the record has not 320 bytes, or its rest is not zero.
+#[tactic(auto, unfolding(crate::specs::Places::broken54))]
 pub fn broken(r: &[u8]) -> bool
     ensures { result ≡ broken54 r.now }
 {
-    if r.len() != SIZE {
-        return true;
-    }
-    fill::any_set(r, USED)
+    r.len() != SIZE || fill::any_set(r, USED)
 }
 
 // The number of eight bytes, the low one first.
@@ -46,35 +44,10 @@ pub fn numbers_of(r: &[u8]) -> Numbers
     ensures { result ≡ numbers_in r.now }
 {
     let mut numbers = [0u64; Ledger::NUMBERS];
-    let mut k: usize = 0;
-    while k < Ledger::NUMBERS {
+    for k in 0..Ledger::NUMBERS {
         numbers[k] = word(r, 8 * k);
-        k += 1;
     }
     numbers
-}
-
-// The eight bytes of a number.
-fn bytes_of(n: u64) -> [u8; 8]
-    ensures { result ≡ little_of 8 n }
-{
-    let n1 = n / 256;
-    let n2 = n1 / 256;
-    let n3 = n2 / 256;
-    let n4 = n3 / 256;
-    let n5 = n4 / 256;
-    let n6 = n5 / 256;
-    let n7 = n6 / 256;
-    [
-        (n % 256) as u8,
-        (n1 % 256) as u8,
-        (n2 % 256) as u8,
-        (n3 % 256) as u8,
-        (n4 % 256) as u8,
-        (n5 % 256) as u8,
-        (n6 % 256) as u8,
-        (n7 % 256) as u8,
-    ]
 }
 
 // The number of a place; the places of the rest hold 0.
@@ -92,12 +65,9 @@ pub fn lay(r: &mut [u8], numbers: Numbers)
     requires { length r.old ≡ record_size }
     ensures { r.new ≡ record_of numbers }
 {
-    let mut k: usize = 0;
-    while k < PLACES {
+    for k in 0..PLACES {
         let n = number_at(numbers, k);
-        let b = bytes_of(n);
-        copier::put(r, 8 * k, &b);
-        k += 1;
+        copier::put(r, 8 * k, &n.to_le_bytes());
     }
 }
 
@@ -107,16 +77,16 @@ pub fn read(r: &[u8]) -> Held
 {
     if broken(r) {
         return Held {
-            verdict: Verdict::Refused {
+            verdict: Err(Refused {
                 number: 54,
                 offset: 0,
-            },
+            }),
             numbers: [0u64; Ledger::NUMBERS],
         };
     }
     let numbers = numbers_of(r);
     Held {
-        verdict: Verdict::Accepted,
+        verdict: Ok(()),
         numbers,
     }
 }
@@ -127,11 +97,11 @@ pub fn write(r: &mut [u8], numbers: Numbers) -> Verdict
     ensures r_after { r.new ≡ written r.old numbers }
 {
     if r.len() != SIZE {
-        return Verdict::Refused {
+        return Err(Refused {
             number: 54,
             offset: 0,
-        };
+        });
     }
     lay(r, numbers);
-    Verdict::Accepted
+    Ok(())
 }

@@ -1,5 +1,6 @@
 -- Over the revision: reading what was written gives the fields back, with those that the revision lacks as 0, and writing what was read gives the block's bytes
 -- back. A refused write changes no byte, and no byte past the revision's block ever changes.
+use Rattle.rules.specs.Verdicts.{accept, refuse}
 use Prim.Native.Nat.{ℕ, zero, suc, ◌+◌, ◌*◌, ◌/◌, ◌%◌, ◌^◌, ◌≤◌, ◌<◌}
 use mathlib.Core.Path.{◌≡◌, refl, sym, ap, ◌∙◌}
 use mathlib.Core.List.{List, ◌++◌}
@@ -12,7 +13,6 @@ use native.Mathlib.Omega.{arith}
 use native.Mathlib.Nat.{mod-eq_of_lt, div-eq_of_lt, div-add-mod', add-mul-div_right, add-mul-mod_self_right, div-div-eq-div-mul}
 use native.Mathlib.Numerals.{add-one}
 use Rattle.rules.specs.IfElse.{if_else}
-use Rattle.rules.specs.declared.Verdict.TheVariants.{Accepted, Refused}
 use Rattle.rules.proofs.Lists.{no-elements}
 use Rattle.rules.proofs.Verdicts.{apart}
 use Rattle.entities.specs.Revisions.{says_of}
@@ -103,7 +103,7 @@ module _ (v : Revision) (p : Probe) (room : List ℕ) where
   short-is h = rw (lt-ltb (length room) (probe_size v) h)
 
   -- a refused write changes no byte
-  pub refused-keeps : (k o : ℕ) → room_verdict v room ≡ Refused k o → written v p room ≡ room
+  pub refused-keeps : (k o : ℕ) → room_verdict v room ≡ refuse k o → written v p room ≡ room
   unfolding room_verdict if_else
   refused-keeps k o e = go (ltb (length room) (probe_size v)) refl
     where
@@ -120,7 +120,7 @@ module _ (v : Revision) (p : Probe) (room : List ℕ) where
       go false q = rw (whole_is (ltb-false (length room) (probe_size v) q)) (drop_at (take (probe_size v) (bytes_of p)) (drop (probe_size v) room) (probe_size v) (first-length v p))
 
   -- reading what was written gives the fields back
-  read-written : Held p → probe_size v ≤ length room → probe_of v (take (probe_size v) (written v p room)) ≡ record { verdict = Accepted; probe = kept_in v p }
+  read-written : Held p → probe_size v ≤ length room → probe_of v (take (probe_size v) (written v p room)) ≡ record { verdict = accept; probe = kept_in v p }
   read-written h l =
       rw (whole_is l, take_at (take (probe_size v) (bytes_of p)) (drop (probe_size v) room) (probe_size v) (first-length v p))
       (sym (read_whole v (take (probe_size v) (bytes_of p)) (kept_in v p) (first-length v p) (sym (fields_back v p h))))

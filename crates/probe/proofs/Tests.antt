@@ -1,4 +1,5 @@
 -- What the tests of reading and writing say.
+use Rattle.rules.specs.Verdicts.{accept, refuse}
 use Prim.Native.Nat.{ℕ, ◌≤◌, ◌<◌}
 use mathlib.Core.Path.{◌≡◌, refl, ◌∙◌}
 use mathlib.Core.List.{List, ◌++◌}
@@ -7,7 +8,6 @@ use lib.Seq.{take_all}
 use native.Mathlib.Omega.{arith}
 use borrow.Author.Tests.{eq-eqb, ne_eqb, lt-ltb, le-ltb}
 use Rattle.rules.specs.IfElse.{if_else}
-use Rattle.rules.specs.declared.Verdict.TheVariants.{Accepted, Refused}
 use Rattle.entities.specs.Revisions.{says_of}
 use Rattle.entities.specs.declared.Revision.{Revision}
 use Rattle.entities.specs.declared.Revision.TheVariants.{R10, R11, R15}
@@ -16,11 +16,11 @@ use Rattle.probe.specs.Fields.{probe_size, fields_of, no_fields, bytes_of, probe
 use Rattle.probe.specs.declared.Probe.{Probe}
 use Rattle.probe.specs.declared.Fields.{Fields}
 
-pub read_whole : (v : Revision) (s : List ℕ) (p : Probe) → length s ≡ probe_size v → p ≡ fields_of s → ◌≡◌ {A = Fields} (record { verdict = Accepted; probe = p }) (probe_of v s)
+pub read_whole : (v : Revision) (s : List ℕ) (p : Probe) → length s ≡ probe_size v → p ≡ fields_of s → ◌≡◌ {A = Fields} (record { verdict = accept; probe = p }) (probe_of v s)
 unfolding probe_of if_else
 read_whole v s p h e = rw (eq-eqb (length s) (probe_size v) h, e)
 
-pub read-wrong : (v : Revision) (s : List ℕ) (p : Probe) → (length s ≡ probe_size v → ⊥) → p ≡ no_fields → ◌≡◌ {A = Fields} (record { verdict = Refused 41 0; probe = p }) (probe_of v s)
+pub read-wrong : (v : Revision) (s : List ℕ) (p : Probe) → (length s ≡ probe_size v → ⊥) → p ≡ no_fields → ◌≡◌ {A = Fields} (record { verdict = refuse 41 0; probe = p }) (probe_of v s)
 unfolding probe_of if_else
 read-wrong v s p h e = rw (ne_eqb (length s) (probe_size v) h, e)
 
@@ -48,7 +48,7 @@ size_is v y e = rw e (refl, size-least v, size-most v)
 pub first-length : (v : Revision) (p : Probe) → length (take (probe_size v) (bytes_of p)) ≡ probe_size v
 first-length v p = simp length-take (omega (arith, size-most v, bytes-length p))
 
-pub write-short : (v : Revision) (p : Probe) (room : List ℕ) → length room < probe_size v → (Refused 41 0 ≡ room_verdict v room) × (room ≡ written v p room)
+pub write-short : (v : Revision) (p : Probe) (room : List ℕ) → length room < probe_size v → (refuse 41 0 ≡ room_verdict v room) × (room ≡ written v p room)
 unfolding room_verdict written if_else
 write-short v p room h = rw (lt-ltb (length room) (probe_size v) h) (refl, refl)
 
@@ -66,6 +66,6 @@ copied v p room l block size n e z m h =
     let q : take (probe_size v) (take (probe_size v) (bytes_of p)) ≡ take (probe_size v) (bytes_of p) = take_all (probe_size v) (take (probe_size v) (bytes_of p)) (omega (arith, first-length v p)) in
     h ∙ (rw (k, e, z, q))
 
-pub write-whole : (v : Revision) (p : Probe) (room l : List ℕ) → probe_size v ≤ length room → l ≡ take (probe_size v) (bytes_of p) ++ drop (probe_size v) room → (Accepted ≡ room_verdict v room) × (l ≡ written v p room)
+pub write-whole : (v : Revision) (p : Probe) (room l : List ℕ) → probe_size v ≤ length room → l ≡ take (probe_size v) (bytes_of p) ++ drop (probe_size v) room → (accept ≡ room_verdict v room) × (l ≡ written v p room)
 unfolding room_verdict written if_else
 write-whole v p room l h e = rw (le-ltb (length room) (probe_size v) h) (refl, e)

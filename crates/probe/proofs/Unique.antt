@@ -1,8 +1,8 @@
 -- One answer of each public function, and one content of the room: any two that its promise allows are equal.
+use Rattle.rules.specs.Verdicts.{Verdict}
 use Prim.Native.Nat.{ℕ, ◌≤◌}
 use mathlib.Core.Path.{◌≡◌, sym, ◌∙◌}
 use mathlib.Core.List.{List}
-use Rattle.rules.specs.declared.Verdict.{Verdict}
 use Rattle.entities.specs.declared.Revision.{Revision}
 use Rattle.probe.specs.Fields.{probe_size, probe_of, room_verdict, written, WritesBack, ReadsBack}
 use Rattle.probe.specs.declared.Probe.{Probe}

@@ -1,9 +1,8 @@
 -- The bytes of a probe block, field by field, and what reading and writing them does. A block of an older revision has the first of the 48.
+use Rattle.rules.specs.Verdicts.{Verdict, accept, refuse}
 use Rattle.std.specs.Prelude.{ℕ, zero, suc, ◌+◌, ◌/◌, ◌%◌, ◌^◌, ◌≤◌, ◌<◌, ◌≡◌, List, [], ◌∷◌, ◌++◌, length, get_or, take, drop, replicate, ltb, eqb}
 use Rattle.le.specs.Le.{le16_at, le32_at}
 use Rattle.rules.specs.IfElse.{if_else}
-use Rattle.rules.specs.declared.Verdict.{Verdict}
-use Rattle.rules.specs.declared.Verdict.TheVariants.{Accepted, Refused}
 use Rattle.entities.specs.Revisions.{says_of}
 use Rattle.entities.specs.declared.Revision.{Revision}
 use Rattle.entities.specs.declared.Revision.TheVariants.{R10, R11, R15}
@@ -152,11 +151,11 @@ kept_in R15 p = p
 -- reading: 41 unless there are exactly as many bytes as the revision says
 unfoldable pub probe_of : Revision → List ℕ → Fields
 probe_of v s =
-    if_else (eqb (length s) (probe_size v)) (record { verdict = Accepted; probe = fields_of s }) (record { verdict = Refused 41 0; probe = no_fields })
+    if_else (eqb (length s) (probe_size v)) (record { verdict = accept; probe = fields_of s }) (record { verdict = refuse 41 0; probe = no_fields })
 
 -- writing: 41 where there is room for fewer bytes than the revision says, and then no byte changes; else the first so many, and no other
 unfoldable pub room_verdict : Revision → List ℕ → Verdict
-room_verdict v room = if_else (ltb (length room) (probe_size v)) (Refused 41 0) Accepted
+room_verdict v room = if_else (ltb (length room) (probe_size v)) (refuse 41 0) accept
 
 unfoldable pub written : Revision → Probe → List ℕ → List ℕ
 written v p room = if_else (ltb (length room) (probe_size v)) room (take (probe_size v) (bytes_of p) ++ drop (probe_size v) room)
@@ -188,4 +187,4 @@ WritesBack v p s = length s ≡ probe_size v → (room : List ℕ) → probe_siz
 
 -- reading what was written gives the fields back, with those that the revision lacks as 0
 abbrev pub ReadsBack : Revision → Probe → List ℕ → Type 0
-ReadsBack v p room = probe_size v ≤ length room → probe_of v (take (probe_size v) room) ≡ record { verdict = Accepted; probe = kept_in v p }
+ReadsBack v p room = probe_size v ≤ length room → probe_of v (take (probe_size v) room) ≡ record { verdict = accept; probe = kept_in v p }

@@ -1,12 +1,12 @@
 // The probe and commit block of 26, 34 or 48 bytes, by the revision: reading and writing it (41).
 #![tactic(auto)]
 
-ghost use Rattle.std.specs.Prelude.{◌≡◌, ◌+◌, ◌/◌, ◌%◌, ◌≤◌, ◌<◌, length};
+ghost use Rattle.std.specs.Prelude.{◌≡◌, ◌+◌, ◌≤◌, ◌<◌, length};
 ghost use Rattle.probe.specs.Fields.{probe_size, bytes_at, fields_of, bytes_of, no_fields, probe_of, room_verdict, written, WritesBack, ReadsBack};
 ghost use Rattle.le.specs.Le.{le16_at, le32_at};
 
 use entities::Revision;
-use rules::Verdict;
+use rules::{Refused, Verdict};
 
 // The bytes of the longest block, that of revision 1.5.
 pub const LENGTH: usize = 48;
@@ -38,7 +38,7 @@ pub struct Probe {
     pub layout: [u8; 8],
 }
 
-// What reading a block gives: the fields, all zero where it is refused.
+// What reading a block gives: the fields, all zero where it is refused. (No Result: `probe_of` says so.)
 #[derive(Drop)]
 pub struct Fields {
     pub verdict: Verdict,
@@ -162,92 +162,66 @@ pub fn read(block: &[u8], revision: Revision) -> Fields
     if block.len() == size_of(revision) {
         let probe = fields_of(block);
         return Fields {
-            verdict: Verdict::Accepted,
+            verdict: Ok(()),
             probe,
         };
     }
     let probe = no_fields();
     Fields {
-        verdict: Verdict::Refused {
+        verdict: Err(Refused {
             number: 41,
             offset: 0,
-        },
+        }),
         probe,
     }
-}
-
-// Byte k of a number, the low one first.
-fn low(x: u16) -> u8
-    ensures { result ≡ x % 256 }
-{
-    (x % 256) as u8
-}
-
-fn high(x: u16) -> u8
-    ensures { result ≡ x / 256 % 256 }
-{
-    (x / 256 % 256) as u8
-}
-
-fn byte_0(x: u32) -> u8
-    ensures { result ≡ x % 256 }
-{
-    (x % 256) as u8
-}
-
-fn byte_1(x: u32) -> u8
-    ensures { result ≡ x / 256 % 256 }
-{
-    (x / 256 % 256) as u8
-}
-
-fn byte_2(x: u32) -> u8
-    ensures { result ≡ x / 65536 % 256 }
-{
-    (x / 65536 % 256) as u8
-}
-
-fn byte_3(x: u32) -> u8
-    ensures { result ≡ x / 16777216 % 256 }
-{
-    (x / 16777216 % 256) as u8
 }
 
 // The 48 bytes of the fields.
 fn bytes_of(p: Probe) -> [u8; LENGTH]
     ensures { result ≡ bytes_of p }
 {
+    let hint = p.hint.to_le_bytes();
+    let interval = p.interval.to_le_bytes();
+    let key_rate = p.key_rate.to_le_bytes();
+    let p_rate = p.p_rate.to_le_bytes();
+    let quality = p.quality.to_le_bytes();
+    let window = p.window.to_le_bytes();
+    let delay = p.delay.to_le_bytes();
+    let frame_size = p.frame_size.to_le_bytes();
+    let payload_size = p.payload_size.to_le_bytes();
+    let clock = p.clock.to_le_bytes();
+    let rate_modes = p.rate_modes.to_le_bytes();
     [
-        low(p.hint),
-        high(p.hint),
+        hint[0],
+        hint[1],
         p.format,
         p.frame,
-        byte_0(p.interval),
-        byte_1(p.interval),
-        byte_2(p.interval),
-        byte_3(p.interval),
-        low(p.key_rate),
-        high(p.key_rate),
-        low(p.p_rate),
-        high(p.p_rate),
-        low(p.quality),
-        high(p.quality),
-        low(p.window),
-        high(p.window),
-        low(p.delay),
-        high(p.delay),
-        byte_0(p.frame_size),
-        byte_1(p.frame_size),
-        byte_2(p.frame_size),
-        byte_3(p.frame_size),
-        byte_0(p.payload_size),
-        byte_1(p.payload_size),
-        byte_2(p.payload_size),
-        byte_3(p.payload_size),
-        byte_0(p.clock),
-        byte_1(p.clock),
-        byte_2(p.clock),
-        byte_3(p.clock),
+        interval[0],
+        interval[1],
+        interval[2],
+        interval[3],
+        key_rate[0],
+        key_rate[1],
+        p_rate[0],
+        p_rate[1],
+        quality[0],
+        quality[1],
+        window[0],
+        window[1],
+        delay[0],
+        delay[1],
+        frame_size[0],
+        frame_size[1],
+        frame_size[2],
+        frame_size[3],
+        payload_size[0],
+        payload_size[1],
+        payload_size[2],
+        payload_size[3],
+        clock[0],
+        clock[1],
+        clock[2],
+        clock[3],
         p.framing,
         p.preferred,
         p.minimum,
@@ -256,8 +230,8 @@ fn bytes_of(p: Probe) -> [u8; LENGTH]
         p.luma_depth,
         p.settings,
         p.reference_frames,
-        low(p.rate_modes),
-        high(p.rate_modes),
+        rate_modes[0],
+        rate_modes[1],
         p.layout[0],
         p.layout[1],
         p.layout[2],
@@ -276,12 +250,12 @@ pub fn write(p: Probe, room: &mut [u8], revision: Revision) -> Verdict
 {
     let size = size_of(revision);
     if room.len() < size {
-        return Verdict::Refused {
+        return Err(Refused {
             number: 41,
             offset: 0,
-        };
+        });
     }
     let block = bytes_of(p);
     room[..size].copy_from_slice(&block[..size]);
-    Verdict::Accepted
+    Ok(())
 }

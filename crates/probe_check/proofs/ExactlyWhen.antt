@@ -1,4 +1,5 @@
 -- A check says yes exactly when every one of 41, the block's own rules and 42 to 46 holds; otherwise it gives the first that does not.
+use Rattle.rules.specs.Verdicts.{Verdict, accept, refuse}
 use Prim.Native.Nat.{ℕ, zero, suc, ◌+◌, ◌≤◌, ◌<◌}
 use mathlib.Core.Path.{◌≡◌, refl, sym, ap, ◌∙◌}
 use mathlib.Core.List.{List, [], ◌∷◌}
@@ -14,9 +15,7 @@ use Rattle.rules.specs.Pad.{pad}
 use Rattle.rules.specs.First.{First}
 use Rattle.rules.specs.Numbered.{Row, row, first_row}
 use Rattle.rules.specs.Asked.{AllKept, FirstFails}
-use Rattle.rules.specs.declared.Verdict.{Verdict}
-use Rattle.rules.specs.declared.Verdict.TheVariants.{Accepted, Refused}
-use Rattle.rules.proofs.Verdicts.{apart}
+use Rattle.rules.proofs.Verdicts.{apart, same-refusal}
 use Rattle.rules.proofs.Rows.{or-first, or-second}
 use Rattle.rules.proofs.Firsts.{first-map, first-unique}
 use Rattle.rules.proofs.Padded.{pad-at}
@@ -153,18 +152,18 @@ module _ (s : List ℕ) (a : Seen) (p : Probe) where
   numbered : Numbered (check_rules s a p)
   numbered = (omega arith, (omega arith, (omega arith, (omega arith, (omega arith, tt)))))
 
-with-verdict : (s : List ℕ) (a : Seen) → (accepted_with s a).verdict ≡ Accepted
+with-verdict : (s : List ℕ) (a : Seen) → (accepted_with s a).verdict ≡ accept
 unfolding accepted_with
 with-verdict s a = refl
 
-refused-verdict : (k o : ℕ) → (refused_by k o).verdict ≡ Refused k o
+refused-verdict : (k o : ℕ) → (refused_by k o).verdict ≡ refuse k o
 unfolding refused_by
 refused-verdict k o = refl
 
 -- what a check comes to
 data Comes (t : Table) (s b : List ℕ) : Verdict → Type 0 where
-  agreed : Yes t s b → Comes t s b Accepted
-  objected : (k o : ℕ) → No t s b k o → Comes t s b (Refused k o)
+  agreed : Yes t s b → Comes t s b accept
+  objected : (k o : ℕ) → No t s b k o → Comes t s b (refuse k o)
 
 module _ (t : Table) (s b : List ℕ) where
   module _ (a : Seen) (w : Read t s b a) where
@@ -180,27 +179,27 @@ module _ (t : Table) (s b : List ℕ) where
         go n (kept k) = agreed (record { seen = a; read = w; kept = k })
         go n (fails k f) = objected (suc k) 0 (of-rule a w (suc k) f)
 
-    gives-no : (k : ℕ) → FirstFails (check_rules s a (fields_of b)) k → check_of t s b ≡ Refused k 0
+    gives-no : (k : ℕ) → FirstFails (check_rules s a (fields_of b)) k → check_of t s b ≡ refuse k 0
     unfolding given
     gives-no k f = check-is ∙ go k (positive k f) (rows-fail (five s a (fields_of b)) (check_rules s a (fields_of b)) k (tell s a (fields_of b)) f)
       where
         positive : (k : ℕ) → FirstFails (check_rules s a (fields_of b)) k → 0 < k
         positive k f = fails-above (check_rules s a (fields_of b)) k (numbered s a (fields_of b)) f
 
-        go : (k : ℕ) → 0 < k → first_row (five s a (fields_of b)) ≡ k → given (first_row (five s a (fields_of b))) ≡ Refused k 0
+        go : (k : ℕ) → 0 < k → first_row (five s a (fields_of b)) ≡ k → given (first_row (five s a (fields_of b))) ≡ refuse k 0
         go zero l e = absurd (omega arith)
         go (suc k) l e = rw e
 
-    gives-yes : AllKept (check_rules s a (fields_of b)) → check_of t s b ≡ Accepted
+    gives-yes : AllKept (check_rules s a (fields_of b)) → check_of t s b ≡ accept
     unfolding given
     gives-yes k = check-is ∙ (rw (rows-kept (five s a (fields_of b)) (check_rules s a (fields_of b)) (tell s a (fields_of b)) k))
 
-  yes-gives : Yes t s b → check_of t s b ≡ Accepted
+  yes-gives : Yes t s b → check_of t s b ≡ accept
   yes-gives y = gives-yes y.seen y.read y.kept
 
-  no-gives : {k o : ℕ} → No t s b k o → check_of t s b ≡ Refused k o
-  no-gives (of_length n) = sym (check-41 t s b (Refused 41 0) n refl)
-  no-gives (of-block k o l w) = sym (check-own t s b (Refused k o) l (refused_by k o) (sym (all-zero t s w)) k o (refused-verdict k o) refl)
+  no-gives : {k o : ℕ} → No t s b k o → check_of t s b ≡ refuse k o
+  no-gives (of_length n) = sym (check-41 t s b (refuse 41 0) n refl)
+  no-gives (of-block k o l w) = sym (check-own t s b (refuse k o) l (refused_by k o) (sym (all-zero t s w)) k o (refused-verdict k o) refl)
   no-gives (of-rule a w k f) = gives-no a w k f
 
   -- every check comes to one or the other
@@ -217,17 +216,17 @@ module _ (t : Table) (s b : List ℕ) where
 
   -- ---- EXACTLY WHEN
   -- yes exactly when every one of 41, the block's own rules and 42 to 46 holds
-  pub says-yes : (check_of t s b ≡ Accepted) ↔ Yes t s b
+  pub says-yes : (check_of t s b ≡ accept) ↔ Yes t s b
   says-yes = (to (check_of t s b) comes, yes-gives)
     where
-      to : (v : Verdict) → Comes t s b v → v ≡ Accepted → Yes t s b
+      to : (v : Verdict) → Comes t s b v → v ≡ accept → Yes t s b
       to v (agreed y) e = y
       to v (objected k o n) e = absurd (apart k o e)
 
   -- otherwise the first that does not
-  pub says-no : (k o : ℕ) → (check_of t s b ≡ Refused k o) ↔ No t s b k o
+  pub says-no : (k o : ℕ) → (check_of t s b ≡ refuse k o) ↔ No t s b k o
   says-no k o = (to (check_of t s b) comes, no-gives)
     where
-      to : (v : Verdict) → Comes t s b v → v ≡ Refused k o → No t s b k o
+      to : (v : Verdict) → Comes t s b v → v ≡ refuse k o → No t s b k o
       to v (agreed y) e = absurd (apart k o (sym e))
-      to v (objected j p n) e = let q : j ≡ k = cc in let r : p ≡ o = cc in rw (← q, ← r) n
+      to v (objected j p n) e = let q = same-refusal j p k o e in rw (← q.0, ← q.1) n

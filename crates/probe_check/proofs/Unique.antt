@@ -1,8 +1,8 @@
 -- One answer: any two that the promise allows are equal.
+use Rattle.rules.specs.Verdicts.{Verdict}
 use Prim.Native.Nat.{ℕ}
 use mathlib.Core.Path.{◌≡◌, sym, ◌∙◌}
 use mathlib.Core.List.{List}
-use Rattle.rules.specs.declared.Verdict.{Verdict}
 use Rattle.entities.specs.declared.Table.{Table}
 use Rattle.probe_check.specs.Answer.{check_of}
 

@@ -3,9 +3,7 @@ use Rattle.std.specs.Prelude.{ℕ, zero, suc, List, [], ◌∷◌, Bool, not, �
 use Rattle.le.specs.Le.{byte}
 use Rattle.rules.specs.IfElse.{if_else}
 use Rattle.rules.specs.Numbered.{Row, row, first_row}
-use Rattle.rules.specs.Verdicts.{◌and_then◌}
-use Rattle.rules.specs.declared.Verdict.{Verdict}
-use Rattle.rules.specs.declared.Verdict.TheVariants.{Accepted, Refused}
+use Rattle.rules.specs.Verdicts.{◌and_then◌, Verdict, accept, refuse}
 use Rattle.entities.specs.declared.Table.{Table}
 use Rattle.entities.specs.declared.Revision.{Revision}
 use Rattle.sizes.specs.Sizes.{frame_size_broken, payload_size_broken}
@@ -52,12 +50,12 @@ check_rows s a p =
 
 -- no number: yes
 unfoldable pub given : ℕ → Verdict
-given zero = Accepted
-given (suc k) = Refused (suc k) 0
+given zero = accept
+given (suc k) = refuse (suc k) 0
 
 -- 41: the probe block has not as many bytes as the revision says
 abbrev pub length_verdict : Revision → List ℕ → Verdict
-length_verdict v b = if_else (eqb (length b) (probe_size v)) Accepted (Refused 41 0)
+length_verdict v b = if_else (eqb (length b) (probe_size v)) accept (refuse 41 0)
 
 -- 41 by the table's revision, then the streaming block's own refusal, then 42 to 46
 unfoldable pub check_of : Table → List ℕ → List ℕ → Verdict

@@ -1,6 +1,7 @@
 // Checks a probe block against a streaming block and its entity table (41 to 46).
 #![tactic(auto)]
 
+ghost use Rattle.rules.specs.Verdicts.{refuse};
 ghost use Rattle.std.specs.Prelude.{◌≡◌, ◌+◌, ◌≤◌, ◌<◌, length};
 ghost use Rattle.rules.specs.Numbered.{first_row};
 ghost use Rattle.streaming_descriptors.specs.Descriptors.{kind_at, format_of, frame_length_at};
@@ -8,17 +9,14 @@ ghost use Rattle.probe.specs.Fields.{fields_of};
 ghost use Rattle.probe_check.specs.Answer.{format_missing, has_number, frame_rows, given, check_of};
 
 use entities::Table;
-use rules::Verdict;
+use rules::{Refused, Verdict};
 use streaming_descriptors::Frame;
 
 // 42: the format number is not 1 to the number of formats.
 fn format_missing(number: u8, count: usize) -> bool
     ensures { result ≡ format_missing number count }
 {
-    if number == 0 {
-        return true;
-    }
-    count < le::wide(number)
+    number == 0 || count < le::wide(number)
 }
 
 // The frame has this number, of this format. Its descriptor lies within the block.
@@ -26,11 +24,7 @@ fn has_number(block: &[u8], format: u8, number: u8, f: Frame) -> bool
     requires { f.offset + 3 < length block.now }
     ensures { result ≡ has_number block.now format number f }
 {
-    if f.format != format {
-        return false;
-    }
-    let at = f.offset as usize;
-    block[at + 3] == number
+    f.format == format && block[f.offset as usize + 3] == number
 }
 
 // 44 to 46, with the frame whose descriptor stands at `at`.
@@ -50,13 +44,13 @@ fn check_frame(block: &[u8], at: usize, asked: &[u8]) -> Verdict
     if sizes::payload_size_broken(payload_size) {
         return refused(46);
     }
-    Verdict::Accepted
+    Ok(())
 }
 
 fn refused(number: u8) -> Verdict
-    ensures { result ≡ Verdict.Refused number 0 }
+    ensures { result ≡ refuse number 0 }
 {
-    Verdict::Refused { number, offset: 0 }
+    Err(Refused { number, offset: 0 })
 }
 
 // Checks a probe block against a streaming block and its entity table: 41, the streaming block's own refusal, then 42 to 46.
@@ -69,8 +63,8 @@ pub fn check(table: Table, block: &[u8], asked: &[u8]) -> Verdict
     }
     let a = streaming::read(table, block);
     let verdict = a.verdict;
-    if let Verdict::Refused { number, offset } = verdict {
-        return Verdict::Refused { number, offset };
+    if let Err(Refused { number, offset }) = verdict {
+        return Err(Refused { number, offset });
     }
     let format = asked[2];
     if format_missing(format, a.format_count) {
@@ -78,14 +72,12 @@ pub fn check(table: Table, block: &[u8], asked: &[u8]) -> Verdict
     }
     let number = asked[3];
     let n = a.frame_count;
-    let mut i: usize = 0;
-    while i < n {
+    for i in 0..n {
         let f = a.frames[i];
         if has_number(block, format, number, f) {
             let at = f.offset as usize;
             return check_frame(block, at, asked);
         }
-        i = i + 1;
     }
     refused(43)
 }

@@ -1,21 +1,23 @@
 -- One record, all records of a slice, and a read.
-use Prim.Native.Nat.{ℕ, ◌+◌, ◌-◌, ◌*◌, ◌≤◌, ◌<◌}
+use Rattle.session_rules.specs.Options.{Closing}
+use Prim.Native.Nat.{ℕ, min, ◌+◌, ◌-◌, ◌*◌, ◌≤◌, ◌<◌}
 use mathlib.Core.Path.{◌≡◌, refl, sym, ap, subst, ◌∙◌}
 use mathlib.Core.Bool.{Bool, true, false, ◌||◌, true≢false}
 use mathlib.Core.List.{List, [], ◌∷◌, ◌++◌}
 use native.Mathlib.Omega.{arith}
-use lib.ListN.{length, take, drop, length-drop}
+use lib.ListN.{length, take, drop, length-append}
 use lib.Seq.{paste-zero}
 use Rattle.rules.proofs.Rows.{or-second}
+use Rattle.rules.proofs.Lists.{no-elements}
+use Rattle.rules.proofs.Chunks.{chunk-whole}
 use Rattle.text.specs.Put.{Put}
 use Rattle.text.proofs.Puts.{then}
-use Rattle.cuts.specs.Cuts.{cut_of, next_of}
-use Rattle.cuts.proofs.Walk.{Next, next-is}
+use Rattle.cuts.specs.Cuts.{cut_of}
+use Rattle.cuts.proofs.Walk.{chunk-first}
 use Rattle.session_rules.specs.Accounts.{number_count}
 use Rattle.session_rules.specs.declared.Rest.{Rest}
 use Rattle.session_rules.specs.declared.Session.{Session}
 use Rattle.session_rules.specs.declared.Outcome.{Outcome}
-use Rattle.session_rules.specs.declared.Closing.{Closing}
 use Rattle.session.specs.Inner.{whole_of}
 use Rattle.session_rules.specs.Call.{Ask}
 use Rattle.records.specs.declared.Form.{Form}
@@ -124,18 +126,14 @@ module _ (w : Show) (c : Counted) (old : List ℕ) (at : ℕ) where
 pub begins : (o : Opening) (b : trace-begun.Begun) → b ≡ trace.begin_of o → record { replay = replay_of b.trace no_lines; start = b.start } ≡ begin_of o
 begins o b e = ap (λ (y : trace-begun.Begun). record { replay = replay_of y.trace no_lines; start = y.start }) e
 
--- ---- the records of a slice, one by one
-pub record Following (f : Form) (w : Show) (p : Replay) (records old : List ℕ) (start : ℕ) (rest : Rest) (m : List ℕ) (c : Counted) (at from : ℕ) (new : List ℕ) : Type 0 where
+-- ---- the records of a slice, one by one: `left` is what is left of the bytes
+pub record Following (f : Form) (w : Show) (p : Replay) (records old : List ℕ) (start : ℕ) (rest : Rest) (m : List ℕ) (c : Counted) (at : ℕ) (left new : List ℕ) : Type 0 where
   pub text : List ℕ
-  pub leads : over f w (out_of (replay_of (good_with rest m) c) text) (cut_of (size_of f) (drop from records)) ≡ over f w (out_of p []) (cut_of (size_of f) records)
+  pub leads : over f w (out_of (replay_of (good_with rest m) c) text) (cut_of (size_of f) left) ≡ over f w (out_of p []) (cut_of (size_of f) records)
   pub put : Put old start text at new
-  pub within : from ≤ length records
-  pub whole : from < length records → at ≤ start + 3 * from
+  pub whole : 0 < length left → at + 3 * length left ≤ start + 3 * length records
   pub most : at ≤ start + room_for (length records)
   pub places : length m ≡ number_count
-
-pub ends_at : (f : Form) (size from len end : ℕ) → size ≡ size_of f → end ≡ next_of size from len → end ≡ next_of (size_of f) from len
-ends_at f size from len end e q = q ∙ ap (λ (n : ℕ). next_of n from len) e
 
 good-state : (z : State) → is_decided z ≡ false → z ≡ Good
 good-state Good e = refl
@@ -146,74 +144,71 @@ pub positive : (f : Form) → 0 < size_of f
 positive f = omega (arith, size-least f)
 
 module _ (f : Form) (w : Show) (records old : List ℕ) (start : ℕ) where
-  pub follow-begins : (rest : Rest) (m : List ℕ) (c : Counted) → start + room_for (length records) ≤ length old → length m ≡ number_count
-      → Following f w (replay_of (good_with rest m) c) records old start rest m c start 0 old
-  follow-begins rest m c room l = record {
+  pub follow-begins : (rest : Rest) (m : List ℕ) (c : Counted) (left : List ℕ) → left ≡ records → start + room_for (length records) ≤ length old → length m ≡ number_count
+      → Following f w (replay_of (good_with rest m) c) records old start rest m c start left old
+  follow-begins rest m c left e room l = record {
     text = [];
-    leads = refl;
+    leads = ap (λ (l : List ℕ). over f w (out_of (replay_of (good_with rest m) c) []) (cut_of (size_of f) l)) e;
     put = put-nothing old start (omega arith);
-    within = omega arith;
-    whole = λ h. omega arith;
+    whole = λ h. omega (arith, ap length e);
     most = omega arith;
     places = l;
   }
 
-  module _ (p : Replay) (rest : Rest) (m : List ℕ) (c : Counted) (at from : ℕ) (mid : List ℕ) (on : Following f w p records old start rest m c at from mid) where
-    pub follow-room : from < length records → start + room_for (length records) ≤ length old → at + two_lines ≤ length mid
+  module _ (p : Replay) (rest : Rest) (m : List ℕ) (c : Counted) (at : ℕ) (left mid : List ℕ) (on : Following f w p records old start rest m c at left mid) where
+    pub follow-room : 0 < length left → start + room_for (length records) ≤ length old → at + two_lines ≤ length mid
     follow-room h room = omega (arith, on.whole h, on.put.size)
 
-    pub follow-ends : length records ≤ from → Ran f w p records old start (record { replay = replay_of (good_with rest m) c; at = at }) mid
+    pub follow-ends : length left ≡ 0 → Ran f w p records old start (record { replay = replay_of (good_with rest m) c; at = at }) mid
     unfolding cut_of
     follow-ends h = record {
       text = on.text;
-      leads = sym (ap (λ (l : List ℕ). over f w (out_of (replay_of (good_with rest m) c) on.text) (cut_of (size_of f) l)) (nothing (drop from records) (omega (arith, length-drop from records)))) ∙ on.leads;
+      leads = sym (ap (λ (l : List ℕ). over f w (out_of (replay_of (good_with rest m) c) on.text) (cut_of (size_of f) l)) (no-elements left h)) ∙ on.leads;
       put = on.put;
       most = on.most;
     }
-      where
-        nothing : (l : List ℕ) → length l ≡ 0 → l ≡ []
-        nothing [] e = refl
-        nothing (y ∷ l) e = absurd (omega arith)
 
-    module _ (h : from < length records) (end : ℕ) (e : end ≡ next_of (size_of f) from (length records)) where
-      pub next_here : Next (size_of f) records from end
-      next_here = subst (Next (size_of f) records from) (sym e) (next-is (size_of f) (positive f) records from h)
+    module _ (size : ℕ) (this more : List ℕ) (q : size ≡ size_of f) (e : left ≡ this ++ more) (long : length this ≡ min size (length left)) (h : 0 < length left) where
+      both : length left ≡ length this + length more
+      both = ap length e ∙ length-append this more
 
-      abbrev this : List ℕ
-      this = take (end - from) (drop from records)
+      n : length this ≡ min (size_of f) (length left)
+      n = long ∙ ap (λ (k : ℕ). min k (length left)) q
+
+      first : cut_of (size_of f) left ≡ this ∷ cut_of (size_of f) more
+      first = chunk-first (size_of f) left this more (positive f) e n h
 
       module _ (rest' : Rest) (m' : List ℕ) (z : State) (d : Counted) (k : ℕ) (new : List ℕ)
           (step : replay_of (record { session = whole_of rest' m'; state = z }) d ≡ step_of f w (good_with rest m) c this)
           (put : Put mid at (text_of f w (good_with rest m) c this) k new) (small : k ≤ at + two_lines) (x : Bool) (tested : x ≡ is_decided z) where
-        abbrev q : Trace
-        q = record { session = whole_of rest' m'; state = z }
+        abbrev t : Trace
+        t = record { session = whole_of rest' m'; state = z }
 
         abbrev text' : List ℕ
         text' = on.text ++ text_of f w (good_with rest m) c this
 
-        leads' : over f w (out_of (replay_of q d) text') (cut_of (size_of f) (drop end records)) ≡ over f w (out_of p []) (cut_of (size_of f) records)
+        leads' : over f w (out_of (replay_of t d) text') (cut_of (size_of f) more) ≡ over f w (out_of p []) (cut_of (size_of f) records)
         leads' =
-            ap (λ (y : Replay). over f w (out_of y text') (cut_of (size_of f) (drop end records))) step
-            ∙ sym (ap (over f w (out_of (replay_of (good_with rest m) c) on.text)) next_here.cut) ∙ on.leads
+            ap (λ (y : Replay). over f w (out_of y text') (cut_of (size_of f) more)) step
+            ∙ sym (ap (over f w (out_of (replay_of (good_with rest m) c) on.text)) first) ∙ on.leads
 
         bounded : k ≤ start + room_for (length records)
         bounded = omega (arith, small, on.whole h)
 
-        pub follow-decides : x ≡ true → Ran f w p records old start (record { replay = replay_of q d; at = k }) new
+        pub follow-decides : x ≡ true → Ran f w p records old start (record { replay = replay_of t d; at = k }) new
         follow-decides b = record {
           text = text';
-          leads = sym (decided-stays f w (cut_of (size_of f) (drop end records)) (replay_of q d) text' (sym tested ∙ b)) ∙ leads';
+          leads = sym (decided-stays f w (cut_of (size_of f) more) (replay_of t d) text' (sym tested ∙ b)) ∙ leads';
           put = then on.put put;
           most = bounded;
         }
 
-        pub follow-on : x ≡ false → Following f w p records old start rest' m' d k end new
+        pub follow-on : x ≡ false → Following f w p records old start rest' m' d k more new
         follow-on b = record {
           text = text';
-          leads = ap (λ (y : State). over f w (out_of (replay_of (record { session = whole_of rest' m'; state = y }) d) text') (cut_of (size_of f) (drop end records))) (sym (good-state z (sym tested ∙ b))) ∙ leads';
+          leads = ap (λ (y : State). over f w (out_of (replay_of (record { session = whole_of rest' m'; state = y }) d) text') (cut_of (size_of f) more)) (sym (good-state z (sym tested ∙ b))) ∙ leads';
           put = then on.put put;
-          within = next_here.within;
-          whole = λ g. omega (arith, small, on.whole h, next_here.whole g, size-least f);
+          whole = λ g. omega (arith, small, on.whole h, both, chunk-whole (size_of f) left this more e n g, size-least f);
           most = bounded;
           places = ap (λ (y : Replay). length y.trace.session.numbers) step ∙ step-sized f (whole_of rest m) on.places this;
         }

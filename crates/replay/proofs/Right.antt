@@ -1,4 +1,5 @@
 -- THE LINES ARE THE RULE'S: those of the frames that ended by the calls of the good records, for every trace, with frames that end by EOF.
+use Rattle.std.specs.Prelude.{None}
 use Prim.Native.Nat.{ℕ, zero, suc, ◌+◌, ◌≤◌, ◌<◌, ◌^◌}
 use mathlib.Core.Path.{◌≡◌, refl, sym, ap, ◌∙◌}
 use mathlib.Core.Bool.{Bool, true, false, cond, ◌||◌}
@@ -9,7 +10,6 @@ use Rattle.rules.specs.Numbered.{or_else}
 use Rattle.sizes.specs.declared.Opening.{Opening}
 use Rattle.sizes.specs.Framing.{by_eof}
 use Rattle.sizes.specs.Sizes.{sizes_broken}
-use Rattle.session_rules.specs.declared.Stamp.TheVariants.{Absent}
 use Rattle.session_rules.specs.Entry.{Entry}
 use Rattle.session_rules.specs.declared.Session.{Session}
 use Rattle.session_rules.specs.Session.{fresh}
@@ -227,8 +227,8 @@ module _ (f : Form) (w : Show) (o : Opening) (sizes : sizes_broken o ≡ false) 
 
   words : (v : Show) (es : List Ending) → 1 + length es < 2 ^ 64 → lines_in v no_lines es ≡ shown v es
   words Nothing es h = no_lines_lem es no_lines
-  words Replay es h = replay-lines es 1 Absent h
-  words Frames es h = frame-lines es 1 Absent h
+  words Replay es h = replay-lines es 1 None h
+  words Frames es h = frame-lines es 1 None h
 
   -- THE LINES of a trace
   pub lines-right : (rs : List (List ℕ)) → (over f w (out_of (new_replay o) []) rs).text ≡ lines_of w o (map (record_call f) (good_records f rs))

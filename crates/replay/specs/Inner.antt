@@ -1,8 +1,7 @@
 -- What the contracts cite: record by record, the trace, the lines and the count. Nothing here needs to be believed: ledger_text's Print says in words what is printed.
-use Rattle.std.specs.Prelude.{ℕ, ◌+◌, ◌-◌, ◌*◌, ◌%◌, ◌≤◌, ◌≡◌, List, [], ◌∷◌, ◌++◌, length, take, drop, Bool, true, false}
+use Rattle.std.specs.Prelude.{ℕ, ◌+◌, ◌-◌, ◌*◌, ◌%◌, ◌≤◌, ◌≡◌, List, [], ◌∷◌, ◌++◌, length, take, drop, Bool, true, false, None}
 use Rattle.std.proofs.Math.Seq.{paste}
 use Rattle.sizes.specs.declared.Opening.{Opening}
-use Rattle.session_rules.specs.declared.Stamp.TheVariants.{Absent}
 use Rattle.session_rules.specs.declared.Rest.{Rest}
 use Rattle.session_rules.specs.declared.Session.{Session}
 use Rattle.records.specs.declared.Form.{Form}
@@ -29,7 +28,7 @@ use Rattle.cuts.specs.Cuts.{cut_of, After, least_of}
 
 -- the first line has number 1, and there is no step before it
 abbrev pub no_lines : Counted
-no_lines = record { number = 1; last = Absent }
+no_lines = record { number = 1; last = None }
 
 abbrev pub replay_of : Trace → Counted → Replay
 replay_of t c = record { trace = t; counted = c }

@@ -9,10 +9,10 @@ ghost use Rattle.frame_lines.specs.Inner.{lines_in, counted_all};
 ghost use Rattle.trace.specs.Trace.{good_of};
 ghost use Rattle.replay.specs.Inner.{replay_of, begin_of, tell_said, Fits, two_lines, room_for, read_room, is_silent, Ran, Rested, Fed};
 
-use endings::{Endings, Told};
+use endings::Endings;
 use frame_lines::{Counted, Lines, Show};
 use records::Form;
-use session_rules::{Rest, Session, Stamp, Start};
+use session_rules::{Rest, Session, Start};
 use sizes::Opening;
 use trace::{Said, State, Trace};
 
@@ -23,7 +23,7 @@ pub struct Replay {
     pub counted: Counted,
 }
 
-// A replay of no records, and what opening its session answered: 45 or 46 where it is refused.
+// A replay of no records, and what opening its session answered: 45 or 46 where it is refused. (No Result: the replay is there then too, by `begin_of`.)
 #[derive(Drop)]
 pub struct Begun {
     pub replay: Replay,
@@ -63,7 +63,7 @@ pub fn new(o: Opening) -> Begun
             trace,
             counted: Counted {
                 number: 1,
-                last: Stamp::Absent,
+                last: None,
             },
         },
         start,
@@ -77,8 +77,8 @@ fn told(form: Form, before: Rest, r: &[u8], said: Said) -> Endings
 {
     match said {
         Said::Nothing => Endings {
-            first: Told::Nothing,
-            second: Told::Nothing,
+            first: None,
+            second: None,
         },
         Said::Transfer(outcome) => {
             let from = form.head();
@@ -93,11 +93,7 @@ fn told(form: Form, before: Rest, r: &[u8], said: Said) -> Endings
 fn is_silent(show: Show) -> bool
     ensures { result ≡ is_silent show }
 {
-    match show {
-        Show::Nothing => true,
-        Show::Replay => false,
-        Show::Frames => false,
-    }
+    matches!(show, Show::Nothing)
 }
 
 // Their lines. Where none is printed, nothing is asked.
@@ -139,21 +135,10 @@ fn follow(
     let mut rest = s.rest;
     let mut counted = c;
     let mut at = start;
-    let mut from = 0;
-    while from < records.len() {
-        let end = cuts::next(form.size(), from, records.len());
-        let going = trace::step(form, rest, &mut numbers, &records[from..end]);
+    for record in records.chunks(form.size()) {
+        let going = trace::step(form, rest, &mut numbers, record);
         let said = going.said;
-        let lines = put_lines(
-            form,
-            show,
-            rest,
-            &records[from..end],
-            said,
-            counted,
-            out,
-            at,
-        );
+        let lines = put_lines(form, show, rest, record, said, counted, out, at);
         rest = going.rest;
         counted = lines.counted;
         at = lines.at;
@@ -170,7 +155,6 @@ fn follow(
                 at,
             };
         }
-        from = end;
     }
     Lined {
         replay: Replay {

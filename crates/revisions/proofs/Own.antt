@@ -1,4 +1,5 @@
 -- An accepted block has one revision, and shows what that says.
+use Rattle.rules.specs.Verdicts.{accept, refuse}
 use Prim.Native.Nat.{ℕ, ◌+◌, ◌<◌}
 use mathlib.Core.Path.{◌≡◌, refl, sym, ap, ◌∙◌}
 use mathlib.Core.List.{List, []}
@@ -13,7 +14,6 @@ use Rattle.le.specs.Le.{byte, le16_at}
 use Rattle.rules.specs.IfElse.{if_else}
 use Rattle.rules.specs.Numbered.{NoneOf}
 use Rattle.rules.specs.Walk.{Reached.first}
-use Rattle.rules.specs.declared.Verdict.TheVariants.{Accepted, Refused}
 use Rattle.rules.proofs.Rows.{and_second}
 use Rattle.rules.proofs.Padded.{pad-at}
 use Rattle.blocks.specs.Blocks.{whole_rows}
@@ -151,7 +151,7 @@ controls-kind x t n h = go (ℕ_discrete x input_terminal) (ℕ_discrete x proce
     go (no a) (yes e) = inr (e, by-unit (rw e at h))
     go (no a) (no b) = absurd (only-these t x a b n h)
 
-map-by : (s : List ℕ) (c : Control) → ControlIs s c → (id : ℕ) (m : Map) → MapIs s id m → m.verdict ≡ Accepted → MapBy (revision_of s) s c.table id m
+map-by : (s : List ℕ) (c : Control) → ControlIs s c → (id : ℕ) (m : Map) → MapIs s id m → m.verdict ≡ accept → MapBy (revision_of s) s c.table id m
 map-by s c r id m q a = rw u.bytes (⊎_elim camera-map unit-map (controls-kind e.kind e.terminal u.place u.mapped.has))
   where
     u : MappedAt s id m
@@ -176,7 +176,7 @@ map-by s c r id m q a = rw u.bytes (⊎_elim camera-map unit-map (controls-kind 
     unit-map k = rw k.1 (of-unit e there k.0 (unit-by s _ e w k.0))
 
 -- ---- the whole
-module _ (s : List ℕ) (c : Control) (r : ControlIs s c) (a : c.verdict ≡ Accepted) where
+module _ (s : List ℕ) (c : Control) (r : ControlIs s c) (a : c.verdict ≡ accept) where
   sound : Sound s
   sound = (accepted s c r).0 a
 
@@ -207,7 +207,7 @@ module _ (s : List ℕ) (c : Control) (r : ControlIs s c) (a : c.verdict ≡ Acc
           probe-written = λ p room h. let k = write-whole c.table.revision p room _ (rw (← size) h) refl in (sym k.0, rw size (sym k.1));
           probe-unwritten = λ p room h. let k = write-short c.table.revision p room (rw (← size) h) in (sym k.0, sym k.1);
           probe-long = λ b p h. ((says-yes c.table b p).0 h).read.whole ∙ ap (λ (v : Revision). (says_of v).probe) z;
-          probe-41 = λ b p n. sym (check-41 c.table b p (Refused 41 0) (λ e. n (e ∙ ap (λ (v : Revision). (says_of v).probe) z)) refl);
+          probe-41 = λ b p n. sym (check-41 c.table b p (refuse 41 0) (λ e. n (e ∙ ap (λ (v : Revision). (says_of v).probe) z)) refl);
         },
       )
 

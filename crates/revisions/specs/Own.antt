@@ -1,7 +1,7 @@
 -- Document 02, Four: WHAT AN ACCEPTED BLOCK SHOWS IS WHAT ITS OWN REVISION SAYS, once over the three revisions. `s` is the control block, `v` its revision.
+use Rattle.rules.specs.Verdicts.{accept, refuse}
 use Rattle.std.specs.Prelude.{ℕ, ◌+◌, ◌≤◌, ◌<◌, ◌≡◌, List, ◌++◌, true, length, take, drop}
 use Rattle.le.specs.Le.{byte, le16_at}
-use Rattle.rules.specs.declared.Verdict.TheVariants.{Accepted, Refused}
 use Rattle.entities.specs.Revisions.{says_of}
 use Rattle.entities.specs.Table.{input_terminal, processing_unit, encoding_unit, entity_at}
 use Rattle.entities.specs.declared.Entity.{Entity}
@@ -58,14 +58,14 @@ pub record Shows (v : Revision) (s : List ℕ) (c : Control) : Type 0 where
   pub bytes : le16_at s 3 ≡ bcd_of v
   pub table : c.table.revision ≡ v
   pub entities : (i : ℕ) → i < c.table.count → EntityBy v s (entity_at c.table.entities i)
-  pub map : (id : ℕ) (m : Map) → MapIs s id m → m.verdict ≡ Accepted → MapBy v s c.table id m
+  pub map : (id : ℕ) (m : Map) → MapIs s id m → m.verdict ≡ accept → MapBy v s c.table id m
   -- a probe block is read by that revision, as the table carries it: its size, 26, 34 or 48, and the fields that it has, the others 0
-  pub probe-read : (p : List ℕ) → length p ≡ (says_of v).probe → probe_of c.table.revision p ≡ record { verdict = Accepted; probe = kept_in v (fields_of p) }
-  pub probe-unread : (p : List ℕ) → (length p ≡ (says_of v).probe → ⊥) → probe_of c.table.revision p ≡ record { verdict = Refused 41 0; probe = no_fields }
+  pub probe-read : (p : List ℕ) → length p ≡ (says_of v).probe → probe_of c.table.revision p ≡ record { verdict = accept; probe = kept_in v (fields_of p) }
+  pub probe-unread : (p : List ℕ) → (length p ≡ (says_of v).probe → ⊥) → probe_of c.table.revision p ≡ record { verdict = refuse 41 0; probe = no_fields }
   -- and written: so many bytes and no other, none where there is room for fewer
   pub probe-written : (p : Probe) (room : List ℕ) → (says_of v).probe ≤ length room
-      → (room_verdict c.table.revision room ≡ Accepted) × (written c.table.revision p room ≡ take (says_of v).probe (bytes_of p) ++ drop (says_of v).probe room)
-  pub probe-unwritten : (p : Probe) (room : List ℕ) → length room < (says_of v).probe → (room_verdict c.table.revision room ≡ Refused 41 0) × (written c.table.revision p room ≡ room)
+      → (room_verdict c.table.revision room ≡ accept) × (written c.table.revision p room ≡ take (says_of v).probe (bytes_of p) ++ drop (says_of v).probe room)
+  pub probe-unwritten : (p : Probe) (room : List ℕ) → length room < (says_of v).probe → (room_verdict c.table.revision room ≡ refuse 41 0) × (written c.table.revision p room ≡ room)
   -- and checked
-  pub probe-long : (b p : List ℕ) → check_of c.table b p ≡ Accepted → length p ≡ (says_of v).probe
-  pub probe-41 : (b p : List ℕ) → (length p ≡ (says_of v).probe → ⊥) → check_of c.table b p ≡ Refused 41 0
+  pub probe-long : (b p : List ℕ) → check_of c.table b p ≡ accept → length p ≡ (says_of v).probe
+  pub probe-41 : (b p : List ℕ) → (length p ≡ (says_of v).probe → ⊥) → check_of c.table b p ≡ refuse 41 0

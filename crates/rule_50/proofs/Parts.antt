@@ -1,4 +1,6 @@
 -- Rule 50 of a record in two parts: the rest, with the frame under way, and the lent numbers.
+use Rattle.std.specs.Prelude.{None}
+use Rattle.session_rules.specs.Options.{Stamp}
 use Prim.Native.Nat.{ℕ, ◌≤◌, ◌<◌}
 use mathlib.Core.Path.{◌≡◌, refl, sym, ◌∙◌}
 use mathlib.Core.List.{List}
@@ -10,8 +12,6 @@ use lib.Dec.{eqb}
 use borrow.Author.Tests.{eq-eqb, ne_eqb}
 use Rattle.rules.specs.Numbered.{any_below}
 use Rattle.rules.proofs.Rows.{or-first, or-second, any_none, none_any}
-use Rattle.session_rules.specs.declared.Stamp.{Stamp}
-use Rattle.session_rules.specs.declared.Stamp.TheVariants.{Absent}
 use Rattle.session_rules.specs.declared.Phase.{Phase}
 use Rattle.session_rules.specs.declared.Ledger.{Ledger}
 use Rattle.session_rules.specs.Ledger.{shown_of}
@@ -47,7 +47,7 @@ module _ (l : List ℕ) (last : Stamp) (p : Phase) (n : ℕ) (places : length l 
   abbrev shown : Ledger
   shown = shown_of (ledger_with l last) p
 
-  as-posted : (k : ℕ) → (k ≡ under_at → ⊥) → account_broken shown n k ≡ account_broken (ledger_with l Absent) n k
+  as-posted : (k : ℕ) → (k ≡ under_at → ⊥) → account_broken shown n k ≡ account_broken (ledger_with l None) n k
   as-posted k h = let q = shown-account (ledger_with l last) p k h in rw (q.0, q.1)
 
   under-way : account_broken shown n under_at ≡ under_broken p n
@@ -65,7 +65,7 @@ module _ (l : List ℕ) (last : Stamp) (p : Phase) (n : ℕ) (places : length l 
             where
               go : Dec (k ≡ under_at) → posted_account l n k ≡ false
               go (yes e) = rw (eq-eqb k under_at e)
-              go (no e) = and_none (not (eqb k under_at)) (account_broken (ledger_with l Absent) n k) (sym (as-posted k e) ∙ none_any account_count (account_broken shown n) h k q)
+              go (no e) = and_none (not (eqb k under_at)) (account_broken (ledger_with l None) n k) (sym (as-posted k e) ∙ none_any account_count (account_broken shown n) h k q)
 
       back : (under_broken p n || any_below account_count (posted_account l n)) ≡ false → any_below account_count (account_broken shown n) ≡ false
       back h = any_none account_count (account_broken shown n) each
@@ -79,7 +79,7 @@ module _ (l : List ℕ) (last : Stamp) (p : Phase) (n : ℕ) (places : length l 
                   as-posted k e
                   ∙ (let z : posted_account l n k ≡ false = none_any account_count (posted_account l n) (or-second (under_broken p n) (any_below account_count (posted_account l n)) h) k q in rw (ne_eqb k under_at e) at z)
 
-  counts-parts : counts_broken shown n ≡ counts_broken (ledger_with l Absent) n
+  counts-parts : counts_broken shown n ≡ counts_broken (ledger_with l None) n
   unfolding counts_broken
   counts-parts =
       rw (other ticks_at (omega arith), other lost_at (omega arith), other idle_at (omega arith), other backward_at (omega arith), other untimed_at (omega arith))
@@ -93,4 +93,4 @@ pub record-parts : (o : Opening) (p : Phase) (l : List ℕ) (last : Stamp) (n : 
 unfolding rule50 rest_broken posted_broken
 record-parts o p l last n places =
     rw (accounts-parts l last p n places, counts-parts l last p n places)
-    (moved (sizes_broken o) (fill_broken p o.frame) (under_broken p n) (any_below account_count (posted_account l n)) (counts_broken (ledger_with l Absent) n))
+    (moved (sizes_broken o) (fill_broken p o.frame) (under_broken p n) (any_below account_count (posted_account l n)) (counts_broken (ledger_with l None) n))

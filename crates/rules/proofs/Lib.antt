@@ -1,6 +1,7 @@
 -- The laws that every reader cites.
 pub mod Asked
 pub mod Rows
+pub mod Kept
 pub mod Ladder
 pub mod Firsts
 pub mod Places
@@ -10,3 +11,4 @@ pub mod Walks
 pub mod Passing
 pub mod Verdicts
 pub mod Lists
+pub mod Chunks

@@ -1,5 +1,5 @@
 -- Numbered rules, as rows.
-use Rattle.std.specs.Prelude.{ℕ, zero, suc, ◌≡◌, List, [], ◌∷◌, Bool, true, false, ◌||◌, eqb}
+use Rattle.std.specs.Prelude.{ℕ, zero, suc, ◌≡◌, List, [], ◌∷◌, Bool, true, false, ◌||◌, eqb, Result, Ok, Err}
 use Rattle.rules.specs.IfElse.{if_else}
 
 -- A rule with its number, and whether it is broken. Rules stand in a list in the order in which they are checked, whatever their numbers.
@@ -18,6 +18,11 @@ or_else false k r = r
 abbrev pub first_row : List Row → ℕ
 first_row [] = 0
 first_row (r ∷ rs) = or_else r.broken r.number (first_row rs)
+
+-- as code answers it: Ok where none is broken, else the number of the first that is
+abbrev pub kept : ℕ → Result (Unit {0}) ℕ
+kept zero = Ok tt
+kept (suc k) = Err (suc k)
 
 -- number k is given: its row is broken and no earlier one is
 pub data Given : List Row → ℕ → Type 0 where

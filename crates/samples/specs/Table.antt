@@ -1,6 +1,6 @@
 -- Document 01, "Samples on both sides": those marked P, about the definitions that the contracts cite.
+use Rattle.rules.specs.Verdicts.{accept}
 use Rattle.std.specs.Prelude.{ℕ, ◌≡◌, List, [], ◌∷◌, ◌++◌, map, replicate}
-use Rattle.rules.specs.declared.Verdict.TheVariants.{Accepted}
 use Rattle.entities.specs.Table.{no_table}
 use Rattle.entities.specs.declared.Revision.TheVariants.{R15}
 use Rattle.control.specs.Answer.{ControlIs, refused_by}
@@ -48,7 +48,7 @@ printed = 1 ∷ 3 ∷ 1 ∷ 2 ∷ 0 ∷ 0 ∷ 0 ∷ 0 ∷ 0 ∷ 0 ∷ 1 ∷ 1 �
 
 pub record Samples : Type 0 where
   -- 0C 24 01 50 01 0C 00 00 6C DC 02 00: accepted, no entities, 48,000,000 Hz
-  pub header-alone : ControlIs (header 0x0C) (record { verdict = Accepted; table = record { count = 0; entities = no_table.entities; clock = 48_000_000; revision = R15 } })
+  pub header-alone : ControlIs (header 0x0C) (record { verdict = accept; table = record { count = 0; entities = no_table.entities; clock = 48_000_000; revision = R15 } })
   -- byte 5 as 0x13, then 07 24 04 05 01 05 00: 15 at 12; source 06 instead: 13 at 12
   pub names-itself : ControlIs (header 0x13 ++ selector 0x05) (refused_by 15 12)
   pub names-nothing : ControlIs (header 0x13 ++ selector 0x06) (refused_by 13 12)

@@ -3,7 +3,6 @@
 
 mod sending;
 
-use arguments::Number;
 use console::{print, words};
 use std::rt::Runtime;
 use trace_arguments::Word;
@@ -16,7 +15,7 @@ fn wrong() {
 }
 
 // Argument `which` as a number up to `most`.
-fn number(rt: &impl Runtime, which: usize, most: u32) -> Number {
+fn number(rt: &impl Runtime, which: usize, most: u32) -> Option<u32> {
     let mut text = [0u8; 32];
     let n = words::word(rt, which, &mut text);
     arguments::read(&text[..n], most)
@@ -61,7 +60,7 @@ fn is_file(word: &[u8]) -> bool {
 }
 
 fn stamped(rt: &impl Runtime, payload: usize, count: usize) {
-    let Number::Is(ticks) = number(rt, 3, u32::MAX) else {
+    let Some(ticks) = number(rt, 3, u32::MAX) else {
         wrong();
         return;
     };

@@ -101,9 +101,9 @@ fn close<R: Print>(rt: &R, out: &mut [u8])
 
 fn stamp_of(stamped: bool, ticks: u32) -> Stamp {
     if stamped {
-        return Stamp::At(ticks);
+        return Some(ticks);
     }
-    Stamp::Absent
+    None
 }
 
 fn is_sent(went: Went) -> bool {
@@ -137,11 +137,9 @@ fn frames(
     let mut x = Sender::new();
     let mut stamp: u32 = 0;
     for i in first..count {
-        let file = files::load(rt, i, buffer);
-        if !file.fine {
+        let Some(n) = files::load(rt, i, buffer) else {
             return false;
-        }
-        let n = file.count;
+        };
         let went = one(
             rt,
             x,

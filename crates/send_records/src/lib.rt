@@ -31,11 +31,7 @@ pub fn next(
 fn is_wrote(sending: Sending) -> bool
     ensures { result ≡ is_wrote sending }
 {
-    match sending {
-        Sending::Refused(_) => false,
-        Sending::Done => false,
-        Sending::Wrote(_) => true,
-    }
+    matches!(sending, Sending::Wrote(_))
 }
 
 fn size_in(sending: Sending) -> usize

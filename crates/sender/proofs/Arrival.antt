@@ -1,4 +1,6 @@
 -- THE CLAIM, call by call.
+use Rattle.std.specs.Prelude.{None}
+use Rattle.session_rules.specs.Options.{Stamp}
 use Prim.Native.Nat.{ℕ, zero, suc, ◌+◌, ◌-◌, ◌≤◌, ◌<◌, min}
 use mathlib.Core.Path.{◌≡◌, refl, sym, ap, subst, ◌∙◌}
 use mathlib.Core.Bool.{Bool, true, false, cond, not, beq}
@@ -13,13 +15,9 @@ use Rattle.sizes.specs.Framing.{by_eof}
 use Rattle.sizes.specs.Sizes.{payload_most, frame_size_broken, payload_size_broken, sizes_broken}
 use Rattle.sizes.proofs.Limits.{payload-sound}
 use Rattle.session_rules.specs.declared.Header.{Header}
-use Rattle.session_rules.specs.declared.Stamp.{Stamp}
-use Rattle.session_rules.specs.declared.Layer.{Layer}
 use Rattle.session_rules.specs.declared.Reading.{Reading}
 use Rattle.session_rules.specs.declared.Reading.TheVariants.{Idle, Unreadable, Readable}
 use Rattle.session_rules.specs.Transfer.{reading_of}
-use Rattle.session_rules.specs.declared.Fault.TheVariants.{Sound}
-use Rattle.session_rules.specs.declared.Ended.TheVariants.{Nothing}
 use Rattle.session_rules.specs.declared.Fate.{Fate}
 use Rattle.session_rules.specs.declared.Answer.{Answer}
 use Rattle.session_rules.specs.declared.Delivery.{Delivery}
@@ -175,7 +173,7 @@ module _ (o : Opening) (old : o.kind ≡ Old) (eof : by_eof o ≡ true) (sizes :
     last₁ = ap (last_run o) (sym (map_more ts t)) ∙ last-is (ts ++ (t ∷ [])) (vs ++ (v ∷ [])) seen₁ (plain-append vs (v ∷ []) z.plain plain₁)
 
     abbrev answer : Answer
-    answer = record { ended = cond (goes_on v.header (last_of (runs vs))) Nothing (turned_in o (last_of (runs vs))); fate = fate_on o (last_of (runs (vs ++ (v ∷ [])))) }
+    answer = record { ended = cond (goes_on v.header (last_of (runs vs))) None (turned_in o (last_of (runs vs))); fate = fate_on o (last_of (runs (vs ++ (v ∷ [])))) }
 
     -- what it answers
     outcome : (take_of at.session (length at.buffer) t).outcome ≡ Outcome.Taken answer
@@ -186,7 +184,7 @@ module _ (o : Opening) (old : o.kind ≡ Old) (eof : by_eof o ≡ true) (sizes :
         ∙ ap (λ (ds : List Call). outcome_of o ds t) z.list
         ∙ ap (λ (b : Bool). cond b (Outcome.Handed (out_of o (last_run o cs))) (Outcome.Taken (answer_of o cs t))) (no-hands (reading_of o t) cs)
         ∙ ap (λ (r : Reading). Outcome.Taken (answer_for r o cs t)) reads
-        ∙ (λ i. Outcome.Taken (record { ended = cond (goes_on v.header (p i)) Nothing (turned_in o (p i)); fate = fate_on o (last₁ i) }))
+        ∙ (λ i. Outcome.Taken (record { ended = cond (goes_on v.header (p i)) None (turned_in o (p i)); fate = fate_on o (last₁ i) }))
 
     -- and how it stands in the list
     stands : Stands (ks ++ (Ask.transfer t ∷ [])) (ts ++ (t ∷ [])) (vs ++ (v ∷ []))
@@ -237,7 +235,7 @@ module _ (o : Opening) (old : o.kind ≡ Old) (eof : by_eof o ≡ true) (sizes :
   kept-fate : (r : List Seen) → Opens r → fate_on o r ≡ Fate.Kept
   kept-fate r p = rw (stray-open r p, frame-open r p, closed-open r p, eof) refl
 
-  fated-one : (r : List Seen) (l : List ℕ) (s : Stamp) → frame_of o r ≡ r → closed o r ≡ true → fault o r ≡ Sound → first_stamp r ≡ s → last_layer r ≡ Layer.Absent → still_of r ≡ false → data_of r ≡ l → stray_of o r ≡ [] → 1 ≤ length l
+  fated-one : (r : List Seen) (l : List ℕ) (s : Stamp) → frame_of o r ≡ r → closed o r ≡ true → fault o r ≡ None → first_stamp r ≡ s → last_layer r ≡ None → still_of r ≡ false → data_of r ≡ l → stray_of o r ≡ [] → 1 ≤ length l
       → fate_on o r ≡ Fate.Delivered (delivery_of (record { load = l; stamp = s }))
   fated-one r l s e c q a y b d t n = rw (t, e, c, q, a, y, b, d, ne_eqb (length l) 0 (λ (z : length l ≡ 0). omega arith)) refl
 
@@ -276,7 +274,7 @@ module _ (o : Opening) (old : o.kind ≡ Old) (eof : by_eof o ≡ true) (sizes :
         )
 
   module _ (fid : Bool) (f : Frame) (w : Sendable o f) (vs : List Seen) (turns : Turns fid vs)
-      (calm : (h : Header) → h.fid ≡ fid → cond (goes_on h (last_of (runs vs))) Nothing (turned_in o (last_of (runs vs))) ≡ Nothing) where
+      (calm : (h : Header) → h.fid ≡ fid → cond (goes_on h (last_of (runs vs))) None (turned_in o (last_of (runs vs))) ≡ None) where
     abbrev s : Stamp
     s = f.stamp
 
@@ -293,7 +291,7 @@ module _ (o : Opening) (old : o.kind ≡ Old) (eof : by_eof o ≡ true) (sizes :
         go [] u = last-turned fid vs v [] turns u
         go (y ∷ us) u = last-turned fid vs y (us ++ (v ∷ [])) turns u
 
-    none-ended : (us : List Seen) → Uni fid us → (h : Header) → h.fid ≡ fid → cond (goes_on h (last_of (runs (vs ++ us)))) Nothing (turned_in o (last_of (runs (vs ++ us)))) ≡ Nothing
+    none-ended : (us : List Seen) → Uni fid us → (h : Header) → h.fid ≡ fid → cond (goes_on h (last_of (runs (vs ++ us)))) None (turned_in o (last_of (runs (vs ++ us)))) ≡ None
     none-ended [] u h e = rw (append-nil vs) (calm h e)
     none-ended (y ∷ us) u h e = rw (last-turned fid vs y us turns u, u.0, e, beq-self fid) refl
 
@@ -305,7 +303,7 @@ module _ (o : Opening) (old : o.kind ≡ Old) (eof : by_eof o ≡ true) (sizes :
         go (x ∷ l) a b c =
             let g : 1 ≤ o.payload - size_of f.stamp = omega arith in
             let r : List Seen = seens (length (x ∷ l)) p fid s (x ∷ l) in
-            let q : fault o r ≡ Sound = ap (λ (z : Stamp). fault_from o z false 0 r) (stamp-first o old eof p fid s (length l) x l) ∙ sound-all o old eof p fid s (length (x ∷ l)) 0 (x ∷ l) (omega arith) in
+            let q : fault o r ≡ None = ap (λ (z : Stamp). fault_from o z false 0 r) (stamp-first o old eof p fid s (length l) x l) ∙ sound-all o old eof p fid s (length (x ∷ l)) 0 (x ∷ l) (omega arith) in
             fated-one r (x ∷ l) s (frame-all o old eof p fid s (length (x ∷ l)) (x ∷ l)) (closed_all o old eof p fid s (length (x ∷ l)) (x ∷ l) a (omega arith) g) q
             (stamp-first o old eof p fid s (length l) x l) (layer-none o old eof p fid s (length (x ∷ l)) (x ∷ l)) refl (data-all o old eof p fid s (length (x ∷ l)) (x ∷ l) (omega arith) g)
             (stray-none o old eof p fid s (length (x ∷ l)) (x ∷ l)) a
@@ -406,7 +404,7 @@ module _ (o : Opening) (old : o.kind ≡ Old) (eof : by_eof o ≡ true) (sizes :
   -- ---- frame after frame
   module _ {A : Type 0} (g : Said → List ℕ → A) where
     abbrev Calm : Bool → List Seen → Type 0
-    Calm fid vs = (h : Header) → h.fid ≡ fid → cond (goes_on h (last_of (runs vs))) Nothing (turned_in o (last_of (runs vs))) ≡ Nothing
+    Calm fid vs = (h : Header) → h.fid ≡ fid → cond (goes_on h (last_of (runs vs))) None (turned_in o (last_of (runs vs))) ≡ None
 
     turned-calm : (fid : Bool) (f : Frame) (vs : List Seen) → Sendable o f → Turns fid vs → Turns (not fid) (vs ++ seen_in o.payload fid f) × Calm (not fid) (vs ++ seen_in o.payload fid f)
     turned-calm fid f vs w turns =

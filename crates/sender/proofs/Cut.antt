@@ -1,4 +1,6 @@
 -- The transfers of a frame: their data is the frame, every one but the last is full, and there is one.
+use Rattle.std.specs.Prelude.{None, Some}
+use Rattle.session_rules.specs.Options.{Stamp}
 use Prim.Native.Nat.{ℕ, zero, suc, ◌+◌, ◌-◌, ◌≤◌, min}
 use mathlib.Core.Path.{◌≡◌, refl, ap, ◌∙◌}
 use mathlib.Core.Bool.{Bool}
@@ -6,15 +8,13 @@ use mathlib.Core.List.{List, [], ◌∷◌, ◌++◌}
 use native.Mathlib.Omega.{arith}
 use lib.ListN.{length, take, drop, length-append, length-take, length-drop, take-append-drop}
 use lib.Seq.{length-take-le}
-use Rattle.session_rules.specs.declared.Stamp.{Stamp}
-use Rattle.session_rules.specs.declared.Stamp.TheVariants.{Absent, At}
 use Rattle.sender.specs.Header.{size_of, written}
 use Rattle.sender.specs.Transfers.{is_nil, cut_by, Full, data_in}
 use Rattle.sender.proofs.Writing.{header-length}
 
 strip : (fid eof : Bool) (s : Stamp) (d : List ℕ) → drop (size_of s) (written fid eof s ++ d) ≡ d
-strip fid eof Absent d = refl
-strip fid eof (At x) d = refl
+strip fid eof None d = refl
+strip fid eof (Some x) d = refl
 
 -- the data is the frame's, in order
 pub cut-data : (k p : ℕ) (fid : Bool) (s : Stamp) (l : List ℕ) → length l ≤ k → 1 ≤ p → data_in (size_of s) (cut_by k p fid s l) ≡ l

@@ -1,4 +1,6 @@
 -- The frames of the list are exactly the sent ones, each delivered with its length, its stamp and its bytes: from the rule alone.
+use Rattle.std.specs.Prelude.{None, Some}
+use Rattle.session_rules.specs.Options.{Layer, Stamp}
 use Prim.Native.Nat.{ℕ, zero, suc, ◌+◌, ◌-◌, ◌≤◌, ◌<◌, min}
 use mathlib.Core.Path.{◌≡◌, refl, sym, ap, subst, ◌∙◌}
 use mathlib.Core.Bool.{Bool, true, false, cond, not, ◌&&◌, ◌||◌, beq}
@@ -9,12 +11,8 @@ use borrow.Author.Tests.{le-ltb, eq-eqb, ne_eqb}
 use Rattle.sizes.specs.declared.Opening.{Opening}
 use Rattle.sizes.specs.declared.HeaderKind.TheVariants.{Old}
 use Rattle.sizes.specs.Framing.{by_eof}
-use Rattle.session_rules.specs.declared.Stamp.{Stamp}
-use Rattle.session_rules.specs.declared.Stamp.TheVariants.{Absent, At}
-use Rattle.session_rules.specs.declared.Layer.{Layer}
 use Rattle.session_rules.specs.declared.Reading.{Reading}
 use Rattle.session_rules.specs.Transfer.{reading_of}
-use Rattle.session_rules.specs.declared.Fault.TheVariants.{Sound}
 use Rattle.session_rules.specs.Call.{Call}
 use Rattle.books.specs.Rule.{Event, readable, event_by, events, is_open, Seen, spoiled, marks, readables, ahead, runs, eof_of, closes, frame_of, stray_of, closed, data_of, ◌or_stamp◌, first_stamp, ◌then_layer◌, last_layer, still_of, differs, fault_from, fault, judge, judged, nothing, frames_of, frames_by}
 use Rattle.sender.specs.Header.{size_of, written, meant, Stamped}
@@ -160,10 +158,10 @@ module _ (o : Opening) (old : o.kind ≡ Old) (eof : by_eof o ≡ true) where
         ap (λ (m : List ℕ). take p (x ∷ l) ++ m) (data-all k (drop p (x ∷ l)) (omega arith) g) ∙ take-append-drop p (x ∷ l)
 
     no-differ : (z : Stamp) → differs z z ≡ false
-    no-differ Absent = refl
-    no-differ (At x) = rw (eq-eqb x x refl) refl
+    no-differ None = refl
+    no-differ (Some x) = rw (eq-eqb x x refl) refl
 
-    pub sound-all : (k n : ℕ) (l : List ℕ) → n + length l ≤ o.frame → fault_from o s false n (seens k p fid s l) ≡ Sound
+    pub sound-all : (k n : ℕ) (l : List ℕ) → n + length l ≤ o.frame → fault_from o s false n (seens k p fid s l) ≡ None
     sound-all zero n l h = refl
     sound-all (suc k) n [] h = refl
     sound-all (suc k) n (x ∷ l) h =
@@ -203,25 +201,25 @@ module _ (o : Opening) (old : o.kind ≡ Old) (eof : by_eof o ≡ true) where
         go [] f = rw (last-closes true (take p (x ∷ l))) (none k)
         go (y ∷ m) f = rw (last-closes false (take p (x ∷ l))) f
 
-    pub layer-none : (k : ℕ) (l : List ℕ) → last_layer (seens k p fid s l) ≡ Layer.Absent
+    pub layer-none : (k : ℕ) (l : List ℕ) → last_layer (seens k p fid s l) ≡ None
     layer-none zero l = refl
     layer-none (suc k) [] = refl
-    layer-none (suc k) (x ∷ l) = ap (λ (z : Layer). Layer.Absent then_layer z) (layer-none k (drop p (x ∷ l)))
+    layer-none (suc k) (x ∷ l) = ap (λ (z : Layer). None then_layer z) (layer-none k (drop p (x ∷ l)))
 
     pub stamp-first : (k x : ℕ) (l : List ℕ) → first_stamp (seens (suc k) p fid s (x ∷ l)) ≡ s
     stamp-first k x l = go s refl k (drop p (x ∷ l))
       where
-        others : (j : ℕ) (m : List ℕ) → s ≡ Absent → first_stamp (seens j p fid s m) ≡ Absent
+        others : (j : ℕ) (m : List ℕ) → s ≡ None → first_stamp (seens j p fid s m) ≡ None
         others zero m e = refl
         others (suc j) [] e = refl
         others (suc j) (y ∷ m) e = ap (λ (z : Stamp). z or_stamp first_stamp (seens j p fid s (drop p (y ∷ m)))) e ∙ others j (drop p (y ∷ m)) e
 
         go : (z : Stamp) → s ≡ z → (j : ℕ) (m : List ℕ) → (z or_stamp first_stamp (seens j p fid s m)) ≡ z
-        go Absent e j m = others j m e
-        go (At n) e j m = refl
+        go None e j m = others j m e
+        go (Some n) e j m = refl
 
   -- ---- one frame
-  judged-one : (last : Bool) (r : List Seen) (l : List ℕ) (s : Stamp) → frame_of o r ≡ r → closed o r ≡ true → fault o r ≡ Sound → first_stamp r ≡ s → last_layer r ≡ Layer.Absent → still_of r ≡ false → data_of r ≡ l → stray_of o r ≡ [] → 1 ≤ length l
+  judged-one : (last : Bool) (r : List Seen) (l : List ℕ) (s : Stamp) → frame_of o r ≡ r → closed o r ≡ true → fault o r ≡ None → first_stamp r ≡ s → last_layer r ≡ None → still_of r ≡ false → data_of r ≡ l → stray_of o r ≡ [] → 1 ≤ length l
       → judge o true last r ≡ delivered (record { load = l; stamp = s }) ∷ []
   judged-one last r l s e c q a y b d t n = rw (e, c, q, a, y, b, d, t, ne_eqb (length l) 0 (λ z. omega arith)) refl
 
@@ -236,7 +234,7 @@ module _ (o : Opening) (old : o.kind ≡ Old) (eof : by_eof o ≡ true) where
           let k : ℕ = length (x ∷ l) in
           let g : 1 ≤ o.payload - size_of s = omega arith in
           let r : List Seen = seens (length (x ∷ l)) (o.payload - size_of s) fid s (x ∷ l) in
-          let q : fault o r ≡ Sound = ap (λ (z : Stamp). fault_from o z false 0 r) (stamp-first (o.payload - size_of s) fid s (length l) x l) ∙ sound-all (o.payload - size_of s) fid s (length (x ∷ l)) 0 (x ∷ l) (omega arith) in
+          let q : fault o r ≡ None = ap (λ (z : Stamp). fault_from o z false 0 r) (stamp-first (o.payload - size_of s) fid s (length l) x l) ∙ sound-all (o.payload - size_of s) fid s (length (x ∷ l)) 0 (x ∷ l) (omega arith) in
           judged-one last r (x ∷ l) s (frame-all (o.payload - size_of s) fid s (length (x ∷ l)) (x ∷ l)) (closed_all (o.payload - size_of s) fid s (length (x ∷ l)) (x ∷ l) a (omega arith) g) q
           (stamp-first (o.payload - size_of s) fid s (length l) x l) (layer-none (o.payload - size_of s) fid s (length (x ∷ l)) (x ∷ l)) refl (data-all (o.payload - size_of s) fid s (length (x ∷ l)) (x ∷ l) (omega arith) g)
           (stray-none (o.payload - size_of s) fid s (length (x ∷ l)) (x ∷ l)) a

@@ -1,4 +1,5 @@
 -- EXACTLY WHEN a call is refused, by which number; when it says that there is no more; and that neither changes anything.
+use Rattle.session_rules.specs.Options.{Stamp}
 use Prim.Native.Nat.{ℕ, zero, suc, ◌≤◌, ◌<◌}
 use mathlib.Core.Path.{◌≡◌, refl, sym}
 use mathlib.Core.Bool.{Bool, true, false}
@@ -10,7 +11,6 @@ use lib.Dec.{ltb}
 use borrow.Author.Tests.{lt-ltb, le-ltb, ltb-true, ltb-false}
 use Rattle.rules.specs.Numbered.{Row, first_row, Given, here, later, NoneOf}
 use Rattle.rules.proofs.Rows.{Numbered, given-row, row_first, none_row, row-none}
-use Rattle.session_rules.specs.declared.Stamp.{Stamp}
 use Rattle.sender.specs.declared.Sender.{Sender}
 use Rattle.sender.specs.declared.Sending.TheVariants.{Refused, Done, Wrote}
 use Rattle.sender.specs.declared.Sent.{Sent}

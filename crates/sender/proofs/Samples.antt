@@ -1,4 +1,5 @@
 -- A sample of the claim, computed: three frames, one of them with a stamp, cut to a payload size of 8.
+use Rattle.std.specs.Prelude.{None, Some}
 use Prim.Native.Nat.{ℕ}
 use native.Mathlib.Omega.{arith}
 use mathlib.Core.Path.{◌≡◌, refl}
@@ -10,7 +11,6 @@ use Rattle.rules.specs.IfElse.{if_else}
 use Rattle.sizes.specs.declared.Opening.{Opening}
 use Rattle.sizes.specs.declared.HeaderKind.TheVariants.{Old}
 use Rattle.sizes.specs.Framing.{by_eof}
-use Rattle.session_rules.specs.declared.Stamp.{Stamp}
 use Rattle.session_rules.specs.Layouts.{header_layout}
 use Rattle.session_rules.specs.Transfer.{flag_of, layer_place, need_of, rows_by, stamp_of, layer_of, header_by, reading_of}
 use Rattle.session_rules.specs.Entry.{Entry}
@@ -24,13 +24,13 @@ opening = record { frame = 16; payload = 8; framing = 3; kind = Old }
 
 abbrev film : List Frame
 film =
-    record { load = 1 ∷ 2 ∷ 3 ∷ 4 ∷ 5 ∷ 6 ∷ 7 ∷ []; stamp = Stamp.Absent }
-    ∷ record { load = 8 ∷ 9 ∷ 10 ∷ 11 ∷ []; stamp = Stamp.At 4_294_967_280 }
-    ∷ record { load = 12 ∷ []; stamp = Stamp.Absent }
+    record { load = 1 ∷ 2 ∷ 3 ∷ 4 ∷ 5 ∷ 6 ∷ 7 ∷ []; stamp = None }
+    ∷ record { load = 8 ∷ 9 ∷ 10 ∷ 11 ∷ []; stamp = Some 4_294_967_280 }
+    ∷ record { load = 12 ∷ []; stamp = None }
     ∷ []
 
 abbrev frame_of : ℕ → Frame
-frame_of x = record { load = x ∷ []; stamp = Stamp.Absent }
+frame_of x = record { load = x ∷ []; stamp = None }
 
 abbrev one : ℕ → List Frame
 one x = frame_of x ∷ []

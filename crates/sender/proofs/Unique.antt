@@ -1,9 +1,9 @@
 -- The promises of the crate leave one answer and one content of the room.
+use Rattle.session_rules.specs.Options.{Stamp}
 use Prim.Native.Nat.{ℕ}
 use mathlib.Core.Path.{◌≡◌, sym, ◌∙◌}
 use mathlib.Core.List.{List}
 use lib.ListN.{length}
-use Rattle.session_rules.specs.declared.Stamp.{Stamp}
 use Rattle.sender.specs.declared.Sender.{Sender}
 use Rattle.sender.specs.declared.Sent.{Sent}
 use Rattle.sender.specs.Send.{new_sender, next_of, send_of, room_of}

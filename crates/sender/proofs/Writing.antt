@@ -1,4 +1,6 @@
 -- What the tests of a call decide, and what it writes.
+use Rattle.std.specs.Prelude.{None, Some}
+use Rattle.session_rules.specs.Options.{Stamp}
 use Prim.Native.Nat.{ℕ, zero, suc, ◌+◌, ◌-◌, ◌/◌, ◌%◌, ◌≤◌, ◌<◌, min}
 use mathlib.Core.Path.{◌≡◌, refl, sym, ap, ◌∙◌}
 use mathlib.Core.Bool.{Bool, true, false}
@@ -7,13 +9,11 @@ use native.Mathlib.Omega.{arith}
 use lib.ListN.{length, take, drop, length-append, length-take, length-drop}
 use lib.Seq.{paste, take_at, drop_at, take-length, drop-drop, length-take-le, take_all}
 use lib.Dec.{ltb, leb, eqb}
-use borrow.Author.Tests.{lt-ltb, le-ltb, lt-leb, le-leb, eq-eqb, ne_eqb, ltb-false, leb-true, leb-false}
+use borrow.Author.Tests.{lt-ltb, le-ltb, eq-eqb, ne_eqb, ltb-false, leb-true, leb-false}
 use Rattle.rules.specs.Numbered.{first_row}
 use Rattle.rules.proofs.Rows.{or-first, or-second, row-none}
 use Rattle.sizes.specs.Sizes.{payload_most}
 use Rattle.sizes.proofs.Limits.{frame-sound}
-use Rattle.session_rules.specs.declared.Stamp.{Stamp}
-use Rattle.session_rules.specs.declared.Stamp.TheVariants.{Absent, At}
 use Rattle.sender.specs.declared.Sender.{Sender}
 use Rattle.sender.specs.declared.Sending.TheVariants.{Refused, Done, Wrote}
 use Rattle.sender.specs.declared.Sent.{Sent}
@@ -23,15 +23,6 @@ use Rattle.sender.specs.Send.{transfer_at, part_size, transfer_size, payload_bro
 use Rattle.sender.specs.Inner.{Ready}
 
 -- ---- 81
-module _ (payload h : ℕ) (s : Stamp) (e : h ≡ size_of s) where
-  pub payload-low : payload ≤ h → true ≡ payload_broken payload s
-  unfolding payload_broken
-  payload-low l = rw (le-leb payload (size_of s) (rw (← e) l)) refl
-
-  pub payload-rest : h < payload → ltb payload_most payload ≡ payload_broken payload s
-  unfolding payload_broken
-  payload-rest l = rw (lt-leb payload (size_of s) (rw (← e) l)) refl
-
 pub payload-sound : (payload : ℕ) (s : Stamp) → payload_broken payload s ≡ false → (size_of s < payload) × (payload ≤ payload_most)
 unfolding payload_broken
 payload-sound payload s e = (leb-false payload (size_of s) (or-first _ _ e), ltb-false payload_most payload (or-second (leb payload (size_of s)) _ e))
@@ -51,16 +42,16 @@ module _ (at n payload : ℕ) (s : Stamp) (room : ℕ) where
   room-sound l e = ltb-false room (transfer_size payload s n at) (rw (lt-ltb at n l) at e)
 
 -- ---- the header
-pub short-is : (fid eof : Bool) (a b : ℕ) → a ≡ bit fid 1 → b ≡ bit eof 2 → 2 ∷ (128 + a + b) ∷ [] ≡ written fid eof Absent
+pub short-is : (fid eof : Bool) (a b : ℕ) → a ≡ bit fid 1 → b ≡ bit eof 2 → 2 ∷ (128 + a + b) ∷ [] ≡ written fid eof None
 short-is fid eof a b e f = rw (e, f) refl
 
 pub long-is : (fid eof : Bool) (x a b c d g h : ℕ) → a ≡ bit fid 1 → b ≡ bit eof 2 → c ≡ x % 256 → d ≡ x / 256 % 256 → g ≡ x / 65536 % 256 → h ≡ x / 16777216 % 256
-    → 6 ∷ (132 + a + b) ∷ c ∷ d ∷ g ∷ h ∷ [] ≡ written fid eof (At x)
+    → 6 ∷ (132 + a + b) ∷ c ∷ d ∷ g ∷ h ∷ [] ≡ written fid eof (Some x)
 long-is fid eof x a b c d g h p q r s t u = rw (p, q, r, s, t, u) refl
 
 pub header-length : (fid eof : Bool) (s : Stamp) → length (written fid eof s) ≡ size_of s
-header-length fid eof Absent = refl
-header-length fid eof (At x) = refl
+header-length fid eof None = refl
+header-length fid eof (Some x) = refl
 
 module _ (fid eof : Bool) (s z : Stamp) (q : s ≡ z) (h room : List ℕ) (e : h ≡ written fid eof z) where
   pub header-room : size_of s ≤ length room → length h ≤ length room

@@ -1,10 +1,9 @@
 -- Document 02, Nine, THE CLAIM: what a receiver makes of the frames of one sender, each sent to its last transfer, offered once and in order.
-use Rattle.std.specs.Prelude.{ℕ, ◌+◌, ◌≤◌, ◌<◌, ◌≡◌, Bool, true, false, not, List, [], ◌∷◌, ◌++◌, map, length, get_or}
+use Rattle.std.specs.Prelude.{ℕ, ◌+◌, ◌≤◌, ◌<◌, ◌≡◌, Bool, true, false, not, List, [], ◌∷◌, ◌++◌, map, length, get_or, None}
 use Rattle.sizes.specs.declared.Opening.{Opening}
 use Rattle.sizes.specs.declared.HeaderKind.TheVariants.{Old}
 use Rattle.sizes.specs.Framing.{by_eof}
 use Rattle.sizes.specs.Sizes.{sizes_broken}
-use Rattle.session_rules.specs.declared.Layer.{Layer}
 use Rattle.session_rules.specs.declared.Fate.{Fate}
 use Rattle.session_rules.specs.declared.Delivery.{Delivery}
 use Rattle.session_rules.specs.Entry.{Entry}
@@ -58,7 +57,7 @@ offered o buffer fs = offers (fresh o) buffer (asks o fs)
 
 -- a frame delivered: its length and its stamp, and no layer
 abbrev pub delivery_of : Frame → Delivery
-delivery_of f = record { len = length f.load; stamp = f.stamp; layer = Layer.Absent }
+delivery_of f = record { len = length f.load; stamp = f.stamp; layer = None }
 
 abbrev pub delivered : Frame → Item
 delivered f = record { entry = Entry.Delivered (delivery_of f); load = f.load }

@@ -1,7 +1,7 @@
 -- What the contracts of the helpers cite, and a reader need not believe.
+use Rattle.session_rules.specs.Options.{Stamp}
 use Rattle.std.specs.Prelude.{ℕ, ◌≤◌, ◌<◌}
 use Rattle.sizes.specs.Sizes.{frame_most, payload_most}
-use Rattle.session_rules.specs.declared.Stamp.{Stamp}
 use Rattle.sender.specs.declared.Sender.{Sender}
 use Rattle.sender.specs.Header.{size_of}
 use Rattle.sender.specs.Send.{transfer_size}

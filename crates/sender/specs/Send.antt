@@ -1,8 +1,8 @@
 -- Document 02, Nine: one call of a sender. What refuses it, what it answers, and what it leaves in the room that is lent.
+use Rattle.session_rules.specs.Options.{Stamp}
 use Rattle.std.specs.Prelude.{ℕ, zero, suc, ◌+◌, ◌-◌, ◌≤◌, min, ◌≡◌, Bool, true, false, not, ◌&&◌, ◌||◌, List, [], ◌∷◌, ◌++◌, length, take, drop, ltb, leb}
 use Rattle.rules.specs.Numbered.{Row, row, first_row, NoneOf}
 use Rattle.sizes.specs.Sizes.{payload_most, frame_size_broken}
-use Rattle.session_rules.specs.declared.Stamp.{Stamp}
 use Rattle.sender.specs.declared.Sender.{Sender}
 use Rattle.sender.specs.declared.Sending.{Sending}
 use Rattle.sender.specs.declared.Sending.TheVariants.{Refused, Done, Wrote}

@@ -1,6 +1,6 @@
 -- Document 02, Nine: frames cut into transfers.
+use Rattle.session_rules.specs.Options.{Stamp}
 use Rattle.std.specs.Prelude.{ℕ, zero, suc, ◌-◌, ◌≤◌, ◌≡◌, Bool, true, false, not, List, [], ◌∷◌, ◌++◌, length, take, drop}
-use Rattle.session_rules.specs.declared.Stamp.{Stamp}
 use Rattle.sender.specs.Header.{size_of, written}
 
 -- A FRAME that is sent: its bytes, and its stamp or none

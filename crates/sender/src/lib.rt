@@ -1,10 +1,10 @@
 // A camera of our own: cuts frames into payload transfers, one a call, into a buffer that the caller lends.
 #![tactic(auto)]
 
-ghost use Rattle.std.specs.Prelude.{◌≡◌, ◌++◌, ◌%◌, ◌<◌, ◌≤◌, min, length, drop};
-ghost use Rattle.rules.specs.Numbered.{first_row};
+ghost use Rattle.session_rules.specs.Options.{Stamp};
+ghost use Rattle.std.specs.Prelude.{◌≡◌, ◌++◌, ◌%◌, ◌<◌, ◌≤◌, min, length, drop, None, Some};
+ghost use Rattle.rules.specs.Numbered.{first_row, kept};
 ghost use Rattle.sizes.specs.Sizes.{payload_most};
-ghost use Rattle.session_rules.specs.declared.Stamp.{Stamp};
 ghost use Rattle.sender.specs.Header.{bit, size_of, written};
 ghost use Rattle.sender.specs.Send.{new_sender, next_of, transfer_at, transfer_size, payload_broken, room_short, send_rows, wrote_of, send_of, room_of};
 ghost use Rattle.sender.specs.Inner.{Ready};
@@ -33,6 +33,7 @@ pub enum Sending {
     Wrote(usize),
 }
 
+// The sender after a call, and what it answers. (No Result: it is given back on a refusal too, as `refused-as-it-was` says.)
 #[derive(Drop)]
 pub struct Sent {
     pub sender: Sender,
@@ -61,8 +62,7 @@ impl Sender {
         ensures value { result ≡ send_of self frame.now payload stamp (length room.old) }
         ensures room_after { room.new ≡ room_of self frame.now payload stamp room.old }
     {
-        let number = refusal(self.at, frame.len(), payload, stamp, room.len());
-        if number != 0 {
+        if let Err(number) = refusal(self.at, frame.len(), payload, stamp, room.len()) {
             return Sent {
                 sender: self,
                 sending: Sending::Refused(number),
@@ -83,45 +83,33 @@ fn size_of(stamp: Stamp) -> usize
     ensures { result ≡ size_of stamp }
 {
     match stamp {
-        Stamp::Absent => SHORT,
-        Stamp::At(_) => LONG,
+        None => SHORT,
+        Some(_) => LONG,
     }
-}
-
-// The lesser of two.
-fn least(a: usize, b: usize) -> usize
-    ensures { result ≡ min a b }
-{
-    if a < b {
-        return a;
-    }
-    b
 }
 
 // 80, 81, 82.
-fn refusal(at: usize, n: usize, payload: usize, stamp: Stamp, room: usize) -> u8
-    ensures { result ≡ first_row (send_rows at n payload stamp room) }
+fn refusal(at: usize, n: usize, payload: usize, stamp: Stamp, room: usize) -> Result<(), u8>
+    ensures { result ≡ kept (first_row (send_rows at n payload stamp room)) }
 {
     if sizes::frame_size_broken(n) {
-        return 80;
+        return Err(80);
     }
     if payload_broken(payload, stamp) {
-        return 81;
+        return Err(81);
     }
     if room_short(at, n, payload, stamp, room) {
-        return 82;
+        return Err(82);
     }
-    0
+    Ok(())
 }
 
 // 81: the payload size is not above the header, or over 65,536.
+#[tactic(auto, unfolding(crate::specs::Send::payload_broken))]
 fn payload_broken(payload: usize, stamp: Stamp) -> bool
     ensures { result ≡ payload_broken payload stamp }
 {
-    if payload <= size_of(stamp) {
-        return true;
-    }
-    sizes::PAYLOAD_MOST < payload
+    payload <= size_of(stamp) || sizes::PAYLOAD_MOST < payload
 }
 
 // 82: there is a next transfer, and the room is under it.
@@ -133,7 +121,7 @@ fn room_short(at: usize, n: usize, payload: usize, stamp: Stamp, room: usize) ->
         return false;
     }
     let header = size_of(stamp);
-    room < header + least(payload - header, n - at)
+    room < header + (payload - header).min(n - at)
 }
 
 // Inner: a transfer that nothing refuses.
@@ -145,7 +133,7 @@ fn write(x: Sender, frame: &[u8], payload: usize, stamp: Stamp, room: &mut [u8])
     let at = x.at;
     let end = frame.len();
     let header = size_of(stamp);
-    let n = least(payload - header, end - at);
+    let n = (payload - header).min(end - at);
     let to = at + n;
     write_header(x.fid, to == end, stamp, room);
     copier::put(room, header, &frame[at..to]);
@@ -161,11 +149,11 @@ fn write_header(fid: bool, eof: bool, stamp: Stamp, room: &mut [u8])
     ensures { room.new ≡ written fid eof stamp ++ drop (size_of stamp) room.old }
 {
     match stamp {
-        Stamp::Absent => {
+        None => {
             let header = short_header(fid, eof);
             room[..SHORT].copy_from_slice(&header);
         }
-        Stamp::At(ticks) => {
+        Some(ticks) => {
             let header = long_header(fid, eof, ticks);
             room[..LONG].copy_from_slice(&header);
         }
@@ -174,13 +162,13 @@ fn write_header(fid: bool, eof: bool, stamp: Stamp, room: &mut [u8])
 
 // The flags: D7 always, D0 the FID, D1 on the last transfer; D2 with a stamp.
 fn short_header(fid: bool, eof: bool) -> [u8; SHORT]
-    ensures { result ≡ written fid eof Stamp.Absent }
+    ensures { result ≡ written fid eof None }
 {
     [2, 128 + weight(fid, 1) + weight(eof, 2)]
 }
 
 fn long_header(fid: bool, eof: bool, ticks: u32) -> [u8; LONG]
-    ensures { result ≡ written fid eof (Stamp.At ticks) }
+    ensures { result ≡ written fid eof (Some ticks) }
 {
     [
         6,

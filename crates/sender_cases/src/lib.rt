@@ -9,13 +9,15 @@ use sender::{Sender, Sending};
 use session_rules::{Session, Stamp};
 use sizes::Opening;
 
-// Both ends after some calls, and whether the input was read.
+// Both ends after some calls.
 #[derive(Drop)]
-struct Both {
+struct Ends {
     sender: Sender,
     session: Session,
-    fine: bool,
 }
+
+// The same; Err where the input could not be read, or the sender does not end.
+type Both = Result<Ends, Ends>;
 
 // Both ends after one `send`, and how often the sender said that it is after the last, or 2 where it refused.
 #[derive(Drop)]
@@ -75,23 +77,16 @@ fn all(
 ) -> Next {
     let mut session = s;
     let mut sender = Sender::new();
-    let mut left = frames;
-    while 0 < left {
-        let both = one(sender, session, payload, buffer, room, bytes);
-        sender = both.sender;
-        session = both.session;
-        if !both.fine {
-            return Next {
-                session,
-                fine: false,
-            };
+    for _ in 0..frames {
+        match one(sender, session, payload, buffer, room, bytes) {
+            Ok(ends) => {
+                sender = ends.sender;
+                session = ends.session;
+            }
+            Err(ends) => return Err(ends.session),
         }
-        left -= 1;
     }
-    Next {
-        session,
-        fine: true,
-    }
+    Ok(session)
 }
 
 // A frame as it stands in the input: whether the sender goes on before it, its stamp, and its bytes.
@@ -105,18 +100,10 @@ fn one(
 ) -> Both {
     let sender = begun(x);
     let stamp = forged::stamp();
-    let part = input::part(bytes);
-    let n = part.count;
-    if !part.fine {
-        return Both {
-            sender,
-            session,
-            fine: false,
-        };
-    }
-    let both = sent(sender, session, payload, stamp, buffer, room, &bytes[..n]);
-    told(both.sender);
-    both
+    let Some(n) = input::part(bytes) else {
+        return Err(Ends { sender, session });
+    };
+    sent(sender, session, payload, stamp, buffer, room, &bytes[..n])
 }
 
 fn begun(x: Sender) -> Sender {
@@ -126,7 +113,7 @@ fn begun(x: Sender) -> Sender {
     x
 }
 
-// All transfers of a frame.
+// All transfers of a frame, and then the sender.
 fn sent(
     x: Sender,
     s: Session,
@@ -140,26 +127,18 @@ fn sent(
     let mut session = s;
     let mut over: u8 = 0;
     // A proved loop has to end: every transfer has a byte of the frame, which has at most 70,000.
-    let mut left: u32 = 70_010;
-    while 0 < left {
+    for _ in 0..70_010 {
         let after = step(sender, session, over, payload, stamp, buffer, room, frame);
         sender = after.sender;
         session = after.session;
         over = after.over;
         if 1 < over {
-            return Both {
-                sender,
-                session,
-                fine: true,
-            };
+            told(sender);
+            return Ok(Ends { sender, session });
         }
-        left -= 1;
     }
-    Both {
-        sender,
-        session,
-        fine: false,
-    }
+    told(sender);
+    Err(Ends { sender, session })
 }
 
 // One call of the sender, with the hash of its room; and what the receiver answers to a transfer, with that of its own.

@@ -1,4 +1,5 @@
 -- What each call answers, one law for each way through the code.
+use Rattle.session_rules.specs.Options.{Stamp}
 use Prim.Native.Nat.{ℕ, zero, suc, ◌+◌, ◌-◌, ◌≤◌}
 use mathlib.Core.Path.{◌≡◌, refl, sym, ap, ◌∙◌}
 use mathlib.Core.List.{List}
@@ -7,10 +8,11 @@ use native.Mathlib.Omega.{arith}
 use native.Mathlib.Nat.{add-sub_cancel_left}
 use lib.ListN.{length, take, drop, length-drop}
 use lib.Seq.{paste, paste-zero, length-take-le, take-length}
-use Rattle.rules.specs.Numbered.{first_row}
+use Rattle.std.specs.Prelude.{Ok, Err}
+use Rattle.rules.specs.Numbered.{first_row, kept}
+use Rattle.rules.proofs.Kept.{err-is, err-above, ok-is}
 use Rattle.sizes.specs.declared.Opening.{Opening}
 use Rattle.session_rules.specs.declared.Header.{Header}
-use Rattle.session_rules.specs.declared.Stamp.{Stamp}
 use Rattle.session_rules.specs.declared.Reading.{Reading}
 use Rattle.session_rules.specs.declared.Reading.TheVariants.{Idle, Unreadable, Readable}
 use Rattle.session_rules.specs.Transfer.{reading_of}
@@ -31,31 +33,28 @@ use Rattle.ledger.specs.Inner.{plus_at, entered_in, ended_in, ledger_with}
 use Rattle.ledger.proofs.Lent.{with-headers, with-lost, with-ended}
 use Rattle.session_rules.specs.declared.Rest.{Rest}
 use Rattle.session_rules.specs.declared.Session.{Session}
-use Rattle.session_rules.specs.declared.Start.{Start}
 use Rattle.session_rules.specs.declared.Outcome.{Outcome}
 use Rattle.session_rules.specs.declared.Taken.{Taken}
 use Rattle.session.specs.declared.RestTaken.{RestTaken}
 use Rattle.session.specs.declared.Posted.{Posted}
-use Rattle.session_rules.specs.declared.Report.{Report}
-use Rattle.session_rules.specs.declared.Closing.{Closing}
 use Rattle.session_rules.specs.Refusals.{opening_rows, close_rows, lost_rows, take_rows}
 use Rattle.session_rules.specs.Session.{fresh, no_session, open_by, open_of, counted_of, taken_by, read_of, read_buffer, plainly, took_of, took_buffer, hands_out, passed_of, handed_of, met_of, met_buffer, take_by, take_of, buffer_by, buffer_of, lost_by, lost_of, close_by, close_of}
 use Rattle.short_way.specs.Inner.{counted_rest}
 use Rattle.session.specs.Inner.{whole_of, taken_with, reported_with, closed_with, unwritten_of, Goes}
 
 -- ---- open
-module _ (o : Opening) (room n : ℕ) (x : Session) (e : n ≡ first_row (opening_rows o room)) where
-  pub open-refused : (n ≡ 0 → ⊥) → x ≡ no_session → record { session = x; start = Start.Refused n } ≡ open_of o room
+module _ (o : Opening) (room : ℕ) (x : Session) where
+  pub open-refused : (n : ℕ) → Err n ≡ kept (first_row (opening_rows o room)) → x ≡ no_session → record { session = x; start = Err n } ≡ open_of o room
   unfolding open_of
-  open-refused h q = rw (← e, q) (go n h)
+  open-refused n e q = let h = err-above n _ e in rw (err-is n _ e, q) (go n (λ z. omega arith))
     where
-      go : (m : ℕ) → (m ≡ 0 → ⊥) → record { session = no_session; start = Start.Refused m } ≡ open_by m o
+      go : (m : ℕ) → (m ≡ 0 → ⊥) → record { session = no_session; start = Err m } ≡ open_by m o
       go zero h = absurd (h refl)
       go (suc m) h = refl
 
-  pub open-open : n ≡ 0 → x ≡ fresh o → record { session = x; start = Start.Open } ≡ open_of o room
+  pub open-open : (u : Unit {0}) → Ok u ≡ kept (first_row (opening_rows o room)) → x ≡ fresh o → record { session = x; start = Ok tt } ≡ open_of o room
   unfolding open_of
-  open-open z q = rw (← e, z, q)
+  open-open u e q = rw (ok-is u _ e, q)
 
 -- ---- take
 -- a part of k bytes
@@ -198,30 +197,34 @@ module _ (r : Rest) (l t : List ℕ) where
   pub header-within : (x : Reading) (h : Header) → x ≡ reading_of r.opening t → x ≡ Readable h → h.len ≤ length t
   header-within x h e i = (readable-fits r.opening t h (sym e ∙ i)).inside
 
-  module _ (room n : ℕ) (e : n ≡ first_row (take_rows s room (length t))) where
-    pub take-refused : (n ≡ 0 → ⊥) → taken_with (record { rest = r; outcome = Outcome.Refused n }) l ≡ take_of s room t
+  module _ (room n : ℕ) (e : Err n ≡ kept (first_row (take_rows s room (length t)))) where
+    above : n ≡ 0 → ⊥
+    above z = let h = err-above n (first_row (take_rows s room (length t))) e in omega arith
+
+    pub take-refused : taken_with (record { rest = r; outcome = Outcome.Refused n }) l ≡ take_of s room t
     unfolding take_of
-    take-refused h = rw (← e) (go n h)
+    take-refused = rw (err-is n _ e) (go n above)
       where
         go : (m : ℕ) → (m ≡ 0 → ⊥) → record { session = s; outcome = Outcome.Refused m } ≡ take_by m s t
         go zero h = absurd (h refl)
         go (suc m) h = refl
 
-    pub buffer-refused : (n ≡ 0 → ⊥) → (b : List ℕ) → length b ≡ room → b ≡ buffer_of s b t
+    pub buffer-refused : (b : List ℕ) → length b ≡ room → b ≡ buffer_of s b t
     unfolding buffer_of
-    buffer-refused h b q = rw (q, ← e) (go n h)
+    buffer-refused b q = rw (q, err-is n _ e) (go n above)
       where
         go : (m : ℕ) → (m ≡ 0 → ⊥) → b ≡ buffer_by m s b t
         go zero h = absurd (h refl)
         go (suc m) h = refl
 
-    pub take-met : (y : RestTaken) (m : List ℕ) → n ≡ 0 → taken_with y m ≡ met_of s t → taken_with y m ≡ take_of s room t
+  module _ (room : ℕ) (e : first_row (take_rows s room (length t)) ≡ 0) where
+    pub take-met : (y : RestTaken) (m : List ℕ) → taken_with y m ≡ met_of s t → taken_with y m ≡ take_of s room t
     unfolding take_of
-    take-met y m z p = rw (← e, z) p
+    take-met y m p = rw e p
 
-    pub buffer-met : (b after : List ℕ) → n ≡ 0 → length b ≡ room → after ≡ met_buffer s b t → after ≡ buffer_of s b t
+    pub buffer-met : (b after : List ℕ) → length b ≡ room → after ≡ met_buffer s b t → after ≡ buffer_of s b t
     unfolding buffer_of
-    buffer-met b after z q p = rw (q, ← e, z) p
+    buffer-met b after q p = rw (q, e) p
 
 -- once that is written
 pub put-met : (s : Session) (buffer t : List ℕ) (x : Posted) → Goes (λ b. met_buffer s b t) s.rest.opening.frame t x →
@@ -230,39 +233,41 @@ pub put-met : (s : Session) (buffer t : List ℕ) (x : Posted) → Goes (λ b. m
 put-met s buffer t x g = put-buffer buffer t x.at x.from x.len g.enough ∙ sym (g.writes buffer)
 
 -- ---- lost
-module _ (r : Rest) (l : List ℕ) (n : ℕ) (e : n ≡ first_row (lost_rows (whole_of r l))) where
-  pub lost-refused : (n ≡ 0 → ⊥) → reported_with (record { rest = r; report = Report.Refused n }) l ≡ lost_of (whole_of r l)
+module _ (r : Rest) (l : List ℕ) where
+  pub lost-refused : (n : ℕ) → Err n ≡ kept (first_row (lost_rows (whole_of r l))) →
+      reported_with (record { rest = r; report = Err n }) l ≡ lost_of (whole_of r l)
   unfolding lost_of
-  lost-refused h = rw (← e) (go n h)
+  lost-refused n e = let h = err-above n _ e in rw (err-is n _ e) (go n (λ z. omega arith))
     where
-      go : (m : ℕ) → (m ≡ 0 → ⊥) → record { session = whole_of r l; report = Report.Refused m } ≡ lost_by m (whole_of r l)
+      go : (m : ℕ) → (m ≡ 0 → ⊥) → record { session = whole_of r l; report = Err m } ≡ lost_by m (whole_of r l)
       go zero h = absurd (h refl)
       go (suc m) h = refl
 
-  pub lost-noted : (m : List ℕ) (w : Track) → n ≡ 0 → m ≡ plus_at l lost_at 1 → w ≡ spoilt_of r.track →
+  pub lost-noted : (m : List ℕ) (w : Track) → first_row (lost_rows (whole_of r l)) ≡ 0 → m ≡ plus_at l lost_at 1 → w ≡ spoilt_of r.track →
       reported_with (record {
         rest = record { opening = r.opening; closed = r.closed; taken = r.taken + 1; track = w; last = r.last };
-        report = Report.Noted;
+        report = Ok tt;
       }) m ≡ lost_of (whole_of r l)
   unfolding lost_of
-  lost-noted m w z p v = rw (← e, z, p, v, with-lost l r.last)
+  lost-noted m w e p v = rw (e, p, v, with-lost l r.last)
 
 -- ---- close
-module _ (r : Rest) (l : List ℕ) (n : ℕ) (e : n ≡ first_row (close_rows (whole_of r l))) where
-  pub close-refused : (n ≡ 0 → ⊥) → closed_with (record { rest = r; closing = Closing.Refused n }) l ≡ close_of (whole_of r l)
+module _ (r : Rest) (l : List ℕ) where
+  pub close-refused : (n : ℕ) → Err n ≡ kept (first_row (close_rows (whole_of r l))) →
+      closed_with (record { rest = r; closing = Err n }) l ≡ close_of (whole_of r l)
   unfolding close_of
-  close-refused h = rw (← e) (go n h)
+  close-refused n e = let h = err-above n _ e in rw (err-is n _ e) (go n (λ z. omega arith))
     where
-      go : (m : ℕ) → (m ≡ 0 → ⊥) → record { session = whole_of r l; closing = Closing.Refused m } ≡ close_by m (whole_of r l)
+      go : (m : ℕ) → (m ≡ 0 → ⊥) → record { session = whole_of r l; closing = Err m } ≡ close_by m (whole_of r l)
       go zero h = absurd (h refl)
       go (suc m) h = refl
 
-  pub close-closed : (w : Shut) (m : List ℕ) → n ≡ 0 → w ≡ closed_of r.track → m ≡ ended_in l w.ended w.gone →
+  pub close-closed : (w : Shut) (m : List ℕ) → first_row (close_rows (whole_of r l)) ≡ 0 → w ≡ closed_of r.track → m ≡ ended_in l w.ended w.gone →
       closed_with (
       record {
         rest = record { opening = r.opening; closed = true; taken = r.taken; track = w.track; last = r.last };
-        closing = Closing.Closed w.ended;
+        closing = Ok w.ended;
       }
       ) m ≡ close_of (whole_of r l)
   unfolding close_of
-  close-closed w m z p q = rw (← e, z, q, p, with-ended l r.last (closed_of r.track).ended (closed_of r.track).gone)
+  close-closed w m e p q = rw (e, q, p, with-ended l r.last (closed_of r.track).ended (closed_of r.track).gone)

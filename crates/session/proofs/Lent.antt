@@ -1,4 +1,5 @@
 -- Where the numbers are lent: a refused call gives the rest back as it was, and changes no number.
+use Rattle.std.specs.Prelude.{Err}
 use Prim.Native.Nat.{ℕ}
 use mathlib.Core.Path.{◌≡◌, sym, ap, ◌∙◌}
 use mathlib.Core.List.{List}
@@ -10,9 +11,7 @@ use Rattle.session.specs.declared.RestReported.{RestReported}
 use Rattle.session.specs.declared.RestClosed.{RestClosed}
 use Rattle.session_rules.specs.declared.Outcome.{Outcome}
 use Rattle.session_rules.specs.declared.Taken.{Taken}
-use Rattle.session_rules.specs.declared.Report.{Report}
 use Rattle.session_rules.specs.declared.Reported.{Reported}
-use Rattle.session_rules.specs.declared.Closing.{Closing}
 use Rattle.session_rules.specs.declared.Closed.{Closed}
 use Rattle.session_rules.specs.Session.{take_of, lost_of, close_of}
 use Rattle.session.specs.Inner.{whole_of, taken_with, reported_with, closed_with}
@@ -31,10 +30,10 @@ module _ (r : Rest) (m n : List ℕ) (k : ℕ) where
   pub rest-take-as-it-was : (buffer t : List ℕ) (x : RestTaken) → taken_with x n ≡ take_of (whole_of r m) (length buffer) t → x.outcome ≡ Outcome.Refused k → (x.rest ≡ r) × (n ≡ m)
   rest-take-as-it-was buffer t = rest-count-as-it-was (length buffer) t
 
-  pub rest-lost-as-it-was : (x : RestReported) → reported_with x n ≡ lost_of (whole_of r m) → x.report ≡ Report.Refused k → (x.rest ≡ r) × (n ≡ m)
+  pub rest-lost-as-it-was : (x : RestReported) → reported_with x n ≡ lost_of (whole_of r m) → x.report ≡ Err k → (x.rest ≡ r) × (n ≡ m)
   rest-lost-as-it-was x e f =
       parts x.rest (ap (λ (y : Reported). y.session) e ∙ lost-as-it-was (whole_of r m) k (sym (ap (λ (y : Reported). y.report) e) ∙ f))
 
-  pub rest-close-as-it-was : (x : RestClosed) → closed_with x n ≡ close_of (whole_of r m) → x.closing ≡ Closing.Refused k → (x.rest ≡ r) × (n ≡ m)
+  pub rest-close-as-it-was : (x : RestClosed) → closed_with x n ≡ close_of (whole_of r m) → x.closing ≡ Err k → (x.rest ≡ r) × (n ≡ m)
   rest-close-as-it-was x e f =
       parts x.rest (ap (λ (y : Closed). y.session) e ∙ close-as-it-was (whole_of r m) k (sym (ap (λ (y : Closed). y.closing) e) ∙ f))

@@ -73,7 +73,7 @@ module _ (s : Session) (buffer t : List ℕ) where
     pub readable-writes : length s.numbers ≡ number_count → s.rest.taken < 2 ^ 32 →
         Wrote buffer (buffer_of s buffer t) (drop h.len t) turn.at turn.len
     readable-writes places few =
-        let f = take-ready s places few (length buffer) (length t) 0 (sym (none_row (take_rows s (length buffer) (length t)) o)) refl in
+        let f = take-ready s places few (length buffer) (length t) (none_row (take_rows s (length buffer) (length t)) o) in
         let q = sits s (ready-able s f.ready) h (length t - h.len) turn refl in
         let l = readable-fits s.rest.opening t h e in
         rw pasted (wrote buffer (drop h.len t) turn.at turn.len (omega (arith, q.inside, f.whole))

@@ -10,11 +10,12 @@ ghost use Rattle.session_rules.specs.Session.{open_of, new_session, read_of, rea
 ghost use Rattle.session.specs.Inner.{whole_of, Ready, kept_with, GoesOn, taken_with, reported_with, closed_with, Lent, HasRoom, Written, kept_of, unwritten_of, Goes};
 
 use session_rules::{
-    Account, Answer, Closing, Ended, Fate, Header, Ledger, Numbers, Opened, Outcome, Phase,
-    Reading, Report, Rest, Run, Session, Start, Track,
+    Account, Answer, Closing, Fate, Header, Ledger, Numbers, Opened, Outcome, Phase, Reading,
+    Report, Rest, Run, Session, Track,
 };
 use sizes::{HeaderKind, Opening};
 
+// RestTaken, RestReported and RestClosed stay three structs: the theorems over them (proofs/Lent, Unique) speak of their fields, as `taken_with` and its kin do.
 #[derive(Drop)]
 pub struct RestTaken {
     pub rest: Rest,
@@ -81,26 +82,23 @@ fn unwritten(taken: RestTaken) -> Posted
 pub fn open_for(o: Opening, room: usize) -> Opened
     ensures { result ≡ open_of o room }
 {
-    let number = refusals::opening_refusal(o, room);
-    if number != 0 {
-        let session = with(
-            Opening {
+    match refusals::opening_refusal(o, room) {
+        Err(number) => {
+            let nothing = Opening {
                 frame: 0,
                 payload: 0,
                 framing: 0,
                 kind: HeaderKind::Old,
-            },
-            true,
-        );
-        return Opened {
-            session,
-            start: Start::Refused(number),
-        };
-    }
-    let session = with(o, false);
-    Opened {
-        session,
-        start: Start::Open,
+            };
+            Opened {
+                session: with(nothing, true),
+                start: Err(number),
+            }
+        }
+        Ok(()) => Opened {
+            session: with(o, false),
+            start: Ok(()),
+        },
     }
 }
 
@@ -186,7 +184,7 @@ fn met(rest: Rest, m: &mut Numbers, t: &[u8]) -> Posted
             unwritten(RestTaken {
                 rest: short_way::counted(rest, track, last),
                 outcome: Outcome::Taken(Answer {
-                    ended: Ended::Nothing,
+                    ended: None,
                     fate: Fate::Idle,
                 }),
             })
@@ -196,7 +194,7 @@ fn met(rest: Rest, m: &mut Numbers, t: &[u8]) -> Posted
             unwritten(RestTaken {
                 rest: short_way::counted(rest, frames::spoilt(track), last),
                 outcome: Outcome::Taken(Answer {
-                    ended: Ended::Nothing,
+                    ended: None,
                     fate: Fate::Unreadable(number),
                 }),
             })
@@ -217,7 +215,7 @@ fn kept(rest: Rest) -> RestTaken
     RestTaken {
         rest,
         outcome: Outcome::Taken(Answer {
-            ended: Ended::Nothing,
+            ended: None,
             fate: Fate::Kept,
         }),
     }
@@ -259,25 +257,13 @@ fn settle_for(rest: Rest, m: &mut Numbers, room: usize, buffer: &mut [u8], t: &[
     ensures written { Written (whole_of rest m.old) room buffer.old t.now buffer.new }
 {
     let posted = rule_50::posted_broken(m, rest.taken);
-    let opening = rest.opening;
-    let track = rest.track;
-    let phase = track.phase;
-    let number = refusals::take_refusal(
-        posted,
-        opening,
-        phase,
-        rest.closed,
-        rest.taken,
-        room,
-        t.len(),
-    );
-    if number != 0 {
-        return RestTaken {
+    match refusals::take_refusal(posted, &rest, room, t.len()) {
+        Err(number) => RestTaken {
             rest,
             outcome: Outcome::Refused(number),
-        };
+        },
+        Ok(()) => settle(rest, m, buffer, t),
     }
-    settle(rest, m, buffer, t)
 }
 
 // Inner: takes one transfer, for a buffer of so much room. What is lent is that buffer, or one of no bytes: then nothing is written.
@@ -287,14 +273,11 @@ pub fn take_for(rest: Rest, m: &mut Numbers, room: usize, buffer: &mut [u8], t: 
     ensures m_after { taken_with result m.new ≡ take_of (whole_of rest m.old) room t.now }
     ensures written { Written (whole_of rest m.old) room buffer.old t.now buffer.new }
 {
-    let opening = rest.opening;
-    let track = rest.track;
-    let phase = track.phase;
-    if let Phase::Under(r) = phase {
-        if going_on::goes_on(opening, r, t) {
-            if short_way::refusal(rest, m, room, t.len()) == 0 {
-                return kept(go_on(rest, r, m, room, buffer, t));
-            }
+    if let Phase::Under(r) = rest.track.phase {
+        if going_on::goes_on(rest.opening, r, t)
+            && short_way::refusal(&rest, m, room, t.len()).is_ok()
+        {
+            return kept(go_on(rest, r, m, room, buffer, t));
         }
     }
     settle_for(rest, m, room, buffer, t)
@@ -324,27 +307,22 @@ pub fn lost(rest: Rest, m: &mut Numbers) -> RestReported
     ensures { reported_with result m.new ≡ lost_of (whole_of rest m.old) }
 {
     let posted = rule_50::posted_broken(m, rest.taken);
-    let opening = rest.opening;
-    let track = rest.track;
-    let phase = track.phase;
-    let number = refusals::lost_refusal(posted, opening, phase, rest.closed, rest.taken);
-    if number != 0 {
-        return RestReported {
+    match refusals::lost_refusal(posted, &rest) {
+        Err(number) => RestReported {
             rest,
-            report: Report::Refused(number),
-        };
-    }
-    let last = rest.last;
-    ledger::plus(m, Ledger::LOST, 1);
-    RestReported {
-        rest: Rest {
-            opening,
-            closed: rest.closed,
-            taken: rest.taken + 1,
-            track: frames::spoilt(track),
-            last,
+            report: Err(number),
         },
-        report: Report::Noted,
+        Ok(()) => {
+            ledger::plus(m, Ledger::LOST, 1);
+            RestReported {
+                rest: Rest {
+                    taken: rest.taken + 1,
+                    track: frames::spoilt(rest.track),
+                    ..rest
+                },
+                report: Ok(()),
+            }
+        }
     }
 }
 
@@ -354,29 +332,22 @@ pub fn close(rest: Rest, m: &mut Numbers) -> RestClosed
     ensures { closed_with result m.new ≡ close_of (whole_of rest m.old) }
 {
     let posted = rule_50::posted_broken(m, rest.taken);
-    let opening = rest.opening;
-    let track = rest.track;
-    let phase = track.phase;
-    let number = refusals::close_refusal(posted, opening, phase, rest.closed, rest.taken);
-    if number != 0 {
-        return RestClosed {
+    match refusals::close_refusal(posted, &rest) {
+        Err(number) => RestClosed {
             rest,
-            closing: Closing::Refused(number),
-        };
-    }
-    let shut = frames::shut(track);
-    let ended = shut.ended;
-    ledger::ended(m, ended, shut.gone);
-    let next = shut.track;
-    let last = rest.last;
-    RestClosed {
-        rest: Rest {
-            opening,
-            closed: true,
-            taken: rest.taken,
-            track: next,
-            last,
+            closing: Err(number),
         },
-        closing: Closing::Closed(ended),
+        Ok(()) => {
+            let shut = frames::shut(rest.track);
+            ledger::ended(m, shut.ended, shut.gone);
+            RestClosed {
+                rest: Rest {
+                    closed: true,
+                    track: shut.track,
+                    ..rest
+                },
+                closing: Ok(shut.ended),
+            }
+        }
     }
 }

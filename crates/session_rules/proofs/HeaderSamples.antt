@@ -1,4 +1,6 @@
 -- Samples of transfers: the P samples, and those of VP8 headers, against the sizes of the ledger program, frame size 256 and payload size 62.
+use Rattle.std.specs.Prelude.{None, Some}
+use Rattle.session_rules.specs.Options.{Layer, Stamp}
 use Prim.Native.Nat.{ℕ, ◌+◌, ◌*◌}
 use mathlib.Core.Path.{◌≡◌, refl}
 use mathlib.Core.List.{[], ◌∷◌}
@@ -8,8 +10,6 @@ use Rattle.session_rules.specs.Transfer.{flag_of, layer_place, need_of, rows_by,
 use Rattle.session_rules.specs.Layouts.{header_layout}
 use Rattle.sizes.specs.declared.Opening.{Opening}
 use Rattle.sizes.specs.declared.HeaderKind.TheVariants.{Old, Vp8}
-use Rattle.session_rules.specs.declared.Stamp.{Stamp}
-use Rattle.session_rules.specs.declared.Layer.{Layer}
 use Rattle.session_rules.specs.declared.Reading.{Reading}
 use Rattle.session_rules.specs.declared.Reading.TheVariants.{Unreadable, Readable}
 
@@ -17,7 +17,7 @@ abbrev pub opening : Opening
 opening = record { frame = 256; payload = 62; framing = 3; kind = Old }
 
 -- 02 80: readable
-pub bare-header : reading_of opening (0x02 ∷ 0x80 ∷ []) ≡ Readable (record { len = 2; fid = false; eof = false; still = false; error = false; stamp = Stamp.Absent; layer = Layer.Absent })
+pub bare-header : reading_of opening (0x02 ∷ 0x80 ∷ []) ≡ Readable (record { len = 2; fid = false; eof = false; still = false; error = false; stamp = None; layer = None })
 unfolding reading_of header_layout header_by stamp_of layer_of rows_by need_of layer_place flag_of if_else
 bare-header = refl
 
@@ -38,7 +38,7 @@ header-short-of-clock a b c d e f g h i = refl
 
 -- 0C 8C and ten bytes: readable, with the stamp of its bytes 2 to 5
 pub header-with-clock : (a b c d e f g h i j : ℕ) → reading_of opening (0x0C ∷ 0x8C ∷ a ∷ b ∷ c ∷ d ∷ e ∷ f ∷ g ∷ h ∷ i ∷ j ∷ []) ≡ Readable
-    (record { len = 12; fid = false; eof = false; still = false; error = false; stamp = Stamp.At (a + b * 256 + (c + d * 256) * 65536); layer = Layer.Absent })
+    (record { len = 12; fid = false; eof = false; still = false; error = false; stamp = Some (a + b * 256 + (c + d * 256) * 65536); layer = None })
 unfolding reading_of header_layout header_by stamp_of layer_of rows_by need_of layer_place flag_of if_else
 header-with-clock a b c d e f g h i j = refl
 
@@ -51,7 +51,7 @@ abbrev pub timed : ℕ → Stamp → Layer → Reading
 timed n s y = Readable (record { len = n; fid = false; eof = false; still = false; error = false; stamp = s; layer = y })
 
 -- 08 04 00 80 and a PTS: readable
-pub vp8-stamp : (a b c d : ℕ) → reading_of vp8 (0x08 ∷ 0x04 ∷ 0x00 ∷ 0x80 ∷ a ∷ b ∷ c ∷ d ∷ []) ≡ timed 8 (Stamp.At (a + b * 256 + (c + d * 256) * 65536)) Layer.Absent
+pub vp8-stamp : (a b c d : ℕ) → reading_of vp8 (0x08 ∷ 0x04 ∷ 0x00 ∷ 0x80 ∷ a ∷ b ∷ c ∷ d ∷ []) ≡ timed 8 (Some (a + b * 256 + (c + d * 256) * 65536)) None
 unfolding reading_of header_layout header_by stamp_of layer_of rows_by need_of layer_place flag_of if_else
 vp8-stamp a b c d = refl
 
@@ -83,6 +83,6 @@ vp8-three-bytes = refl
 -- 10 8C 00 80, a PTS, six bytes, 34 12, AA: layer 4,660, and one byte of data
 pub vp8-layer : (a b c d e f g h i j : ℕ) →
     reading_of vp8 (0x10 ∷ 0x8C ∷ 0x00 ∷ 0x80 ∷ a ∷ b ∷ c ∷ d ∷ e ∷ f ∷ g ∷ h ∷ i ∷ j ∷ 0x34 ∷ 0x12 ∷ 0xAA ∷ [])
-    ≡ timed 16 (Stamp.At (a + b * 256 + (c + d * 256) * 65536)) (Layer.At 4_660)
+    ≡ timed 16 (Some (a + b * 256 + (c + d * 256) * 65536)) (Some 4_660)
 unfolding reading_of header_layout header_by stamp_of layer_of rows_by need_of layer_place flag_of if_else
 vp8-layer a b c d e f g h i j = refl

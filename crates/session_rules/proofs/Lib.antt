@@ -1,5 +1,6 @@
 -- Laws of a session's definitions.
 pub mod Laid
+pub mod Choices
 pub mod Readings
 pub mod OldKind
 pub mod Vp8

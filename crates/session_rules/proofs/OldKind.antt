@@ -1,4 +1,5 @@
 -- The old kind of header is document 01's: its reading, word for word. It has no layer.
+use Rattle.std.specs.Prelude.{None}
 use Prim.Native.Nat.{ℕ, zero, suc, ◌+◌}
 use mathlib.Core.Path.{◌≡◌, refl, sym, ◌∙◌, ap, ap₂}
 use mathlib.Core.List.{List, [], ◌∷◌}
@@ -10,7 +11,6 @@ use Rattle.rules.specs.IfElse.{if_else}
 use Rattle.rules.specs.Numbered.{first_row}
 use Rattle.sizes.specs.declared.Opening.{Opening}
 use Rattle.sizes.specs.declared.HeaderKind.TheVariants.{Old}
-use Rattle.session_rules.specs.declared.Layer.{Layer}
 use Rattle.session_rules.specs.declared.Header.{Header}
 use Rattle.session_rules.specs.declared.Reading.TheVariants.{Readable}
 use Rattle.session_rules.specs.Layouts.{header_layout}
@@ -56,5 +56,5 @@ old-kind o e = record { flags = rw e old-flags; need = rw e old-need; header = r
     reads (b ∷ t) = rw e (old-sorted o.payload b t)
 
 -- no layer of the old kind
-pub no-layer : (o : Opening) (t : List ℕ) (h : Header) → o.kind ≡ Old → reading_of o t ≡ Readable h → h.layer ≡ Layer.Absent
+pub no-layer : (o : Opening) (t : List ℕ) (h : Header) → o.kind ≡ Old → reading_of o t ≡ Readable h → h.layer ≡ None
 no-layer o t h e r = ap (λ (g : Header). g.layer) (((readable-exactly o t h).0 r).header ∙ (old-kind o e).header t)

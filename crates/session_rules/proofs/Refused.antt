@@ -1,4 +1,6 @@
 -- EXACTLY WHEN each call is refused, by which number, and what a refused call leaves as it was.
+use Rattle.std.specs.Prelude.{Err, Ok}
+use Rattle.session_rules.specs.Options.{Ended}
 use Prim.Native.Nat.{ℕ, zero, suc, ◌<◌}
 use mathlib.Core.Path.{◌≡◌, refl}
 use mathlib.Core.Bool.{Bool, true, false}
@@ -12,13 +14,9 @@ use Rattle.sizes.specs.declared.Opening.{Opening}
 use Rattle.session_rules.specs.declared.Reading.{Reading}
 use Rattle.session_rules.specs.declared.Reading.TheVariants.{Idle, Unreadable, Readable}
 use Rattle.session_rules.specs.Transfer.{reading_of}
-use Rattle.session_rules.specs.declared.Ended.{Ended}
 use Rattle.session_rules.specs.declared.Answer.{Answer}
 use Rattle.session_rules.specs.declared.Session.{Session}
-use Rattle.session_rules.specs.declared.Start.{Start}
 use Rattle.session_rules.specs.declared.Outcome.{Outcome}
-use Rattle.session_rules.specs.declared.Report.{Report}
-use Rattle.session_rules.specs.declared.Closing.{Closing}
 use Rattle.session_rules.specs.Refusals.{opening_rows, close_rows, lost_rows, take_rows}
 use Rattle.session_rules.specs.WhenRefused.{Met}
 use Rattle.session_rules.specs.Session.{open_by, open_of, read_of, took_by, took_of, handed_of, met_by, met_of, hands_out, take_by, take_of, buffer_by, buffer_of, lost_by, lost_of, close_by, close_of}
@@ -120,88 +118,88 @@ module _ (s : Session) (t : List ℕ) where
 
 -- ---- lost
 module _ (s : Session) where
-  lost-to : (n k : ℕ) → (lost_by n s).report ≡ Report.Refused k → (n ≡ k) × (0 < k)
+  lost-to : (n k : ℕ) → (lost_by n s).report ≡ Err k → (n ≡ k) × (0 < k)
   lost-to zero k e = let z : ◌≡◌ {A = ℕ} 0 1 = cc in absurd (omega arith)
   lost-to (suc n) k e = let q : suc n ≡ k = cc in (q, omega arith)
 
-  lost-from : (n k : ℕ) → (n ≡ k) × (0 < k) → (lost_by n s).report ≡ Report.Refused k
+  lost-from : (n k : ℕ) → (n ≡ k) × (0 < k) → (lost_by n s).report ≡ Err k
   lost-from zero k p = absurd (omega arith)
   lost-from (suc n) k p = rw p.0
 
-  lost-open : (n : ℕ) → (lost_by n s).report ≡ Report.Noted → n ≡ 0
+  lost-open : (n : ℕ) → (lost_by n s).report ≡ Ok tt → n ≡ 0
   lost-open zero e = refl
   lost-open (suc n) e = let z : ◌≡◌ {A = ℕ} 0 1 = cc in absurd (omega arith)
 
   -- 50, 53, 52
-  pub lost-refused-exactly : (k : ℕ) → ((lost_of s).report ≡ Report.Refused k) ↔ Given (lost_rows s) k
+  pub lost-refused-exactly : (k : ℕ) → ((lost_of s).report ≡ Err k) ↔ Given (lost_rows s) k
   unfolding lost_of
   lost-refused-exactly k = (
     λ e. to-given (lost_rows s) k (lost-to (first_row (lost_rows s)) k e),
     λ g. lost-from (first_row (lost_rows s)) k (from-given (lost_rows s) k (lost-numbered s) g),
   )
 
-  pub lost-noted-exactly : ((lost_of s).report ≡ Report.Noted) ↔ NoneOf (lost_rows s)
+  pub lost-noted-exactly : ((lost_of s).report ≡ Ok tt) ↔ NoneOf (lost_rows s)
   unfolding lost_of
   lost-noted-exactly = (λ e. row-none (lost_rows s) (lost-numbered s) (lost-open (first_row (lost_rows s)) e), λ n. rw (none_row (lost_rows s) n))
 
-  pub lost-as-it-was : (k : ℕ) → (lost_of s).report ≡ Report.Refused k → (lost_of s).session ≡ s
+  pub lost-as-it-was : (k : ℕ) → (lost_of s).report ≡ Err k → (lost_of s).session ≡ s
   unfolding lost_of
   lost-as-it-was k e = go (first_row (lost_rows s)) e
     where
-      go : (n : ℕ) → (lost_by n s).report ≡ Report.Refused k → (lost_by n s).session ≡ s
+      go : (n : ℕ) → (lost_by n s).report ≡ Err k → (lost_by n s).session ≡ s
       go zero e = let z : ◌≡◌ {A = ℕ} 0 1 = cc in absurd (omega arith)
       go (suc n) e = refl
 
   -- ---- close
-  close-to : (n k : ℕ) → (close_by n s).closing ≡ Closing.Refused k → (n ≡ k) × (0 < k)
+  close-to : (n k : ℕ) → (close_by n s).closing ≡ Err k → (n ≡ k) × (0 < k)
   close-to zero k e = let z : ◌≡◌ {A = ℕ} 0 1 = cc in absurd (omega arith)
   close-to (suc n) k e = let q : suc n ≡ k = cc in (q, omega arith)
 
-  close-from : (n k : ℕ) → (n ≡ k) × (0 < k) → (close_by n s).closing ≡ Closing.Refused k
+  close-from : (n k : ℕ) → (n ≡ k) × (0 < k) → (close_by n s).closing ≡ Err k
   close-from zero k p = absurd (omega arith)
   close-from (suc n) k p = rw p.0
 
-  close_open : (n : ℕ) → (e : Ended) × ((close_by n s).closing ≡ Closing.Closed e) → n ≡ 0
+  close_open : (n : ℕ) → (e : Ended) × ((close_by n s).closing ≡ Ok e) → n ≡ 0
   close_open zero p = refl
   close_open (suc n) p = let q = p.1 in let z : ◌≡◌ {A = ℕ} 0 1 = cc in absurd (omega arith)
 
   -- 50, 53
-  pub close-refused-exactly : (k : ℕ) → ((close_of s).closing ≡ Closing.Refused k) ↔ Given (close_rows s) k
+  pub close-refused-exactly : (k : ℕ) → ((close_of s).closing ≡ Err k) ↔ Given (close_rows s) k
   unfolding close_of
   close-refused-exactly k = (
     λ e. to-given (close_rows s) k (close-to (first_row (close_rows s)) k e),
     λ g. close-from (first_row (close_rows s)) k (from-given (close_rows s) k (close-numbered s) g),
   )
 
-  pub close-closed-exactly : ((e : Ended) × ((close_of s).closing ≡ Closing.Closed e)) ↔ NoneOf (close_rows s)
+  pub close-closed-exactly : ((e : Ended) × ((close_of s).closing ≡ Ok e)) ↔ NoneOf (close_rows s)
   unfolding close_of
   close-closed-exactly =
       (λ p. row-none (close_rows s) (close-numbered s) (close_open (first_row (close_rows s)) p), λ n. rw (none_row (close_rows s) n) (_, refl))
 
-  pub close-as-it-was : (k : ℕ) → (close_of s).closing ≡ Closing.Refused k → (close_of s).session ≡ s
+  pub close-as-it-was : (k : ℕ) → (close_of s).closing ≡ Err k → (close_of s).session ≡ s
   unfolding close_of
   close-as-it-was k e = go (first_row (close_rows s)) e
     where
-      go : (n : ℕ) → (close_by n s).closing ≡ Closing.Refused k → (close_by n s).session ≡ s
+      go : (n : ℕ) → (close_by n s).closing ≡ Err k → (close_by n s).session ≡ s
       go zero e = let z : ◌≡◌ {A = ℕ} 0 1 = cc in absurd (omega arith)
       go (suc n) e = refl
 
 -- ---- open: 45, 46, 47
 module _ (o : Opening) (room : ℕ) where
-  open-to : (n k : ℕ) → (open_by n o).start ≡ Start.Refused k → (n ≡ k) × (0 < k)
+  open-to : (n k : ℕ) → (open_by n o).start ≡ Err k → (n ≡ k) × (0 < k)
   open-to zero k e = let z : ◌≡◌ {A = ℕ} 0 1 = cc in absurd (omega arith)
   open-to (suc n) k e = let q : suc n ≡ k = cc in (q, omega arith)
 
-  open-from : (n k : ℕ) → (n ≡ k) × (0 < k) → (open_by n o).start ≡ Start.Refused k
+  open-from : (n k : ℕ) → (n ≡ k) × (0 < k) → (open_by n o).start ≡ Err k
   open-from zero k p = absurd (omega arith)
   open-from (suc n) k p = rw p.0
 
-  open-open : (n : ℕ) → (open_by n o).start ≡ Start.Open → n ≡ 0
+  open-open : (n : ℕ) → (open_by n o).start ≡ Ok tt → n ≡ 0
   open-open zero e = refl
   open-open (suc n) e = let z : ◌≡◌ {A = ℕ} 0 1 = cc in absurd (omega arith)
 
   -- 45, 46, 47: k is given exactly when its row says so and no earlier one does
-  pub open-refused-exactly : (k : ℕ) → ((open_of o room).start ≡ Start.Refused k) ↔ Given (opening_rows o room) k
+  pub open-refused-exactly : (k : ℕ) → ((open_of o room).start ≡ Err k) ↔ Given (opening_rows o room) k
   unfolding open_of
   open-refused-exactly k = (
     λ e. to-given (opening_rows o room) k (open-to (first_row (opening_rows o room)) k e),
@@ -209,7 +207,7 @@ module _ (o : Opening) (room : ℕ) where
   )
 
   -- open exactly when no row is broken
-  pub open-open-exactly : ((open_of o room).start ≡ Start.Open) ↔ NoneOf (opening_rows o room)
+  pub open-open-exactly : ((open_of o room).start ≡ Ok tt) ↔ NoneOf (opening_rows o room)
   unfolding open_of
   open-open-exactly = (
     λ e. row-none (opening_rows o room) (opening-numbered o room) (open-open (first_row (opening_rows o room)) e),

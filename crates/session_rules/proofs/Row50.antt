@@ -1,4 +1,6 @@
 -- Rule 50, word for word: a record is refused by 50 exactly when one of its row's conditions holds.
+use Rattle.std.specs.Prelude.{None, Some}
+use Rattle.session_rules.specs.Options.{Fault}
 use Prim.Native.Nat.{ℕ, ◌*◌, ◌≤◌, ◌<◌, ◌^◌}
 use mathlib.Core.Path.{◌≡◌, refl, sym, ◌∙◌}
 use mathlib.Core.Bool.{Bool, true, false, not, ◌||◌, true≢false}
@@ -11,8 +13,6 @@ use Rattle.rules.proofs.Rows.{any_none, or-first, or-second, none_any}
 use Rattle.sizes.specs.Sizes.{frame_most, payload_least, payload_most, frame_size_broken, payload_size_broken, Between, sizes_broken}
 use Rattle.sizes.proofs.Limits.{frame-sound, payload-sound}
 use Rattle.sizes.specs.declared.Opening.{Opening}
-use Rattle.session_rules.specs.declared.Fault.{Fault}
-use Rattle.session_rules.specs.declared.Fault.TheVariants.{Sound, Bad}
 use Rattle.session_rules.specs.declared.Phase.{Phase}
 use Rattle.session_rules.specs.declared.Phase.TheVariants.{Fresh, Under, Past}
 use Rattle.session_rules.specs.declared.Ledger.{Ledger}
@@ -34,13 +34,13 @@ unfolding payload_size_broken
 payload-clear n b = none (ltb n payload_least) (ltb payload_most n) (le-ltb n payload_least b.low) (le-ltb payload_most n b.high)
 
 -- ---- fill
-same-fill : (f : Fault) (fill bytes : ℕ) → unequal f fill bytes ≡ false → f ≡ Sound → fill ≡ bytes
-same-fill Sound fill bytes e q = eqb-true fill bytes (not-not (eqb fill bytes) e)
+same-fill : (f : Fault) (fill bytes : ℕ) → unequal f fill bytes ≡ false → f ≡ None → fill ≡ bytes
+same-fill None fill bytes e q = eqb-true fill bytes (not-not (eqb fill bytes) e)
   where
     not-not : (b : Bool) → not b ≡ false → b ≡ true
     not-not true h = refl
     not-not false h = absurd (true≢false h)
-same-fill (Bad w) fill bytes e q = let z : ◌≡◌ {A = ℕ} 0 1 = cc in absurd (omega arith)
+same-fill (Some w) fill bytes e q = let z : ◌≡◌ {A = ℕ} 0 1 = cc in absurd (omega arith)
 
 fill-kept : (o : Opening) (p : Phase) → fill_broken p o.frame ≡ false → FilledBy o p
 unfolding fill_broken
@@ -91,9 +91,9 @@ accounts-within : (l : Ledger) (n : ℕ) → ((k : ℕ) → k < account_count �
 unfolding accounts_broken
 accounts-within l n h = sym (any_none account_count (account_broken l n) h)
 
-unequal-clear : (f : Fault) (fill bytes : ℕ) → (f ≡ Sound → fill ≡ bytes) → unequal f fill bytes ≡ false
-unequal-clear Sound fill bytes h = rw (eq-eqb fill bytes (h refl))
-unequal-clear (Bad w) fill bytes h = refl
+unequal-clear : (f : Fault) (fill bytes : ℕ) → (f ≡ None → fill ≡ bytes) → unequal f fill bytes ≡ false
+unequal-clear None fill bytes h = rw (eq-eqb fill bytes (h refl))
+unequal-clear (Some w) fill bytes h = refl
 
 fill-clear : (o : Opening) (p : Phase) → FilledBy o p → fill_broken p o.frame ≡ false
 unfolding fill_broken

@@ -1,4 +1,5 @@
 -- P samples of transfers, each the first of a fresh session with the ledger program's sizes: what becomes of it.
+use Rattle.std.specs.Prelude.{None, Some}
 use Prim.Native.Nat.{ℕ}
 use mathlib.Core.Path.{◌≡◌, refl}
 use mathlib.Core.Bool.{false}
@@ -10,9 +11,6 @@ use Rattle.sizes.specs.Framing.{by_eof}
 use Rattle.session_rules.specs.Layouts.{header_layout}
 use Rattle.session_rules.specs.Transfer.{flag_of, layer_place, need_of, rows_by, stamp_of, layer_of, header_by, reading_of}
 use Rattle.session_rules.proofs.HeaderSamples.{opening}
-use Rattle.session_rules.specs.declared.Stamp.{Stamp}
-use Rattle.session_rules.specs.declared.Layer.{Layer}
-use Rattle.session_rules.specs.declared.Fault.TheVariants.{Sound}
 use Rattle.session_rules.specs.declared.Phase.TheVariants.{Under}
 use Rattle.session_rules.specs.declared.Fate.{Fate}
 use Rattle.session_rules.specs.Ledger.{no_ledger, shown_of}
@@ -55,15 +53,15 @@ forged =
             taken = 10;
             track =
                 record {
-                  phase = Under (record { bytes = 2; fill = 2; stamp = Stamp.Absent; fid = false; still = false; fault = Sound; layer = Layer.At 5 });
+                  phase = Under (record { bytes = 2; fill = 2; stamp = None; fid = false; still = false; fault = None; layer = Some 5 });
                   gap = false;
                 };
-            last = Stamp.Absent;
+            last = None;
           };
       numbers = no_ledger.numbers;
     }
 
 pub forged-layer : (take_of forged 256 (0x02 ∷ 0x82 ∷ 0xAA ∷ [])).outcome
-    ≡ Outcome.Taken (plainly (Fate.Delivered (record { len = 3; stamp = Stamp.Absent; layer = Layer.At 5 })))
+    ≡ Outcome.Taken (plainly (Fate.Delivered (record { len = 3; stamp = None; layer = Some 5 })))
 unfolding take_of took_of hands_out hands_of by_eof read_of turn_of reading_of header_layout header_by stamp_of layer_of rows_by need_of layer_place flag_of if_else any_below rule50 sizes_broken fill_broken accounts_broken counts_broken shown_of frame_size_broken payload_size_broken
 forged-layer = refl

@@ -1,12 +1,11 @@
 -- What rule 50 does not read: the framing byte, the header kind, and of a frame under way its FID, still bit, stamp and layer. So none of these breaks it, forged or not.
+use Rattle.session_rules.specs.Options.{Layer, Stamp}
 use Prim.Native.Nat.{ℕ}
 use mathlib.Core.Path.{◌≡◌, refl}
 use mathlib.Core.Bool.{Bool}
 use Rattle.sizes.specs.declared.Opening.{Opening}
 use Rattle.sizes.specs.declared.HeaderKind.{HeaderKind}
 use Rattle.sizes.specs.Sizes.{sizes_broken}
-use Rattle.session_rules.specs.declared.Stamp.{Stamp}
-use Rattle.session_rules.specs.declared.Layer.{Layer}
 use Rattle.session_rules.specs.declared.Run.{Run}
 use Rattle.session_rules.specs.declared.Phase.TheVariants.{Under}
 use Rattle.session_rules.specs.declared.Ledger.{Ledger}

@@ -1,4 +1,5 @@
 -- The VP8 kind of header: it has no still, and a readable one has a stamp. So no transfer is readable under eight bytes, nor any where the payload size is.
+use Rattle.std.specs.Prelude.{Some}
 use Prim.Native.Nat.{ℕ, ◌≤◌}
 use mathlib.Core.Path.{◌≡◌, refl, ◌∙◌, ap}
 use mathlib.Core.Bool.{Bool, true, false, not, true≢false, ◌&&◌}
@@ -9,7 +10,6 @@ use Rattle.le.specs.Le.{le32_at}
 use Rattle.rules.specs.IfElse.{if_else}
 use Rattle.sizes.specs.declared.Opening.{Opening}
 use Rattle.sizes.specs.declared.HeaderKind.TheVariants.{Vp8}
-use Rattle.session_rules.specs.declared.Stamp.{Stamp}
 use Rattle.session_rules.specs.declared.Header.{Header}
 use Rattle.session_rules.specs.declared.Reading.TheVariants.{Readable}
 use Rattle.session_rules.specs.Layouts.{header_layout}
@@ -39,7 +39,7 @@ module _ (o : Opening) (t : List ℕ) (h : Header) (k : o.kind ≡ Vp8) (e : rea
       go false p = absurd (true≢false p)
 
   -- four bytes after the flags
-  pub its-stamp : h.stamp ≡ Stamp.At (le32_at t 4)
+  pub its-stamp : h.stamp ≡ Some (le32_at t 4)
   unfolding header_layout header_by stamp_of if_else
   its-stamp = ap (λ (g : Header). g.stamp) says ∙ rw stamped refl
 

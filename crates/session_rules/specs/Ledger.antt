@@ -1,9 +1,6 @@
 -- The ledger's numbers, in the order of print, and what each entry makes of them.
-use Rattle.std.specs.Prelude.{ℕ, ◌+◌, get_or, set, replicate}
-use Rattle.session_rules.specs.declared.Stamp.{Stamp}
-use Rattle.session_rules.specs.declared.Stamp.TheVariants.{Absent, At}
-use Rattle.session_rules.specs.declared.Ended.{Ended}
-use Rattle.session_rules.specs.declared.Ended.TheVariants.{Nothing, Frame}
+use Rattle.session_rules.specs.Options.{Ended, Stamp}
+use Rattle.std.specs.Prelude.{ℕ, ◌+◌, get_or, set, replicate, None, Some}
 use Rattle.session_rules.specs.declared.Fate.{Fate}
 use Rattle.session_rules.specs.declared.Answer.{Answer}
 use Rattle.session_rules.specs.declared.Phase.{Phase}
@@ -24,7 +21,7 @@ bytes_of l k = get_or l.numbers (bytes_at k) 0
 
 -- a fresh ledger is all zero
 abbrev pub no_ledger : Ledger
-no_ledger = record { numbers = replicate number_count 0; last = Absent }
+no_ledger = record { numbers = replicate number_count 0; last = None }
 
 -- n more at a place
 unfoldable pub plus_of : Ledger → ℕ → ℕ → Ledger
@@ -44,9 +41,9 @@ last_is l s = record { numbers = l.numbers; last = s }
 
 -- a delivered frame with no stamp is untimed and passed over; one with a stamp ends a step and starts the next
 abbrev pub timed_by : Stamp → Ledger → Stamp → Ledger
-timed_by last l Absent = plus_of l untimed_at 1
-timed_by Absent l (At b) = last_is l (At b)
-timed_by (At a) l (At b) = last_is (stepped_of l (step_of a b)) (At b)
+timed_by last l None = plus_of l untimed_at 1
+timed_by None l (Some b) = last_is l (Some b)
+timed_by (Some a) l (Some b) = last_is (stepped_of l (step_of a b)) (Some b)
 
 unfoldable pub timed_of : Ledger → Stamp → Ledger
 timed_of l s = timed_by l.last l s
@@ -65,8 +62,8 @@ post_of l Entry.Idle = plus_of l idle_at 1
 
 -- an answer: the frame that was ended, with its bytes, and then the transfer's fate, with its own
 abbrev pub ended_of : Ledger → Ended → ℕ → Ledger
-ended_of l Nothing gone = l
-ended_of l (Frame why) gone = post_of l (Entry.Dropped why gone)
+ended_of l None gone = l
+ended_of l (Some why) gone = post_of l (Entry.Dropped why gone)
 
 abbrev pub fated_of : Ledger → Fate → ℕ → Ledger
 fated_of l Fate.Idle n = post_of l Entry.Idle

@@ -1,3 +1,4 @@
+pub mod Options
 pub mod Layouts
 pub mod Transfer
 pub mod OldKind

@@ -1,11 +1,9 @@
 -- Document 01, "Payload transfers", in its own words: one flag byte, six rules, no layer. What the reading of the old kind of header has to be.
-use Rattle.std.specs.Prelude.{ℕ, ◌+◌, ◌≡◌, List, [], ◌∷◌, not, length, get_or, ltb, eqb}
+use Rattle.std.specs.Prelude.{ℕ, ◌+◌, ◌≡◌, List, [], ◌∷◌, not, length, get_or, ltb, eqb, None, Some}
 use Rattle.le.specs.Le.{le32_at}
 use Rattle.rules.specs.IfElse.{if_else}
 use Rattle.rules.specs.Numbered.{Row, row, first_row}
 use Rattle.sizes.specs.declared.Opening.{Opening}
-use Rattle.session_rules.specs.declared.Stamp.{Stamp}
-use Rattle.session_rules.specs.declared.Layer.{Layer}
 use Rattle.session_rules.specs.declared.Header.{Header}
 use Rattle.session_rules.specs.declared.Reading.{Reading}
 use Rattle.session_rules.specs.Layouts.{header_layout}
@@ -39,8 +37,8 @@ old_header t =
       eof = flag_of (old_flags t) 1;
       still = flag_of (old_flags t) 5;
       error = flag_of (old_flags t) 6;
-      stamp = if_else (flag_of (old_flags t) 2) (Stamp.At (le32_at t 2)) Stamp.Absent;
-      layer = Layer.Absent;
+      stamp = if_else (flag_of (old_flags t) 2) (Some (le32_at t 2)) None;
+      layer = None;
     }
 
 abbrev pub old_reading : ℕ → List ℕ → Reading

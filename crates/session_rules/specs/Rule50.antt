@@ -1,10 +1,9 @@
 -- Document 01, "Numbers", 50: a session record with the opening o, the frame under way p, the ledger l that it shows, and n transfers taken.
-use Rattle.std.specs.Prelude.{ℕ, ◌*◌, ◌<◌, ◌≤◌, ◌^◌, Bool, false, not, ◌||◌, get_or, ltb, eqb}
+use Rattle.session_rules.specs.Options.{Fault}
+use Rattle.std.specs.Prelude.{ℕ, ◌*◌, ◌<◌, ◌≤◌, ◌^◌, Bool, false, not, ◌||◌, get_or, ltb, eqb, None, Some}
 use Rattle.rules.specs.Numbered.{any_below}
 use Rattle.sizes.specs.declared.Opening.{Opening}
 use Rattle.sizes.specs.Sizes.{frame_most, payload_least, payload_most, sizes_broken, Between}
-use Rattle.session_rules.specs.declared.Fault.{Fault}
-use Rattle.session_rules.specs.declared.Fault.TheVariants.{Sound, Bad}
 use Rattle.session_rules.specs.declared.Phase.{Phase}
 use Rattle.session_rules.specs.declared.Phase.TheVariants.{Fresh, Under, Past}
 use Rattle.session_rules.specs.Track.{FilledBy}
@@ -18,8 +17,8 @@ transfer_most = 65_536
 
 -- in a frame without fault, fill is its bytes under way
 abbrev pub unequal : Fault → ℕ → ℕ → Bool
-unequal Sound fill bytes = not (eqb fill bytes)
-unequal (Bad why) fill bytes = false
+unequal None fill bytes = not (eqb fill bytes)
+unequal (Some why) fill bytes = false
 
 -- fill over frame size, or, in a frame without fault, not its bytes under way
 unfoldable pub fill_broken : Phase → ℕ → Bool

@@ -1,5 +1,5 @@
 -- What each call answers, makes of the session and writes to the buffer: one definition of its inputs.
-use Rattle.std.specs.Prelude.{ℕ, zero, suc, ◌+◌, ◌-◌, List, Bool, true, false, length, drop}
+use Rattle.std.specs.Prelude.{ℕ, zero, suc, ◌+◌, ◌-◌, List, Bool, true, false, length, drop, None, Err, Ok}
 use Rattle.std.proofs.Math.Seq.{paste}
 use Rattle.rules.specs.Numbered.{first_row}
 use Rattle.sizes.specs.declared.Opening.{Opening}
@@ -11,7 +11,6 @@ use Rattle.session_rules.specs.Transfer.{reading_of}
 use Rattle.session_rules.specs.declared.Track.{Track}
 use Rattle.session_rules.specs.declared.Turn.{Turn}
 use Rattle.session_rules.specs.declared.Phase.TheVariants.{Fresh}
-use Rattle.session_rules.specs.declared.Ended.{Ended}
 use Rattle.session_rules.specs.declared.Fate.{Fate}
 use Rattle.session_rules.specs.declared.Answer.{Answer}
 use Rattle.session_rules.specs.declared.Out.{Out}
@@ -20,13 +19,10 @@ use Rattle.session_rules.specs.declared.Ledger.{Ledger}
 use Rattle.session_rules.specs.Entry.{Entry}
 use Rattle.session_rules.specs.Ledger.{no_ledger, post_of, ended_of, fated_of, answered_of}
 use Rattle.session_rules.specs.declared.Session.{Session}
-use Rattle.session_rules.specs.declared.Start.{Start}
 use Rattle.session_rules.specs.declared.Opened.{Opened}
 use Rattle.session_rules.specs.declared.Outcome.{Outcome}
 use Rattle.session_rules.specs.declared.Taken.{Taken}
-use Rattle.session_rules.specs.declared.Report.{Report}
 use Rattle.session_rules.specs.declared.Reported.{Reported}
-use Rattle.session_rules.specs.declared.Closing.{Closing}
 use Rattle.session_rules.specs.declared.Closed.{Closed}
 use Rattle.session_rules.specs.Refusals.{opening_rows, posted_of, close_rows, lost_rows, take_rows}
 use Rattle.session_rules.specs.Turns.{turn_of, hands_of, out_of, idle_turn, unread_turn, spoilt_of, closed_of}
@@ -47,8 +43,8 @@ abbrev pub no_session : Session
 no_session = new_session (record { frame = 0; payload = 0; framing = 0; kind = Old }) true
 
 abbrev pub open_by : ℕ → Opening → Opened
-open_by zero o = record { session = fresh o; start = Start.Open }
-open_by (suc k) o = record { session = no_session; start = Start.Refused (suc k) }
+open_by zero o = record { session = fresh o; start = Ok tt }
+open_by (suc k) o = record { session = no_session; start = Err (suc k) }
 
 unfoldable pub open_of : Opening → ℕ → Opened
 open_of o room = open_by (first_row (opening_rows o room)) o
@@ -83,7 +79,7 @@ read_buffer s h buffer t =
 
 -- an answer of which no frame was ended
 abbrev pub plainly : Fate → Answer
-plainly f = record { ended = Ended.Nothing; fate = f }
+plainly f = record { ended = None; fate = f }
 
 abbrev pub took_by : Reading → Session → List ℕ → Taken
 took_by Idle s t = taken_by s (posted_of s) (idle_turn s.rest.track)
@@ -163,8 +159,8 @@ abbrev pub missed_of : Session → Session
 missed_of s = counted_of s (spoilt_of s.rest.track) (post_of (posted_of s) Entry.Lost)
 
 abbrev pub lost_by : ℕ → Session → Reported
-lost_by zero s = record { session = missed_of s; report = Report.Noted }
-lost_by (suc k) s = record { session = s; report = Report.Refused (suc k) }
+lost_by zero s = record { session = missed_of s; report = Ok tt }
+lost_by (suc k) s = record { session = s; report = Err (suc k) }
 
 unfoldable pub lost_of : Session → Reported
 lost_of s = lost_by (first_row (lost_rows s)) s
@@ -185,12 +181,12 @@ shut_of s =
                 };
             numbers = (ended_of (posted_of s) (closed_of s.rest.track).ended (closed_of s.rest.track).gone).numbers;
           };
-      closing = Closing.Closed (closed_of s.rest.track).ended;
+      closing = Ok (closed_of s.rest.track).ended;
     }
 
 abbrev pub close_by : ℕ → Session → Closed
 close_by zero s = shut_of s
-close_by (suc k) s = record { session = s; closing = Closing.Refused (suc k) }
+close_by (suc k) s = record { session = s; closing = Err (suc k) }
 
 unfoldable pub close_of : Session → Closed
 close_of s = close_by (first_row (close_rows s)) s

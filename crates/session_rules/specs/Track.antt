@@ -1,7 +1,6 @@
 -- The frame under way: what the account under way has of it, and how far it is written.
-use Rattle.std.specs.Prelude.{ℕ, ◌≤◌, ◌≡◌, Bool, true, false}
+use Rattle.std.specs.Prelude.{ℕ, ◌≤◌, ◌≡◌, Bool, true, false, None}
 use Rattle.sizes.specs.declared.Opening.{Opening}
-use Rattle.session_rules.specs.declared.Fault.TheVariants.{Sound}
 use Rattle.session_rules.specs.declared.Run.{Run}
 use Rattle.session_rules.specs.declared.Delivery.{Delivery}
 use Rattle.session_rules.specs.declared.Fate.{Fate}
@@ -22,7 +21,7 @@ under_bytes (Under r) = r.bytes
 -- a frame is filled to no more than the frame size, and while it has no fault with all its data
 pub record Filled (o : Opening) (r : Run) : Type 0 where
   pub within : r.fill ≤ o.frame
-  pub whole : r.fault ≡ Sound → r.fill ≡ r.bytes
+  pub whole : r.fault ≡ None → r.fill ≡ r.bytes
 
 abbrev pub FilledBy : Opening → Phase → Type 0
 FilledBy o Fresh = Unit {0}

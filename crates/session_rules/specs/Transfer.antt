@@ -1,12 +1,11 @@
 -- Document 01, "Payload transfers", and document 02, "Twelve": what one transfer says, over the kinds of header. `t` is the transfer's bytes, `l` what differs.
-use Rattle.std.specs.Prelude.{ℕ, zero, suc, ◌+◌, ◌-◌, ◌*◌, ◌/◌, ◌%◌, ◌^◌, ◌<◌, ◌≡◌, List, [], ◌∷◌, Bool, not, ◌&&◌, length, get_or, ltb, eqb}
+use Rattle.session_rules.specs.Options.{Layer, Stamp}
+use Rattle.std.specs.Prelude.{ℕ, zero, suc, ◌+◌, ◌-◌, ◌*◌, ◌/◌, ◌%◌, ◌^◌, ◌<◌, ◌≡◌, List, [], ◌∷◌, Bool, not, ◌&&◌, length, get_or, ltb, eqb, None, Some}
 use Rattle.le.specs.Le.{le16_at, le32_at}
 use Rattle.rules.specs.IfElse.{if_else}
 use Rattle.rules.specs.Numbered.{Row, row, first_row, Given, NoneOf}
 use Rattle.sizes.specs.declared.Opening.{Opening}
 use Rattle.session_rules.specs.declared.Layout.{Layout}
-use Rattle.session_rules.specs.declared.Stamp.{Stamp}
-use Rattle.session_rules.specs.declared.Layer.{Layer}
 use Rattle.session_rules.specs.declared.Header.{Header}
 use Rattle.session_rules.specs.declared.Reading.{Reading}
 use Rattle.session_rules.specs.declared.Reading.TheVariants.{Idle, Unreadable, Readable}
@@ -60,11 +59,11 @@ transfer_rows o t = rows_by (header_layout o.kind) o.payload t
 
 -- the PTS: four bytes after the flags, if D2 says that it is present
 unfoldable pub stamp_of : Layout → List ℕ → ℕ → Stamp
-stamp_of l t flags = if_else (flag_of flags 2) (Stamp.At (le32_at t l.least)) Stamp.Absent
+stamp_of l t flags = if_else (flag_of flags 2) (Some (le32_at t l.least)) None
 
 -- the layer: two bytes, if there is one
 unfoldable pub layer_of : Layout → List ℕ → ℕ → Layer
-layer_of l t flags = if_else (has_layer l flags) (Layer.At (le16_at t (layer_place l flags))) Layer.Absent
+layer_of l t flags = if_else (has_layer l flags) (Some (le16_at t (layer_place l flags))) None
 
 -- D0 FID, D1 EOF, D5 still, in a kind that has stills, D6 error. Further bytes of a longer header are header too.
 unfoldable pub header_by : Layout → List ℕ → Header

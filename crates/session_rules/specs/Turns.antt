@@ -1,24 +1,17 @@
 -- What one call makes of the frame under way, as the code has it. Nothing here needs to be believed: the frame rule is stated from the list alone, in the books,
 -- which show that the two agree.
-use Rattle.std.specs.Prelude.{ℕ, ◌+◌, ◌<◌, ◌^◌, Bool, true, false, not, ◌&&◌, ltb, eqb}
+use Rattle.session_rules.specs.Options.{Ended, Fault, Layer, Stamp}
+use Rattle.std.specs.Prelude.{ℕ, ◌+◌, ◌<◌, ◌^◌, Bool, true, false, not, ◌&&◌, ltb, eqb, None, Some}
 use Rattle.rules.specs.IfElse.{if_else}
 use Rattle.sizes.specs.declared.Opening.{Opening}
 use Rattle.sizes.specs.Framing.{by_eof}
 use Rattle.session_rules.specs.declared.Header.{Header}
-use Rattle.session_rules.specs.declared.Stamp.{Stamp}
-use Rattle.session_rules.specs.declared.Stamp.TheVariants.{Absent, At}
-use Rattle.session_rules.specs.declared.Layer.{Layer}
-use Rattle.session_rules.specs.declared.Layer.TheVariants as layer
 use Rattle.session_rules.specs.declared.Reason.{Reason}
 use Rattle.session_rules.specs.declared.Reason.TheVariants.{Gap, Error, Clock, Mixed, Long, Cut, Empty}
-use Rattle.session_rules.specs.declared.Fault.{Fault}
-use Rattle.session_rules.specs.declared.Fault.TheVariants.{Sound, Bad}
 use Rattle.session_rules.specs.declared.Run.{Run}
 use Rattle.session_rules.specs.declared.Phase.{Phase}
 use Rattle.session_rules.specs.declared.Phase.TheVariants.{Fresh, Under, Past}
 use Rattle.session_rules.specs.declared.Track.{Track}
-use Rattle.session_rules.specs.declared.Ended.{Ended}
-use Rattle.session_rules.specs.declared.Ended.TheVariants.{Nothing, Frame}
 use Rattle.session_rules.specs.declared.Fate.{Fate}
 use Rattle.session_rules.specs.declared.Fate.TheVariants.{Idle, Kept, Stray, Delivered, Still, Dropped, Unreadable}
 use Rattle.session_rules.specs.declared.Turn.{Turn}
@@ -27,30 +20,30 @@ use Rattle.session_rules.specs.declared.Shut.{Shut}
 
 -- the earlier fault stands
 abbrev pub first_of : Fault → Bool → Reason → Fault
-first_of (Bad w) bad why = Bad w
-first_of Sound true why = Bad why
-first_of Sound false why = Sound
+first_of (Some w) bad why = Some w
+first_of None true why = Some why
+first_of None false why = None
 
 -- a stamp that differs from the frame's first
 abbrev pub clash_of : Stamp → Stamp → Bool
-clash_of Absent b = false
-clash_of (At x) Absent = false
-clash_of (At x) (At y) = not (eqb x y)
+clash_of None b = false
+clash_of (Some x) None = false
+clash_of (Some x) (Some y) = not (eqb x y)
 
 -- the first stamp of two
 abbrev pub earlier_of : Stamp → Stamp → Stamp
-earlier_of Absent b = b
-earlier_of (At x) b = At x
+earlier_of None b = b
+earlier_of (Some x) b = Some x
 
 -- the last layer of two
 abbrev pub later_of : Layer → Layer → Layer
-later_of a layer.Absent = a
-later_of a (layer.At y) = layer.At y
+later_of a None = a
+later_of a (Some y) = Some y
 
 -- the fault names the frame; without one, the other reason does
 abbrev pub why_of : Fault → Reason → Reason
-why_of Sound other = other
-why_of (Bad why) other = why
+why_of None other = other
+why_of (Some why) other = why
 
 abbrev pub same_of : Bool → Bool → Bool
 same_of true b = b
@@ -58,16 +51,16 @@ same_of false b = not b
 
 -- data is written straight after the frame's earlier data, if the frame has no fault up to and with this transfer
 abbrev pub filled_of : Fault → ℕ → ℕ → ℕ
-filled_of Sound fill n = fill + n
-filled_of (Bad w) fill n = fill
+filled_of None fill n = fill + n
+filled_of (Some w) fill n = fill
 
 abbrev pub written_of : Fault → ℕ → ℕ
-written_of Sound n = n
-written_of (Bad w) n = 0
+written_of None n = n
+written_of (Some w) n = 0
 
 -- a frame begins: with a gap, if an unreadable or lost transfer came before it with no readable one between
 abbrev pub begun_of : Bool → Bool → Bool → Run
-begun_of gap fid still = record { fid = fid; still = still; fault = first_of Sound gap Gap; bytes = 0; fill = 0; stamp = Absent; layer = layer.Absent }
+begun_of gap fid still = record { fid = fid; still = still; fault = first_of None gap Gap; bytes = 0; fill = 0; stamp = None; layer = None }
 
 -- the still bit is not that of the frame's first transfer
 abbrev pub mixed_of : Run → Header → Bool
@@ -93,8 +86,8 @@ joined_of o r h n =
 
 -- complete without fault: empty if it has no data, else a still if its bit is set, else delivered
 abbrev pub complete_of : Fault → ℕ → Stamp → Layer → Bool → Fate
-complete_of (Bad why) n s y b = Dropped why
-complete_of Sound n s y b =
+complete_of (Some why) n s y b = Dropped why
+complete_of None n s y b =
     if_else (eqb n 0) (Dropped Empty) (if_else b (Still (record { len = n; stamp = s; layer = y })) (Delivered (record { len = n; stamp = s; layer = y })))
 
 -- EOF ends a frame with D1 of the framing byte set, and is ignored with it clear
@@ -128,17 +121,17 @@ join_turn o r h n ended gone =
 
 -- a transfer that is no part of a frame: nothing is ended and nothing is written
 abbrev pub plain_turn : Track → Fate → ℕ → Turn
-plain_turn t f n = record { track = t; answer = record { ended = Nothing; fate = f }; gone = 0; bytes = n; at = 0; len = 0 }
+plain_turn t f n = record { track = t; answer = record { ended = None; fate = f }; gone = 0; bytes = n; at = 0; len = 0 }
 
 abbrev pub stray_turn : Bool → ℕ → Turn
 stray_turn fid n = plain_turn (record { phase = Past fid; gap = false }) Stray n
 
 abbrev pub turn_by : Phase → Opening → Bool → Header → ℕ → Turn
-turn_by Fresh o gap h n = join_turn o (begun_of gap h.fid h.still) h n Nothing 0
+turn_by Fresh o gap h n = join_turn o (begun_of gap h.fid h.still) h n None 0
 turn_by (Under r) o gap h n =
-    if_else (same_of r.fid h.fid) (join_turn o r h n Nothing 0)
-    (join_turn o (begun_of gap h.fid h.still) h n (Frame (why_of r.fault (turned_why o))) r.bytes)
-turn_by (Past fid) o gap h n = if_else (same_of fid h.fid) (stray_turn fid n) (join_turn o (begun_of gap h.fid h.still) h n Nothing 0)
+    if_else (same_of r.fid h.fid) (join_turn o r h n None 0)
+    (join_turn o (begun_of gap h.fid h.still) h n (Some (why_of r.fault (turned_why o))) r.bytes)
+turn_by (Past fid) o gap h n = if_else (same_of fid h.fid) (stray_turn fid n) (join_turn o (begun_of gap h.fid h.still) h n None 0)
 
 -- a readable transfer with n bytes of data
 unfoldable pub turn_of : Opening → Track → Header → ℕ → Turn
@@ -146,8 +139,8 @@ turn_of o t h n = turn_by t.phase o t.gap h n
 
 -- before a transfer of the other FID is taken with D1 clear, a frame without fault and with data is handed out
 abbrev pub ready_of : Fault → ℕ → Bool
-ready_of Sound n = not (eqb n 0)
-ready_of (Bad why) n = false
+ready_of None n = not (eqb n 0)
+ready_of (Some why) n = false
 
 abbrev pub hands_by : Phase → Opening → Header → Bool
 hands_by Fresh o h = false
@@ -160,9 +153,9 @@ hands_of o t h = hands_by t.phase o h
 -- the hand-out: what follows in the run is stray, and the gap flag stays; without a frame under way it has nothing in it
 abbrev pub out_by : Phase → Bool → Out
 out_by Fresh gap =
-    record { track = record { phase = Fresh; gap = gap }; frame = record { still = false; delivery = record { len = 0; stamp = Absent; layer = layer.Absent } } }
+    record { track = record { phase = Fresh; gap = gap }; frame = record { still = false; delivery = record { len = 0; stamp = None; layer = None } } }
 out_by (Past fid) gap =
-    record { track = record { phase = Past fid; gap = gap }; frame = record { still = false; delivery = record { len = 0; stamp = Absent; layer = layer.Absent } } }
+    record { track = record { phase = Past fid; gap = gap }; frame = record { still = false; delivery = record { len = 0; stamp = None; layer = None } } }
 out_by (Under r) gap =
     record {
       track = record { phase = Past r.fid; gap = gap };
@@ -192,10 +185,10 @@ unread_turn t number n = plain_turn (spoilt_of t) (Unreadable number) n
 
 -- close ends a frame under way
 abbrev pub closed_by : Phase → Bool → Shut
-closed_by Fresh gap = record { track = record { phase = Fresh; gap = gap }; ended = Nothing; gone = 0 }
-closed_by (Past fid) gap = record { track = record { phase = Past fid; gap = gap }; ended = Nothing; gone = 0 }
+closed_by Fresh gap = record { track = record { phase = Fresh; gap = gap }; ended = None; gone = 0 }
+closed_by (Past fid) gap = record { track = record { phase = Past fid; gap = gap }; ended = None; gone = 0 }
 closed_by (Under r) gap =
-    record { track = record { phase = Past r.fid; gap = gap }; ended = Frame (why_of r.fault Cut); gone = r.bytes }
+    record { track = record { phase = Past r.fid; gap = gap }; ended = Some (why_of r.fault Cut); gone = r.bytes }
 
 unfoldable pub closed_of : Track → Shut
 closed_of t = closed_by t.phase t.gap

@@ -1,11 +1,9 @@
 -- Document 02, "Twelve", in its own words: three flag bytes, seven rules, a layer, no still. What the reading of VP8 cameras' headers has to be.
-use Rattle.std.specs.Prelude.{ℕ, ◌+◌, ◌*◌, ◌≡◌, List, [], ◌∷◌, false, not, length, get_or, ltb}
+use Rattle.std.specs.Prelude.{ℕ, ◌+◌, ◌*◌, ◌≡◌, List, [], ◌∷◌, false, not, length, get_or, ltb, None, Some}
 use Rattle.le.specs.Le.{le16_at, le32_at}
 use Rattle.rules.specs.IfElse.{if_else}
 use Rattle.rules.specs.Numbered.{Row, row, first_row}
 use Rattle.sizes.specs.declared.Opening.{Opening}
-use Rattle.session_rules.specs.declared.Stamp.{Stamp}
-use Rattle.session_rules.specs.declared.Layer.{Layer}
 use Rattle.session_rules.specs.declared.Header.{Header}
 use Rattle.session_rules.specs.declared.Reading.{Reading}
 use Rattle.session_rules.specs.Layouts.{header_layout}
@@ -44,8 +42,8 @@ vp8_header t =
       eof = flag_of (vp8_flags t) 1;
       still = false;
       error = flag_of (vp8_flags t) 6;
-      stamp = if_else (flag_of (vp8_flags t) 2) (Stamp.At (le32_at t 4)) Stamp.Absent;
-      layer = if_else (flag_of (vp8_flags t) 7) (Layer.At (le16_at t (vp8_layer_at (vp8_flags t)))) Layer.Absent;
+      stamp = if_else (flag_of (vp8_flags t) 2) (Some (le32_at t 4)) None;
+      layer = if_else (flag_of (vp8_flags t) 7) (Some (le16_at t (vp8_layer_at (vp8_flags t)))) None;
     }
 
 abbrev pub vp8_reading : ℕ → List ℕ → Reading

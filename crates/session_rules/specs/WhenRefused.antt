@@ -1,13 +1,10 @@
 -- Document 01, "Numbers", 45 to 47, 50 to 53 and 55: WHEN REFUSING IS RIGHT, in words, of every opening and of any session record. The limits stand here as the document writes them.
-use Rattle.std.specs.Prelude.{ℕ, ◌≤◌, ◌<◌, ◌≡◌, true, false, List, [], ◌∷◌, ◌↔◌, ◌⊎◌, length}
+use Rattle.session_rules.specs.Options.{Ended}
+use Rattle.std.specs.Prelude.{ℕ, ◌≤◌, ◌<◌, ◌≡◌, true, false, List, [], ◌∷◌, ◌↔◌, ◌⊎◌, length, Err, Ok}
 use Rattle.sizes.specs.declared.Opening.{Opening}
 use Rattle.sizes.specs.Sizes.{Between}
 use Rattle.session_rules.specs.declared.Session.{Session}
-use Rattle.session_rules.specs.declared.Ended.{Ended}
-use Rattle.session_rules.specs.declared.Start.{Start}
 use Rattle.session_rules.specs.declared.Outcome.{Outcome}
-use Rattle.session_rules.specs.declared.Report.{Report}
-use Rattle.session_rules.specs.declared.Closing.{Closing}
 use Rattle.session_rules.specs.Refusals.{Keeps50}
 use Rattle.session_rules.specs.Session.{open_of, take_of, lost_of, close_of}
 
@@ -18,11 +15,11 @@ Among k (n ∷ ns) = (k ≡ n) ⊎ Among k ns
 
 -- AN OPENING: 45 frame size 0 or over 16,777,216; 46 payload size under 2 or over 65,536; 47 a buffer shorter than the frame size
 pub record OpenWhen (o : Opening) (room : ℕ) : Type 0 where
-  pub opens : ((open_of o room).start ≡ Start.Open) ↔ (Between 1 o.frame 16_777_216 × (Between 2 o.payload 65_536 × (o.frame ≤ room)))
-  pub by-45 : ((open_of o room).start ≡ Start.Refused 45) ↔ (Between 1 o.frame 16_777_216 → ⊥)
-  pub by-46 : ((open_of o room).start ≡ Start.Refused 46) ↔ (Between 1 o.frame 16_777_216 × (Between 2 o.payload 65_536 → ⊥))
-  pub by-47 : ((open_of o room).start ≡ Start.Refused 47) ↔ (Between 1 o.frame 16_777_216 × (Between 2 o.payload 65_536 × (room < o.frame)))
-  pub alone : (k : ℕ) → (open_of o room).start ≡ Start.Refused k → Among k (45 ∷ 46 ∷ 47 ∷ [])
+  pub opens : ((open_of o room).start ≡ Ok tt) ↔ (Between 1 o.frame 16_777_216 × (Between 2 o.payload 65_536 × (o.frame ≤ room)))
+  pub by-45 : ((open_of o room).start ≡ Err 45) ↔ (Between 1 o.frame 16_777_216 → ⊥)
+  pub by-46 : ((open_of o room).start ≡ Err 46) ↔ (Between 1 o.frame 16_777_216 × (Between 2 o.payload 65_536 → ⊥))
+  pub by-47 : ((open_of o room).start ≡ Err 47) ↔ (Between 1 o.frame 16_777_216 × (Between 2 o.payload 65_536 × (room < o.frame)))
+  pub alone : (k : ℕ) → (open_of o room).start ≡ Err k → Among k (45 ∷ 46 ∷ 47 ∷ [])
 
 -- A CALL. Nothing is in the way of close: none of 50's conditions holds, and the session is open;
 pub record Closes (s : Session) : Type 0 where
@@ -56,14 +53,14 @@ pub record TakeWhen (s : Session) (room : ℕ) (t : List ℕ) : Type 0 where
   pub alone : (k : ℕ) → (take_of s room t).outcome ≡ Outcome.Refused k → Among k (50 ∷ 53 ∷ 52 ∷ 51 ∷ 55 ∷ [])
 
 pub record LostWhen (s : Session) : Type 0 where
-  pub notes : ((lost_of s).report ≡ Report.Noted) ↔ Notes s
-  pub by-50 : ((lost_of s).report ≡ Report.Refused 50) ↔ (Keeps50 s → ⊥)
-  pub by-53 : ((lost_of s).report ≡ Report.Refused 53) ↔ (Keeps50 s × (s.rest.closed ≡ true))
-  pub by-52 : ((lost_of s).report ≡ Report.Refused 52) ↔ (Closes s × (s.rest.taken ≡ 4_294_967_295))
-  pub alone : (k : ℕ) → (lost_of s).report ≡ Report.Refused k → Among k (50 ∷ 53 ∷ 52 ∷ [])
+  pub notes : ((lost_of s).report ≡ Ok tt) ↔ Notes s
+  pub by-50 : ((lost_of s).report ≡ Err 50) ↔ (Keeps50 s → ⊥)
+  pub by-53 : ((lost_of s).report ≡ Err 53) ↔ (Keeps50 s × (s.rest.closed ≡ true))
+  pub by-52 : ((lost_of s).report ≡ Err 52) ↔ (Closes s × (s.rest.taken ≡ 4_294_967_295))
+  pub alone : (k : ℕ) → (lost_of s).report ≡ Err k → Among k (50 ∷ 53 ∷ 52 ∷ [])
 
 pub record CloseWhen (s : Session) : Type 0 where
-  pub closes : ((e : Ended) × ((close_of s).closing ≡ Closing.Closed e)) ↔ Closes s
-  pub by-50 : ((close_of s).closing ≡ Closing.Refused 50) ↔ (Keeps50 s → ⊥)
-  pub by-53 : ((close_of s).closing ≡ Closing.Refused 53) ↔ (Keeps50 s × (s.rest.closed ≡ true))
-  pub alone : (k : ℕ) → (close_of s).closing ≡ Closing.Refused k → Among k (50 ∷ 53 ∷ [])
+  pub closes : ((e : Ended) × ((close_of s).closing ≡ Ok e)) ↔ Closes s
+  pub by-50 : ((close_of s).closing ≡ Err 50) ↔ (Keeps50 s → ⊥)
+  pub by-53 : ((close_of s).closing ≡ Err 53) ↔ (Keeps50 s × (s.rest.closed ≡ true))
+  pub alone : (k : ℕ) → (close_of s).closing ≡ Err k → Among k (50 ∷ 53 ∷ [])

@@ -19,18 +19,10 @@ pub struct Layout {
 }
 
 // A presentation time, or none.
-#[derive(Clone, Copy)]
-pub enum Stamp {
-    Absent,
-    At(u32),
-}
+pub type Stamp = Option<u32>;
 
 // A layer field, or none.
-#[derive(Clone, Copy)]
-pub enum Layer {
-    Absent,
-    At(u16),
-}
+pub type Layer = Option<u16>;
 
 // A readable header: its length, D0, D1, D5, D6, its stamp and its layer.
 #[derive(Clone, Copy)]
@@ -64,11 +56,8 @@ pub enum Reason {
     Empty,
 }
 
-#[derive(Clone, Copy)]
-pub enum Fault {
-    Sound,
-    Bad(Reason),
-}
+// The earliest fault of a frame, or none.
+pub type Fault = Option<Reason>;
 
 // A frame under way: its data so far, how much of it is written, its first stamp, its run's FID, its first transfer's still
 // bit, its earliest fault, and its last layer.
@@ -100,12 +89,8 @@ pub struct Track {
     pub gap: bool,
 }
 
-// What became of a frame that a transfer's FID, or close, ended.
-#[derive(Clone, Copy)]
-pub enum Ended {
-    Nothing,
-    Frame(Reason),
-}
+// Why the frame that a transfer's FID, or close, ended was not delivered; none where none was ended.
+pub type Ended = Option<Reason>;
 
 // The length, stamp and layer of a delivered frame or still.
 #[derive(Clone, Copy)]
@@ -243,7 +228,7 @@ impl Ledger {
         let numbers = [0u64; Ledger::NUMBERS];
         Ledger {
             numbers,
-            last: Stamp::Absent,
+            last: None,
         }
     }
 }
@@ -268,13 +253,10 @@ pub struct Rest {
     pub last: Stamp,
 }
 
-#[derive(Drop)]
-pub enum Start {
-    Open,
-    // 45, 46 or 47.
-    Refused(u8),
-}
+// Opened, or refused by 45, 46 or 47.
+pub type Start = Result<(), u8>;
 
+// Opened, Taken, Reported and Closed stay four structs: OpenWhen, TakeWhen, LostWhen and CloseWhen (specs/WhenRefused) speak of their fields.
 #[derive(Drop)]
 pub struct Opened {
     pub session: Session,
@@ -296,12 +278,8 @@ pub struct Taken {
     pub outcome: Outcome,
 }
 
-#[derive(Clone, Copy)]
-pub enum Report {
-    // 50, 53 or 52.
-    Refused(u8),
-    Noted,
-}
+// Noted, or refused by 50, 53 or 52.
+pub type Report = Result<(), u8>;
 
 #[derive(Drop)]
 pub struct Reported {
@@ -309,12 +287,8 @@ pub struct Reported {
     pub report: Report,
 }
 
-#[derive(Clone, Copy)]
-pub enum Closing {
-    // 50 or 53.
-    Refused(u8),
-    Closed(Ended),
-}
+// What was ended, or refused by 50 or 53.
+pub type Closing = Result<Ended, u8>;
 
 #[derive(Drop)]
 pub struct Closed {

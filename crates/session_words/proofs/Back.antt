@@ -1,4 +1,6 @@
 -- BOTH DIRECTIONS OF THE WORDS: a session's rest is read back from its words, and words that are read as a rest are its words. So words are refused exactly where they are no rest's.
+use Rattle.std.specs.Prelude.{None, Some}
+use Rattle.session_rules.specs.Options.{Fault, Layer, Stamp}
 use Prim.Native.Nat.{ℕ, ◌+◌, ◌-◌, ◌*◌, ◌/◌, ◌%◌, ◌≤◌}
 use mathlib.Core.Path.{◌≡◌, refl, sym, ap, ◌∙◌}
 use mathlib.Core.Bool.{Bool, true, false}
@@ -12,11 +14,7 @@ use Rattle.rules.specs.Numbered.{any_below}
 use Rattle.rules.proofs.Rows.{any_none}
 use Rattle.sizes.specs.declared.HeaderKind.{HeaderKind}
 use Rattle.sizes.specs.declared.HeaderKind.TheVariants.{Old, Vp8}
-use Rattle.session_rules.specs.declared.Stamp.{Stamp}
-use Rattle.session_rules.specs.declared.Layer.{Layer}
 use Rattle.session_rules.specs.declared.Reason.TheVariants.{Gap, Error, Clock, Mixed, Long, Cut, Empty}
-use Rattle.session_rules.specs.declared.Fault.{Fault}
-use Rattle.session_rules.specs.declared.Fault.TheVariants.{Sound, Bad}
 use Rattle.session_rules.specs.declared.Run.{Run}
 use Rattle.session_rules.specs.declared.Phase.{Phase}
 use Rattle.session_rules.specs.declared.Phase.TheVariants.{Fresh, Under, Past}
@@ -59,14 +57,14 @@ one-few true = omega arith
 one-few false = omega arith
 
 fault-few : (f : Fault) → fault_word f ≤ 7
-fault-few Sound = omega arith
-fault-few (Bad Gap) = omega arith
-fault-few (Bad Error) = omega arith
-fault-few (Bad Clock) = omega arith
-fault-few (Bad Mixed) = omega arith
-fault-few (Bad Long) = omega arith
-fault-few (Bad Cut) = omega arith
-fault-few (Bad Empty) = omega arith
+fault-few None = omega arith
+fault-few (Some Gap) = omega arith
+fault-few (Some Error) = omega arith
+fault-few (Some Clock) = omega arith
+fault-few (Some Mixed) = omega arith
+fault-few (Some Long) = omega arith
+fault-few (Some Cut) = omega arith
+fault-few (Some Empty) = omega arith
 
 phase-few : (p : Phase) → phase_word p ≤ 2
 phase-few Fresh = omega arith
@@ -84,26 +82,26 @@ kind-back Vp8 = refl
 
 stamp-back : (s : Stamp) → StampFits s → stamp_in (stamp_word s) ≡ s
 unfolding stamp_in if_else
-stamp-back Stamp.Absent f = refl
-stamp-back (Stamp.At x) f =
-    rw (ne_eqb (x + 1) 0 (λ z. absurd (let y : x + 1 ≡ 0 = z in omega arith))) (ap Stamp.At (let y : (x + 1 - 1) % 4294967296 ≡ x = omega (arith, f) in y))
+stamp-back None f = refl
+stamp-back (Some x) f =
+    rw (ne_eqb (x + 1) 0 (λ z. absurd (let y : x + 1 ≡ 0 = z in omega arith))) (ap Some (let y : (x + 1 - 1) % 4294967296 ≡ x = omega (arith, f) in y))
 
 layer-back : (y : Layer) → LayerFits y → layer_in (layer_word y) ≡ y
 unfolding layer_in if_else
-layer-back Layer.Absent f = refl
-layer-back (Layer.At x) f =
-    rw (ne_eqb (x + 1) 0 (λ z. absurd (let y : x + 1 ≡ 0 = z in omega arith))) (ap Layer.At (let y : (x + 1 - 1) % 65536 ≡ x = omega (arith, f) in y))
+layer-back None f = refl
+layer-back (Some x) f =
+    rw (ne_eqb (x + 1) 0 (λ z. absurd (let y : x + 1 ≡ 0 = z in omega arith))) (ap Some (let y : (x + 1 - 1) % 65536 ≡ x = omega (arith, f) in y))
 
 fault-back : (f : Fault) → fault_in (fault_word f) ≡ f
 unfolding fault_in if_else
-fault-back Sound = refl
-fault-back (Bad Gap) = refl
-fault-back (Bad Error) = refl
-fault-back (Bad Clock) = refl
-fault-back (Bad Mixed) = refl
-fault-back (Bad Long) = refl
-fault-back (Bad Cut) = refl
-fault-back (Bad Empty) = refl
+fault-back None = refl
+fault-back (Some Gap) = refl
+fault-back (Some Error) = refl
+fault-back (Some Clock) = refl
+fault-back (Some Mixed) = refl
+fault-back (Some Long) = refl
+fault-back (Some Cut) = refl
+fault-back (Some Empty) = refl
 
 -- a run, by way of its words
 abbrev again : Run → Run

@@ -1,18 +1,17 @@
 -- What the types of a session's rest say of its numbers: one byte, 32 and 16 bits.
-use Rattle.std.specs.Prelude.{◌<◌}
-use Rattle.session_rules.specs.declared.Stamp.{Stamp}
-use Rattle.session_rules.specs.declared.Layer.{Layer}
+use Rattle.session_rules.specs.Options.{Layer, Stamp}
+use Rattle.std.specs.Prelude.{◌<◌, None, Some}
 use Rattle.session_rules.specs.declared.Phase.{Phase}
 use Rattle.session_rules.specs.declared.Phase.TheVariants.{Fresh, Under, Past}
 use Rattle.session_rules.specs.declared.Rest.{Rest}
 
 abbrev pub StampFits : Stamp → Type 0
-StampFits Stamp.Absent = Unit {0}
-StampFits (Stamp.At x) = x < 4294967296
+StampFits None = Unit {0}
+StampFits (Some x) = x < 4294967296
 
 abbrev pub LayerFits : Layer → Type 0
-LayerFits Layer.Absent = Unit {0}
-LayerFits (Layer.At x) = x < 65536
+LayerFits None = Unit {0}
+LayerFits (Some x) = x < 65536
 
 abbrev pub PhaseFits : Phase → Type 0
 PhaseFits Fresh = Unit {0}

@@ -1,15 +1,12 @@
 -- WHAT WORDS ARE A SESSION'S: those that the rest which they are read as is laid out in. So each rest has one form, and all else is told by 54 or 50 (proofs/Back: `read_back`,
 -- `read_only_lem`).
-use Rattle.std.specs.Prelude.{ℕ, ◌-◌, ◌/◌, ◌%◌, ◌≡◌, Bool, true, not, List, get_or, replicate, eqb}
+use Rattle.session_rules.specs.Options.{Fault, Layer, Stamp}
+use Rattle.std.specs.Prelude.{ℕ, ◌-◌, ◌/◌, ◌%◌, ◌≡◌, Bool, true, not, List, get_or, replicate, eqb, None, Some}
 use Rattle.rules.specs.IfElse.{if_else}
 use Rattle.rules.specs.Numbered.{any_below}
 use Rattle.sizes.specs.declared.HeaderKind.{HeaderKind}
 use Rattle.sizes.specs.declared.HeaderKind.TheVariants.{Old, Vp8}
-use Rattle.session_rules.specs.declared.Stamp.{Stamp}
-use Rattle.session_rules.specs.declared.Layer.{Layer}
 use Rattle.session_rules.specs.declared.Reason.TheVariants.{Gap, Error, Clock, Mixed, Long, Cut, Empty}
-use Rattle.session_rules.specs.declared.Fault.{Fault}
-use Rattle.session_rules.specs.declared.Fault.TheVariants.{Sound, Bad}
 use Rattle.session_rules.specs.declared.Run.{Run}
 use Rattle.session_rules.specs.declared.Phase.{Phase}
 use Rattle.session_rules.specs.declared.Phase.TheVariants.{Fresh, Under, Past}
@@ -20,20 +17,20 @@ use Rattle.session_words.specs.Words.{word_count, spare_count, words_of}
 
 -- as a number of so few: where there are more, one of them
 unfoldable pub stamp_in : ℕ → Stamp
-stamp_in x = if_else (eqb x 0) Stamp.Absent (Stamp.At ((x - 1) % 4294967296))
+stamp_in x = if_else (eqb x 0) None (Some ((x - 1) % 4294967296))
 
 unfoldable pub layer_in : ℕ → Layer
-layer_in x = if_else (eqb x 0) Layer.Absent (Layer.At ((x - 1) % 65536))
+layer_in x = if_else (eqb x 0) None (Some ((x - 1) % 65536))
 
 unfoldable pub fault_in : ℕ → Fault
 fault_in x =
-    if_else (eqb x 0) Sound
-    (if_else (eqb x 1) (Bad Gap)
-    (if_else (eqb x 2) (Bad Error)
-    (if_else (eqb x 3) (Bad Clock)
-    (if_else (eqb x 4) (Bad Mixed)
-    (if_else (eqb x 5) (Bad Long)
-    (if_else (eqb x 6) (Bad Cut) (Bad Empty)))))))
+    if_else (eqb x 0) None
+    (if_else (eqb x 1) (Some Gap)
+    (if_else (eqb x 2) (Some Error)
+    (if_else (eqb x 3) (Some Clock)
+    (if_else (eqb x 4) (Some Mixed)
+    (if_else (eqb x 5) (Some Long)
+    (if_else (eqb x 6) (Some Cut) (Some Empty)))))))
 
 unfoldable pub kind_in : ℕ → HeaderKind
 kind_in x = if_else (eqb x 0) Old Vp8

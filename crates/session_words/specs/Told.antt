@@ -1,14 +1,9 @@
 -- WHAT C IS TOLD of a call: one record of sixteen bytes. A field that has nothing to say is 0.
-use Rattle.std.specs.Prelude.{ℕ, ◌+◌, ◌%◌, Bool, true, false}
-use Rattle.session_rules.specs.declared.Stamp.{Stamp}
-use Rattle.session_rules.specs.declared.Layer.{Layer}
-use Rattle.session_rules.specs.declared.Ended.{Ended}
+use Rattle.session_rules.specs.Options.{Ended, Layer, Stamp, Start, Report, Closing}
+use Rattle.std.specs.Prelude.{ℕ, ◌+◌, ◌%◌, Bool, true, false, None, Some, Err, Ok}
 use Rattle.session_rules.specs.declared.Delivery.{Delivery}
 use Rattle.session_rules.specs.declared.Fate.{Fate}
 use Rattle.session_rules.specs.declared.Outcome.{Outcome}
-use Rattle.session_rules.specs.declared.Report.{Report}
-use Rattle.session_rules.specs.declared.Closing.{Closing}
-use Rattle.session_rules.specs.declared.Start.{Start}
 use Rattle.session_words.specs.declared.Told.{Told}
 use Rattle.session_words.specs.Words.{reason_word}
 
@@ -23,20 +18,20 @@ plain_told ended fate detail =
 
 -- flags: 1 with a stamp, 2 with a layer, 4 where the transfer is to be offered again
 abbrev pub stamp_flag : Stamp → ℕ
-stamp_flag Stamp.Absent = 0
-stamp_flag (Stamp.At x) = 1
+stamp_flag None = 0
+stamp_flag (Some x) = 1
 
 abbrev pub layer_flag : Layer → ℕ
-layer_flag Layer.Absent = 0
-layer_flag (Layer.At x) = 2
+layer_flag None = 0
+layer_flag (Some x) = 2
 
 abbrev pub stamp_low : Stamp → ℕ
-stamp_low Stamp.Absent = 0
-stamp_low (Stamp.At x) = x
+stamp_low None = 0
+stamp_low (Some x) = x
 
 abbrev pub layer_low : Layer → ℕ
-layer_low Layer.Absent = 0
-layer_low (Layer.At x) = x
+layer_low None = 0
+layer_low (Some x) = x
 
 -- a frame that is handed over: its length, stamp and layer (proofs/Lengths: no frame has more bytes than the field takes)
 abbrev pub frame_told : ℕ → ℕ → ℕ → Delivery → Told
@@ -54,8 +49,8 @@ frame_told ended fate more d =
     }
 
 abbrev pub ended_word : Ended → ℕ
-ended_word Ended.Nothing = 0
-ended_word (Ended.Frame why) = reason_word why
+ended_word None = 0
+ended_word (Some why) = reason_word why
 
 -- fates: 0 idle, 1 kept, 2 stray, 3 delivered, 4 still, 5 dropped, 6 unreadable
 abbrev pub fate_told : ℕ → Fate → Told
@@ -79,13 +74,13 @@ outcome_told (Outcome.Handed x) = frame_told 0 (handed_fate x.still) 4 x.deliver
 
 -- LOST, CLOSE and OPEN
 abbrev pub report_told : Report → ℕ
-report_told (Report.Refused k) = k
-report_told Report.Noted = 0
+report_told (Err k) = k
+report_told (Ok _) = 0
 
 abbrev pub closing_told : Closing → Told
-closing_told (Closing.Refused k) = refused_told k
-closing_told (Closing.Closed e) = plain_told (ended_word e) 0 0
+closing_told (Err k) = refused_told k
+closing_told (Ok e) = plain_told (ended_word e) 0 0
 
 abbrev pub start_told : Start → ℕ
-start_told (Start.Refused k) = k
-start_told Start.Open = 0
+start_told (Err k) = k
+start_told (Ok _) = 0

@@ -1,13 +1,10 @@
 -- THE WORDS OF A SESSION, as a host in C keeps it beside the ledger's numbers: nine that are left of the ledger's forty (document 02, Eight: rest zero), and ten of its state.
-use Rattle.std.specs.Prelude.{ℕ, ◌+◌, ◌*◌, Bool, true, false, List, [], ◌∷◌, ◌++◌, replicate}
+use Rattle.session_rules.specs.Options.{Fault, Layer, Stamp}
+use Rattle.std.specs.Prelude.{ℕ, ◌+◌, ◌*◌, Bool, true, false, List, [], ◌∷◌, ◌++◌, replicate, None, Some}
 use Rattle.sizes.specs.declared.HeaderKind.{HeaderKind}
 use Rattle.sizes.specs.declared.HeaderKind.TheVariants.{Old, Vp8}
-use Rattle.session_rules.specs.declared.Stamp.{Stamp}
-use Rattle.session_rules.specs.declared.Layer.{Layer}
 use Rattle.session_rules.specs.declared.Reason.{Reason}
 use Rattle.session_rules.specs.declared.Reason.TheVariants.{Gap, Error, Clock, Mixed, Long, Cut, Empty}
-use Rattle.session_rules.specs.declared.Fault.{Fault}
-use Rattle.session_rules.specs.declared.Fault.TheVariants.{Sound, Bad}
 use Rattle.session_rules.specs.declared.Run.{Run}
 use Rattle.session_rules.specs.declared.Phase.{Phase}
 use Rattle.session_rules.specs.declared.Phase.TheVariants.{Fresh, Under, Past}
@@ -26,12 +23,12 @@ one_of false = 0
 
 -- 0 for none, else one more than it
 abbrev pub stamp_word : Stamp → ℕ
-stamp_word Stamp.Absent = 0
-stamp_word (Stamp.At x) = x + 1
+stamp_word None = 0
+stamp_word (Some x) = x + 1
 
 abbrev pub layer_word : Layer → ℕ
-layer_word Layer.Absent = 0
-layer_word (Layer.At x) = x + 1
+layer_word None = 0
+layer_word (Some x) = x + 1
 
 -- reasons in the order of the first fault that counts, then the two that end a frame without one; 0 is none
 abbrev pub reason_word : Reason → ℕ
@@ -44,8 +41,8 @@ reason_word Cut = 6
 reason_word Empty = 7
 
 abbrev pub fault_word : Fault → ℕ
-fault_word Sound = 0
-fault_word (Bad why) = reason_word why
+fault_word None = 0
+fault_word (Some why) = reason_word why
 
 abbrev pub kind_word : HeaderKind → ℕ
 kind_word Old = 0
@@ -58,7 +55,7 @@ phase_word (Past fid) = 2
 
 -- no frame under way, with the FID of the run: all else is 0
 abbrev pub no_run : Bool → Run
-no_run fid = record { bytes = 0; fill = 0; stamp = Stamp.Absent; fid = fid; still = false; fault = Sound; layer = Layer.Absent }
+no_run fid = record { bytes = 0; fill = 0; stamp = None; fid = fid; still = false; fault = None; layer = None }
 
 abbrev pub run_of : Phase → Run
 run_of Fresh = no_run false

@@ -43,8 +43,8 @@ fn stamp_flag(s: Stamp) -> u8
     ensures { (result ≡ stamp_flag s) × (result ≤ 1) }
 {
     match s {
-        Stamp::Absent => 0,
-        Stamp::At(_) => 1,
+        None => 0,
+        Some(_) => 1,
     }
 }
 
@@ -52,8 +52,8 @@ fn layer_flag(y: Layer) -> u8
     ensures { (result ≡ layer_flag y) × (result ≤ 2) }
 {
     match y {
-        Layer::Absent => 0,
-        Layer::At(_) => 2,
+        None => 0,
+        Some(_) => 2,
     }
 }
 
@@ -61,8 +61,8 @@ fn stamp_low(s: Stamp) -> u32
     ensures { result ≡ stamp_low s }
 {
     match s {
-        Stamp::Absent => 0,
-        Stamp::At(x) => x,
+        None => 0,
+        Some(x) => x,
     }
 }
 
@@ -70,8 +70,8 @@ fn layer_low(y: Layer) -> u16
     ensures { result ≡ layer_low y }
 {
     match y {
-        Layer::Absent => 0,
-        Layer::At(x) => x,
+        None => 0,
+        Some(x) => x,
     }
 }
 
@@ -103,8 +103,8 @@ fn ended_word(e: Ended) -> u8
     ensures { result ≡ ended_word e }
 {
     match e {
-        Ended::Nothing => 0,
-        Ended::Frame(why) => words::reason_word(why),
+        None => 0,
+        Some(why) => words::reason_word(why),
     }
 }
 
@@ -151,8 +151,8 @@ pub fn report(x: Report) -> u8
     ensures { result ≡ report_told x }
 {
     match x {
-        Report::Refused(k) => k,
-        Report::Noted => 0,
+        Err(k) => k,
+        Ok(()) => 0,
     }
 }
 
@@ -161,8 +161,8 @@ pub fn closing(x: Closing) -> Told
     ensures { result ≡ closing_told x }
 {
     match x {
-        Closing::Refused(k) => refused(k),
-        Closing::Closed(e) => plain(ended_word(e), 0, 0),
+        Err(k) => refused(k),
+        Ok(e) => plain(ended_word(e), 0, 0),
     }
 }
 
@@ -171,7 +171,7 @@ pub fn start(x: Start) -> u32
     ensures { result ≡ start_told x }
 {
     match x {
-        Start::Refused(k) => k as u32,
-        Start::Open => 0,
+        Err(k) => k as u32,
+        Ok(()) => 0,
     }
 }

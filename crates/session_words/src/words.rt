@@ -1,7 +1,7 @@
 // Laying a session's rest out in words, and reading it back.
-ghost use Rattle.std.specs.Prelude.{◌≡◌, false, ◌<◌, ◌≤◌, length};
+ghost use Rattle.std.specs.Prelude.{◌≡◌, false, ◌<◌, ◌≤◌};
 ghost use Rattle.rules.specs.Numbered.{any_below};
-ghost use Rattle.session_words.specs.Words.{word_count, one_of, stamp_word, layer_word, reason_word, fault_word, kind_word, phase_word, no_run, run_of, under_way, marks_of, words_of};
+ghost use Rattle.session_words.specs.Words.{word_count, one_of, stamp_word, layer_word, reason_word, fault_word, kind_word, phase_word, no_run, run_of, marks_of, words_of};
 ghost use Rattle.session_words.specs.Reading.{stamp_in, layer_in, fault_in, kind_in, phase_in, rest_in, differ_at, spare_set, read_of, Plain};
 
 use crate::{Read, Words};
@@ -39,8 +39,8 @@ fn stamp_word(s: Stamp) -> u64
     ensures { result ≡ stamp_word s }
 {
     match s {
-        Stamp::Absent => 0,
-        Stamp::At(x) => x as u64 + 1,
+        None => 0,
+        Some(stamp) => stamp as u64 + 1,
     }
 }
 
@@ -48,8 +48,8 @@ fn layer_word(s: Layer) -> u64
     ensures { result ≡ layer_word s }
 {
     match s {
-        Layer::Absent => 0,
-        Layer::At(x) => x as u64 + 1,
+        None => 0,
+        Some(layer) => layer as u64 + 1,
     }
 }
 
@@ -72,8 +72,8 @@ fn fault_word(f: Fault) -> u64
     ensures { (result ≡ fault_word f) × (result ≤ 7) }
 {
     match f {
-        Fault::Sound => 0,
-        Fault::Bad(why) => reason_word(why) as u64,
+        None => 0,
+        Some(why) => reason_word(why) as u64,
     }
 }
 
@@ -103,11 +103,11 @@ fn no_run(fid: bool) -> Run
     Run {
         bytes: 0,
         fill: 0,
-        stamp: Stamp::Absent,
+        stamp: None,
         fid,
         still: false,
-        fault: Fault::Sound,
-        layer: Layer::Absent,
+        fault: None,
+        layer: None,
     }
 }
 
@@ -178,32 +178,32 @@ fn stamp_in(x: u64) -> Stamp
     ensures { result ≡ stamp_in x }
 {
     if x == 0 {
-        return Stamp::Absent;
+        return None;
     }
-    Stamp::At(((x - 1) % 4294967296) as u32)
+    Some(((x - 1) % 4294967296) as u32)
 }
 
 fn layer_in(x: u64) -> Layer
     ensures { result ≡ layer_in x }
 {
     if x == 0 {
-        return Layer::Absent;
+        return None;
     }
-    Layer::At(((x - 1) % 65536) as u16)
+    Some(((x - 1) % 65536) as u16)
 }
 
 fn fault_in(x: u64) -> Fault
     ensures { result ≡ fault_in x }
 {
     match x {
-        0 => Fault::Sound,
-        1 => Fault::Bad(Reason::Gap),
-        2 => Fault::Bad(Reason::Error),
-        3 => Fault::Bad(Reason::Clock),
-        4 => Fault::Bad(Reason::Mixed),
-        5 => Fault::Bad(Reason::Long),
-        6 => Fault::Bad(Reason::Cut),
-        _ => Fault::Bad(Reason::Empty),
+        0 => None,
+        1 => Some(Reason::Gap),
+        2 => Some(Reason::Error),
+        3 => Some(Reason::Clock),
+        4 => Some(Reason::Mixed),
+        5 => Some(Reason::Long),
+        6 => Some(Reason::Cut),
+        _ => Some(Reason::Empty),
     }
 }
 
@@ -270,12 +270,10 @@ fn differs(w: &Words, x: &Words, n: usize) -> bool
     requires { n ≤ word_count }
     ensures { result ≡ any_below n (differ_at w.now x.now) }
 {
-    let mut k: usize = 0;
-    while k < n {
+    for k in 0..n {
         if w[k] != x[k] {
             return true;
         }
-        k += 1;
     }
     false
 }

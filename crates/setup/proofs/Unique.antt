@@ -1,11 +1,10 @@
 -- The promises of `ready`, `build` and `read` leave one answer and one content of the room.
+use Rattle.rules.specs.Verdicts.{Verdict, refuse}
 use Prim.Native.Nat.{ℕ}
 use mathlib.Core.Path.{◌≡◌, refl, sym, ap, ◌∙◌}
 use mathlib.Core.List.{List}
 use native.Mathlib.Omega.{arith}
-use Rattle.rules.specs.declared.Verdict.{Verdict}
-use Rattle.rules.specs.declared.Verdict.TheVariants.{Refused}
-use Rattle.rules.proofs.Verdicts.{apart}
+use Rattle.rules.proofs.Verdicts.{apart, same-refusal}
 use Rattle.entities.specs.declared.Entity.{Entity}
 use Rattle.control.specs.Answer.{refused_by, ControlIs}
 use Rattle.control.specs.declared.Control.{Control}
@@ -21,7 +20,7 @@ use Rattle.setup.specs.Setup as setup
 use Rattle.setup.proofs.Deciding.{ready-accepted}
 
 module _ (s : List ℕ) where
-  same-verdict : (k o j p : ℕ) → ControlIs s (refused_by k o) → ControlIs s (refused_by j p) → Refused k o ≡ Refused j p
+  same-verdict : (k o j p : ℕ) → ControlIs s (refused_by k o) → ControlIs s (refused_by j p) → refuse k o ≡ refuse j p
   same-verdict k o j p c d = ap (λ (x : Control). x.verdict) (control.read-unique s c d)
 
   module _ (unit : ℕ) (g : Setting) where
@@ -46,7 +45,7 @@ module _ (s : List ℕ) where
     ready-unique (all_there r) (by-91 l a i u m x f) = sym (ready-accepted (by-91 l a i u m x f) r)
     ready-unique (all_there r) (all_there q) = refl
 
-    refused-not-ready : (k o : ℕ) → ReadyIs s unit g (Refused k o) → Ready s unit g → ⊥
+    refused-not-ready : (k o : ℕ) → ReadyIs s unit g (refuse k o) → Ready s unit g → ⊥
     refused-not-ready k o h r = apart k o (ready-accepted h r)
 
     pub verdict-unique : (room : List ℕ) {v w : Verdict} → BuildIs s unit g room v → BuildIs s unit g room w → v ≡ w
@@ -70,7 +69,7 @@ module _ (s : List ℕ) where
     not-built k o c u g r = not-both s u k o r.seen c r.accepted
 
     pub read-unique : {r t : Reading} → ReadIs s interface bytes r → ReadIs s interface bytes t → r ≡ t
-    read-unique (setup.ReadIs.own k o c) (setup.ReadIs.own j p d) = let e = same-verdict k o j p c d in let x : k ≡ j = cc in let y : o ≡ p = cc in rw (x, y)
+    read-unique (setup.ReadIs.own k o c) (setup.ReadIs.own j p d) = let e = same-verdict k o j p c d in let w = same-refusal k o j p e in rw (w.0, w.1)
     read-unique (setup.ReadIs.own k o c) (setup.ReadIs.asks u g q b) = absurd (not-built k o c u g b.ready)
     read-unique (setup.ReadIs.own k o c) (setup.ReadIs.by-95 l a f) = absurd (not-both s 0 k o l c a)
     read-unique (setup.ReadIs.asks u g q b) (setup.ReadIs.own k o c) = absurd (not-built k o c u g b.ready)

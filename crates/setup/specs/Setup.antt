@@ -1,7 +1,6 @@
 -- Document 02, Eleven: building the setup packets of an accepted block's processing units, and reading them back. `s` is the control block.
+use Rattle.rules.specs.Verdicts.{Verdict, accept, refuse}
 use Rattle.std.specs.Prelude.{ℕ, ◌*◌, ◌/◌, ◌%◌, ◌≤◌, ◌<◌, ◌^◌, ◌≡◌, List, length, get_or}
-use Rattle.rules.specs.declared.Verdict.{Verdict}
-use Rattle.rules.specs.declared.Verdict.TheVariants.{Accepted, Refused}
 use Rattle.entities.specs.Table.{processing_unit, entity_at}
 use Rattle.entities.specs.declared.Entity.{Entity}
 use Rattle.control.specs.Answer.{refused_by, ControlIs}
@@ -37,16 +36,16 @@ pub record Ready (s : List ℕ) (unit : ℕ) (c : Setting) : Type 0 where
 
 -- the block's own refusal; 90: no processing unit of that ID; 91: the setting is not in its map
 pub data ReadyIs (s : List ℕ) (unit : ℕ) (c : Setting) : Verdict → Type 0 where
-  own : (k o : ℕ) → ControlIs s (refused_by k o) → ReadyIs s unit c (Refused k o)
-  by-90 : (seen : List Entity) → AcceptedWith s seen → ((i : ℕ) → UnitAt seen unit i → ⊥) → ReadyIs s unit c (Refused 90 0)
-  by-91 : (seen : List Entity) → AcceptedWith s seen → (i : ℕ) → UnitAt seen unit i → (m : Map) → MapIs s unit m → (InMap m c → ⊥) → ReadyIs s unit c (Refused 91 0)
-  all_there : Ready s unit c → ReadyIs s unit c Accepted
+  own : (k o : ℕ) → ControlIs s (refused_by k o) → ReadyIs s unit c (refuse k o)
+  by-90 : (seen : List Entity) → AcceptedWith s seen → ((i : ℕ) → UnitAt seen unit i → ⊥) → ReadyIs s unit c (refuse 90 0)
+  by-91 : (seen : List Entity) → AcceptedWith s seen → (i : ℕ) → UnitAt seen unit i → (m : Map) → MapIs s unit m → (InMap m c → ⊥) → ReadyIs s unit c (refuse 91 0)
+  all_there : Ready s unit c → ReadyIs s unit c accept
 
 -- BUILDING: these first; then 94, room under 8. What is left in the room is `leaves` of the verdict (packets/specs/Packets)
 pub data BuildIs (s : List ℕ) (unit : ℕ) (c : Setting) (room : List ℕ) : Verdict → Type 0 where
-  first : (k o : ℕ) → ReadyIs s unit c (Refused k o) → BuildIs s unit c room (Refused k o)
-  by-94 : Ready s unit c → length room < packet_size → BuildIs s unit c room (Refused 94 0)
-  built : Ready s unit c → packet_size ≤ length room → BuildIs s unit c room Accepted
+  first : (k o : ℕ) → ReadyIs s unit c (refuse k o) → BuildIs s unit c room (refuse k o)
+  by-94 : Ready s unit c → length room < packet_size → BuildIs s unit c room (refuse 94 0)
+  built : Ready s unit c → packet_size ≤ length room → BuildIs s unit c room accept
 
 -- for this block and interface the packet of the unit, setting and request is built, and it is these bytes
 pub record Builds (s : List ℕ) (interface : ℕ) (bytes : List ℕ) (unit : ℕ) (c : Setting) (q : Request) : Type 0 where

@@ -1,8 +1,8 @@
 // Camera settings: builds the setup packets of an accepted control block's processing units, and reads them back (90, 91, 94, 95).
 #![tactic(auto)]
 
+ghost use Rattle.rules.specs.Verdicts.{accept, refuse};
 ghost use Rattle.std.specs.Prelude.{◌≡◌};
-ghost use Rattle.rules.specs.declared.Verdict.TheVariants.{Accepted};
 ghost use Rattle.control.specs.Answer.{ControlIs};
 ghost use Rattle.packets.specs.Packets.{packet_of, leaves};
 ghost use Rattle.setup.specs.Setup.{ReadyIs, BuildIs, ReadIs};
@@ -10,9 +10,9 @@ ghost use Rattle.setup.specs.Inner.{asked_by, is_unit, in_map};
 
 use camera_settings::{Request, Setting};
 use control_map::Map;
-use entities::{Found, Table};
+use entities::Table;
 use packets::Reading;
-use rules::Verdict;
+use rules::{Refused, Verdict};
 
 // Builds the packet for a setting of a unit into the first 8 bytes of the room, and no other: the control block's own refusal, 90, 91, 94. A refusal changes no byte.
 pub fn build(
@@ -28,8 +28,8 @@ pub fn build(
 {
     let verdict = ready(block, unit, setting);
     match verdict {
-        Verdict::Accepted => packets::write(interface, unit, setting, request, room),
-        Verdict::Refused { .. } => verdict,
+        Ok(()) => packets::write(interface, unit, setting, request, room),
+        Err(Refused { .. }) => verdict,
     }
 }
 
@@ -41,8 +41,8 @@ pub fn read(block: &[u8], interface: u8, bytes: &[u8]) -> Reading
     let verdict = c.verdict;
     let table = c.table;
     match verdict {
-        Verdict::Accepted => read_in(block, table, interface, bytes),
-        Verdict::Refused { number, offset } => Reading::Refused { number, offset },
+        Ok(()) => read_in(block, table, interface, bytes),
+        Err(Refused { number, offset }) => Reading::Refused { number, offset },
     }
 }
 
@@ -54,14 +54,14 @@ pub fn ready(block: &[u8], unit: u8, setting: Setting) -> Verdict
     let verdict = c.verdict;
     let table = c.table;
     match verdict {
-        Verdict::Accepted => ready_in(block, table, unit, setting),
-        Verdict::Refused { .. } => verdict,
+        Ok(()) => ready_in(block, table, unit, setting),
+        Err(Refused { .. }) => verdict,
     }
 }
 
 // The same in a block that was accepted with this table.
 fn ready_in(s: &[u8], table: Table, unit: u8, setting: Setting) -> Verdict
-    requires { ControlIs s.now (record { verdict = Accepted; table = table }) }
+    requires { ControlIs s.now (record { verdict = accept; table = table }) }
     ensures { ReadyIs s.now unit setting result }
 {
     if !is_unit(table, unit) {
@@ -71,11 +71,11 @@ fn ready_in(s: &[u8], table: Table, unit: u8, setting: Setting) -> Verdict
     if !in_map(map, setting) {
         return refused(91);
     }
-    Verdict::Accepted
+    Ok(())
 }
 
 fn read_in(s: &[u8], table: Table, interface: u8, bytes: &[u8]) -> Reading
-    requires { ControlIs s.now (record { verdict = Accepted; table = table }) }
+    requires { ControlIs s.now (record { verdict = accept; table = table }) }
     ensures { ReadIs s.now interface bytes.now result }
 {
     let reading = packets::spelt(interface, bytes);
@@ -94,12 +94,12 @@ fn asked(verdict: Verdict, unit: u8, setting: Setting, request: Request) -> Read
     ensures { result ≡ asked_by verdict unit setting request }
 {
     match verdict {
-        Verdict::Accepted => Reading::Asks {
+        Ok(()) => Reading::Asks {
             unit,
             setting,
             request,
         },
-        Verdict::Refused { .. } => Reading::Refused {
+        Err(Refused { .. }) => Reading::Refused {
             number: 95,
             offset: 0,
         },
@@ -112,8 +112,8 @@ fn is_unit(table: Table, id: u8) -> bool
 {
     let entities = table.entities;
     match entities::find_among(entities, table.count, id) {
-        Found::Nothing => false,
-        Found::At(i) => {
+        None => false,
+        Some(i) => {
             let e = table.entities[i];
             e.kind == entities::PROCESSING_UNIT
         }
@@ -128,7 +128,7 @@ fn in_map(map: Map, setting: Setting) -> bool
 }
 
 fn refused(number: u8) -> Verdict
-    ensures { result ≡ Verdict.Refused number 0 }
+    ensures { result ≡ refuse number 0 }
 {
-    Verdict::Refused { number, offset: 0 }
+    Err(Refused { number, offset: 0 })
 }

@@ -4,55 +4,54 @@
 ghost use Rattle.std.specs.Prelude.{◌≡◌};
 ghost use Rattle.setup_arguments.specs.Arguments.{SettingNamed, RequestNamed, minus_of, signed_of, word_of};
 
-use arguments::Number;
-use camera_settings::{Request, RequestFound, Setting, SettingFound};
+use camera_settings::{Request, Setting};
 
 // The setting of a name.
-pub fn setting_named(word: &[u8]) -> SettingFound
+pub fn setting_named(word: &[u8]) -> Option<Setting>
     ensures { SettingNamed word.now result }
 {
     if check::same(word, b"brightness") {
-        return SettingFound::Is(Setting::Brightness);
+        return Some(Setting::Brightness);
     }
     if check::same(word, b"contrast") {
-        return SettingFound::Is(Setting::Contrast);
+        return Some(Setting::Contrast);
     }
     if check::same(word, b"hue") {
-        return SettingFound::Is(Setting::Hue);
+        return Some(Setting::Hue);
     }
     if check::same(word, b"saturation") {
-        return SettingFound::Is(Setting::Saturation);
+        return Some(Setting::Saturation);
     }
-    SettingFound::None
+    None
 }
 
 // The request of a name.
-pub fn request_named(word: &[u8]) -> RequestFound
+pub fn request_named(word: &[u8]) -> Option<Request>
     ensures { RequestNamed word.now result }
 {
     if check::same(word, b"get_cur") {
-        return RequestFound::Is(Request::GetCur);
+        return Some(Request::GetCur);
     }
     if check::same(word, b"get_min") {
-        return RequestFound::Is(Request::GetMin);
+        return Some(Request::GetMin);
     }
     if check::same(word, b"get_max") {
-        return RequestFound::Is(Request::GetMax);
+        return Some(Request::GetMax);
     }
     if check::same(word, b"get_res") {
-        return RequestFound::Is(Request::GetRes);
+        return Some(Request::GetRes);
     }
     if check::same(word, b"get_def") {
-        return RequestFound::Is(Request::GetDef);
+        return Some(Request::GetDef);
     }
     if check::same(word, b"set_cur") {
-        return RequestFound::Is(Request::SetCur);
+        return Some(Request::SetCur);
     }
-    RequestFound::None
+    None
 }
 
 // The word of 16 bits that stands for a number of the setting's type; none where the text is no such number.
-pub fn word_of(setting: Setting, text: &[u8]) -> Number
+pub fn word_of(setting: Setting, text: &[u8]) -> Option<u32>
     ensures { result ≡ word_of setting text.now }
 {
     if camera_settings::is_signed(setting) {
@@ -61,11 +60,11 @@ pub fn word_of(setting: Setting, text: &[u8]) -> Number
     arguments::read(text, 65535)
 }
 
-fn signed(text: &[u8]) -> Number
+fn signed(text: &[u8]) -> Option<u32>
     ensures { result ≡ signed_of text.now }
 {
     if text.len() == 0 {
-        return Number::None;
+        return None;
     }
     if text[0] == b'-' {
         return minus(arguments::read(&text[1..], 32768));
@@ -73,11 +72,8 @@ fn signed(text: &[u8]) -> Number
     arguments::read(text, 32767)
 }
 
-fn minus(n: Number) -> Number
+fn minus(n: Option<u32>) -> Option<u32>
     ensures { result ≡ minus_of n }
 {
-    match n {
-        Number::Is(m) => Number::Is((65536 - m % 65536) % 65536),
-        Number::None => Number::None,
-    }
+    n.map(|m| (65536 - m % 65536) % 65536)
 }

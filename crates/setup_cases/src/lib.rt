@@ -19,21 +19,17 @@ pub fn run() -> bool {
 // A packet is built into the room.
 fn build() -> bool {
     let mut block = [0u8; 4352];
-    let part = input::part(&mut block);
-    let n = part.count;
-    if !part.fine {
+    let Some(n) = input::part(&mut block) else {
         return false;
-    }
+    };
     let interface = input::byte();
     let unit = input::byte();
     let setting = setting_of(input::byte());
     let request = request_of(input::byte());
     let mut room = [0u8; 64];
-    let second = input::part(&mut room);
-    let m = second.count;
-    if !second.fine {
+    let Some(m) = input::part(&mut room) else {
         return false;
-    }
+    };
     built(
         &block[..n],
         interface,
@@ -62,18 +58,14 @@ fn built(
 
 fn read() -> bool {
     let mut block = [0u8; 4352];
-    let part = input::part(&mut block);
-    let n = part.count;
-    if !part.fine {
+    let Some(n) = input::part(&mut block) else {
         return false;
-    }
+    };
     let interface = input::byte();
     let mut bytes = [0u8; 64];
-    let second = input::part(&mut bytes);
-    let m = second.count;
-    if !second.fine {
+    let Some(m) = input::part(&mut bytes) else {
         return false;
-    }
+    };
     let reading = setup::read(&block[..n], interface, &bytes[..m]);
     print::text(b"read ");
     match reading {

@@ -59,10 +59,7 @@ pub fn number(buf: &mut [u8], setting: Setting, word: u16) -> usize
 fn is_below(setting: Setting, word: u16) -> bool
     ensures { result ≡ is_below setting word }
 {
-    if camera_settings::is_signed(setting) {
-        return 32768 <= word;
-    }
-    false
+    camera_settings::is_signed(setting) && 32768 <= word
 }
 
 // A name, the digits of a number straight behind it, and the line's end.

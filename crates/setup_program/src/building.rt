@@ -1,6 +1,5 @@
 // `build CONTROL_FILE INTERFACE UNIT CONTROL REQUEST`: the eight bytes of a setup packet, or the refusal.
 use crate::words;
-use camera_settings::{RequestFound, SettingFound};
 use console::{files, print};
 use std::rt::Runtime;
 
@@ -13,21 +12,19 @@ pub fn build(rt: &impl Runtime) {
     if 255 < unit {
         return;
     }
-    let SettingFound::Is(setting) = words::setting(rt, 5) else {
+    let Some(setting) = words::setting(rt, 5) else {
         words::no_setting();
         return;
     };
-    let RequestFound::Is(request) = words::request(rt, 6) else {
+    let Some(request) = words::request(rt, 6) else {
         words::no_request();
         return;
     };
     // One byte more than a block may have shows a file that is too long.
     let mut block = [0u8; 4097];
-    let file = files::load(rt, 2, &mut block);
-    let n = file.count;
-    if !file.fine {
+    let Some(n) = files::load(rt, 2, &mut block) else {
         return;
-    }
+    };
     let mut packet = [0u8; packets::SIZE];
     let verdict = setup::build(
         &block[..n],

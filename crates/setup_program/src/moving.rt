@@ -1,11 +1,10 @@
 // `nearest CONTROL MIN MAX STEP WANTED`: the nearest allowed number, or the refusal.
 use crate::words;
-use camera_settings::SettingFound;
 use console::print;
 use std::rt::Runtime;
 
 pub fn nearest(rt: &impl Runtime) {
-    let SettingFound::Is(setting) = words::setting(rt, 2) else {
+    let Some(setting) = words::setting(rt, 2) else {
         words::no_setting();
         return;
     };

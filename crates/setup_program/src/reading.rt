@@ -9,18 +9,14 @@ pub fn read(rt: &impl Runtime) {
         return;
     }
     let mut block = [0u8; 4097];
-    let file = files::load(rt, 2, &mut block);
-    let n = file.count;
-    if !file.fine {
+    let Some(n) = files::load(rt, 2, &mut block) else {
         return;
-    }
+    };
     // One byte more than a packet has shows a file that is too long.
     let mut packet = [0u8; 9];
-    let other = files::load(rt, 4, &mut packet);
-    let m = other.count;
-    if !other.fine {
+    let Some(m) = files::load(rt, 4, &mut packet) else {
         return;
-    }
+    };
     let reading = setup::read(&block[..n], interface as u8, &packet[..m]);
     let mut text = [0u8; block_text::ROOM];
     let k = setup_text::read_back(&mut text, reading);

@@ -3,7 +3,7 @@ ghost use Rattle.std.specs.Prelude.{◌≡◌, List, ℕ};
 ghost use Rattle.arguments.specs.Digits.{number_or, byte_of};
 ghost use Rattle.setup_arguments.specs.Arguments.{SettingNamed, RequestNamed, word_of};
 
-use camera_settings::{RequestFound, Setting, SettingFound};
+use camera_settings::{Request, Setting};
 use console::print;
 use std::env::Env;
 
@@ -39,7 +39,7 @@ pub fn word(rt: &impl Env, which: usize, name: &[u8], setting: Setting) -> u32
 }
 
 // Argument `which` as the name of a setting.
-pub fn setting(rt: &impl Env, which: usize) -> SettingFound
+pub fn setting(rt: &impl Env, which: usize) -> Option<Setting>
     ensures { (text : List ℕ) × SettingNamed text result }
 {
     let mut text = [0u8; 16];
@@ -48,7 +48,7 @@ pub fn setting(rt: &impl Env, which: usize) -> SettingFound
 }
 
 // Argument `which` as the name of a request.
-pub fn request(rt: &impl Env, which: usize) -> RequestFound
+pub fn request(rt: &impl Env, which: usize) -> Option<Request>
     ensures { (text : List ℕ) × RequestNamed text result }
 {
     let mut text = [0u8; 16];

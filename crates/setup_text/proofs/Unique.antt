@@ -1,11 +1,11 @@
 -- The promise of each public function leaves one answer and one content of the buffer; and no text is empty, so that 0 is a refusal.
+use Rattle.std.specs.Prelude.{Err, Ok}
+use Rattle.rules.specs.Verdicts.{Verdict}
 use mathlib.Core.Path.{◌≡◌}
 use mathlib.Core.List.{List}
 use Prim.Native.Nat.{ℕ, ◌<◌}
 use native.Mathlib.Omega.{arith}
 use lib.ListN.{length}
-use Rattle.rules.specs.declared.Verdict.{Verdict}
-use Rattle.rules.specs.declared.Verdict.TheVariants as verdict
 use Rattle.camera_settings.specs.declared.Setting.{Setting}
 use Rattle.packets.specs.declared.Reading.{Reading}
 use Rattle.packets.specs.declared.Reading.TheVariants.{Asks, Refused}
@@ -29,13 +29,13 @@ moved-unique s m = unique (moved_text s m)
 
 -- no text is empty
 pub some-built : (v : Verdict) (p : List ℕ) → 0 < length (built_text v p)
-some-built verdict.Accepted p = omega arith
-some-built (verdict.Refused k o) p = omega arith
+some-built (Ok _) p = omega arith
+some-built (Err r) p = omega arith
 
 pub some_read : (x : Reading) → 0 < length (read_text x)
 some_read (Asks u c q) = omega arith
 some_read (Refused k o) = omega arith
 
 pub some-moved : (v : Verdict) (s : Setting) (w : ℕ) → 0 < length (moved_by v s w)
-some-moved verdict.Accepted s w = omega arith
-some-moved (verdict.Refused k o) s w = omega arith
+some-moved (Ok _) s w = omega arith
+some-moved (Err r) s w = omega arith

@@ -1,6 +1,6 @@
 -- What is printed of a whole answer: its line; or the refusal's line, and its number in plain words.
+use Rattle.rules.specs.Verdicts.{Verdict}
 use Rattle.std.specs.Prelude.{Bool, true, false, List, ℕ}
-use Rattle.rules.specs.declared.Verdict.{Verdict}
 use Rattle.camera_settings.specs.declared.Setting.{Setting}
 use Rattle.packets.specs.declared.Reading.{Reading}
 use Rattle.packets.specs.declared.Reading.TheVariants.{Asks, Refused}

@@ -12,7 +12,7 @@ use block_text::ROOM;
 use camera_settings::Setting;
 use nearest::Moved;
 use packets::{Reading, SIZE};
-use rules::Verdict;
+use rules::{Refused, Verdict};
 
 // The whole text of a packet that was built, or of the refusal, at the front of buf, and its length; 0, and buf as it was, where buf has fewer than ROOM bytes.
 pub fn built(buf: &mut [u8], verdict: Verdict, bytes: [u8; SIZE]) -> usize
@@ -54,10 +54,7 @@ pub fn moved_to(buf: &mut [u8], setting: Setting, m: Moved) -> usize
 pub fn is_asked(r: Reading) -> bool
     ensures { result ≡ is_asked r }
 {
-    match r {
-        Reading::Asks { .. } => true,
-        Reading::Refused { .. } => false,
-    }
+    matches!(r, Reading::Asks { .. })
 }
 
 fn put_built(buf: &mut [u8], verdict: Verdict, bytes: [u8; SIZE]) -> usize
@@ -65,8 +62,8 @@ fn put_built(buf: &mut [u8], verdict: Verdict, bytes: [u8; SIZE]) -> usize
     ensures { Put buf.old 0 (built_text verdict bytes) result buf.new }
 {
     match verdict {
-        Verdict::Accepted => setup_lines::packet(buf, bytes),
-        Verdict::Refused { number, offset } => block_text::refused(buf, number, offset),
+        Ok(()) => setup_lines::packet(buf, bytes),
+        Err(Refused { number, offset }) => block_text::refused(buf, number, offset),
     }
 }
 
@@ -90,7 +87,7 @@ fn put_moved(buf: &mut [u8], setting: Setting, m: Moved) -> usize
 {
     let verdict = m.verdict;
     match verdict {
-        Verdict::Accepted => setup_lines::number(buf, setting, m.word),
-        Verdict::Refused { number, offset } => block_text::refused(buf, number, offset),
+        Ok(()) => setup_lines::number(buf, setting, m.word),
+        Err(Refused { number, offset }) => block_text::refused(buf, number, offset),
     }
 }

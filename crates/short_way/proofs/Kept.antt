@@ -28,7 +28,7 @@ use Rattle.short_way.proofs.Ready.{AbleOf, ready-able, take_none, Free, take-rea
 
 module _ (s : Session) (r : Run) (room : ℕ) (t : List ℕ) (g : GoesOn s r room t) (few : s.rest.taken < 2 ^ 32) where
   pub free : Free s g.places few room (length t)
-  free = take-ready s g.places few room (length t) 0 (sym g.free) refl
+  free = take-ready s g.places few room (length t) g.free
 
   able : AbleOf s
   able = ready-able s free.ready

@@ -1,6 +1,6 @@
 -- A call that nothing refuses: what the record is good for.
 use Prim.Native.Nat.{ℕ, ◌≤◌, ◌<◌, ◌^◌}
-use mathlib.Core.Path.{◌≡◌, sym, ◌∙◌}
+use mathlib.Core.Path.{◌≡◌}
 use mathlib.Core.Bool.{false}
 use native.Mathlib.Omega.{arith}
 use lib.ListN.{length}
@@ -24,8 +24,8 @@ module _ (s : Session) where
   pub take_none : (room len : ℕ) → first_row (take_rows s room len) ≡ 0 → NoneOf (take_rows s room len)
   take_none room len e = row-none (take_rows s room len) (omega arith, (omega arith, (omega arith, (omega arith, (omega arith, tt))))) e
 
-  pub close-sound : (n : ℕ) → n ≡ first_row (close_rows s) → n ≡ 0 → record_broken s ≡ false
-  close-sound n e z = (row-none (close_rows s) (omega arith, (omega arith, tt)) (sym e ∙ z)).0
+  pub close-sound : first_row (close_rows s) ≡ 0 → record_broken s ≡ false
+  close-sound e = (row-none (close_rows s) (omega arith, (omega arith, tt)) e).0
 
   module _ (places : length s.numbers ≡ number_count) (few : s.rest.taken < 2 ^ 32) where
     lost-none : NoneOf (lost_rows s) → Ready s
@@ -34,17 +34,17 @@ module _ (s : Session) where
         less : (s.rest.taken ≡ taken_most → ⊥) → s.rest.taken < taken_most
         less q = omega arith
 
-    pub lost-ready : (n : ℕ) → n ≡ first_row (lost_rows s) → n ≡ 0 → Ready s
-    lost-ready n e z = lost-none (row-none (lost_rows s) (omega arith, (omega arith, (omega arith, tt))) (sym e ∙ z))
+    pub lost-ready : first_row (lost_rows s) ≡ 0 → Ready s
+    lost-ready e = lost-none (row-none (lost_rows s) (omega arith, (omega arith, (omega arith, tt))) e)
 
     pub record Free (room len : ℕ) : Type 0 where
       pub ready : Ready s
       pub whole : s.rest.opening.frame ≤ room
       pub short : len ≤ transfer_most
 
-    pub take-ready : (room len n : ℕ) → n ≡ first_row (take_rows s room len) → n ≡ 0 → Free room len
-    take-ready room len n e z =
-        let q = take_none room len (sym e ∙ z) in
+    pub take-ready : (room len : ℕ) → first_row (take_rows s room len) ≡ 0 → Free room len
+    take-ready room len e =
+        let q = take_none room len e in
         record {
           ready = lost-none (q.0, (q.1.0, (q.1.1.0, tt)));
           whole = ltb-false room s.rest.opening.frame q.1.1.1.0;

@@ -1,5 +1,6 @@
 -- One transfer more, with numbers that grew by no more than one transfer of the short way makes them grow: what is posted stays unbroken. So who takes transfer after transfer
 -- asks rule 50 of the posted numbers once.
+use Rattle.std.specs.Prelude.{None}
 use Prim.Native.Nat.{ℕ, ◌+◌, ◌*◌, ◌≤◌, ◌^◌}
 use mathlib.Core.Path.{◌≡◌, refl}
 use mathlib.Core.Bool.{Bool, true, false, not, ◌||◌, ◌&&◌, true≢false}
@@ -12,7 +13,6 @@ use borrow.Author.Tests.{ltb-false, le-ltb}
 use Rattle.rules.specs.Numbered.{any_below}
 use Rattle.rules.proofs.Rows.{any_none, none_any}
 use Rattle.session_rules.specs.declared.Account.{Account}
-use Rattle.session_rules.specs.declared.Stamp.TheVariants.{Absent}
 use Rattle.session_rules.specs.Accounts.{account_count, under_at, place_of, count_at, bytes_at, lost_at, idle_at, ticks_at, backward_at, untimed_at}
 use Rattle.session_rules.specs.Rule50.{transfer_most, account_broken, counts_broken}
 use Rattle.session_rules.proofs.Places.{place-lt}
@@ -47,7 +47,7 @@ pub record Grew (l m : List ℕ) : Type 0 where
 module _ (l m : List ℕ) (n : ℕ) (g : Grew l m) where
   account : (k : ℕ) → posted_account l n k ≡ false → posted_account m (n + 1) k ≡ false
   account k e =
-      where-asked (not (eqb k under_at)) (account_broken (ledger_with l Absent) n k) (account_broken (ledger_with m Absent) (n + 1) k)
+      where-asked (not (eqb k under_at)) (account_broken (ledger_with l None) n k) (account_broken (ledger_with m None) (n + 1) k)
       (both _ _ _ _ (one-over n _ _ (g.counts k)) (bytes-over n _ _ (g.bytes k))) e
 
   accounts : any_below account_count (posted_account l n) ≡ false → any_below account_count (posted_account m (n + 1)) ≡ false
@@ -56,7 +56,7 @@ module _ (l m : List ℕ) (n : ℕ) (g : Grew l m) where
   other : (i : ℕ) → lost_at ≤ i → ltb n (get_or l i 0) ≡ false → ltb (n + 1) (get_or m i 0) ≡ false
   other i h = one-over n (get_or l i 0) (get_or m i 0) (g.others i h)
 
-  counts : counts_broken (ledger_with l Absent) n ≡ false → counts_broken (ledger_with m Absent) (n + 1) ≡ false
+  counts : counts_broken (ledger_with l None) n ≡ false → counts_broken (ledger_with m None) (n + 1) ≡ false
   unfolding counts_broken
   counts e =
       both _ _ _ _ (ticks-over n _ _ (g.others ticks_at (omega arith)))

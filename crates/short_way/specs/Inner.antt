@@ -1,7 +1,7 @@
 -- What the contracts of the short way cite: the session record of its two parts, of which the numbers are lent. Nothing here needs to be believed.
+use Rattle.session_rules.specs.Options.{Stamp}
 use Rattle.std.specs.Prelude.{ℕ, ◌+◌, ◌<◌, ◌≡◌, true, false, List, length}
 use Rattle.rules.specs.Numbered.{first_row}
-use Rattle.session_rules.specs.declared.Stamp.{Stamp}
 use Rattle.session_rules.specs.declared.Run.{Run}
 use Rattle.session_rules.specs.declared.Phase.TheVariants.{Under}
 use Rattle.session_rules.specs.declared.Track.{Track}

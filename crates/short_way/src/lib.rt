@@ -2,7 +2,7 @@
 #![tactic(auto)]
 
 ghost use Rattle.std.specs.Prelude.{◌≡◌, ◌<◌, length};
-ghost use Rattle.rules.specs.Numbered.{first_row};
+ghost use Rattle.rules.specs.Numbered.{first_row, kept};
 ghost use Rattle.session_rules.specs.Accounts.{number_count};
 ghost use Rattle.session_rules.specs.Refusals.{taken_most, take_rows};
 ghost use Rattle.session_rules.specs.Session.{take_of, buffer_of};
@@ -10,16 +10,12 @@ ghost use Rattle.short_way.specs.Inner.{whole_of, counted_rest, kept_with, GoesO
 
 use session_rules::{Account, Numbers, Phase, Rest, Run, Stamp, Track};
 
-// Inner: what refuses a transfer of n bytes; 0 where nothing does. What is required the type of the numbers says.
-pub fn refusal(rest: Rest, m: &Numbers, room: usize, n: usize) -> u8
+// Inner: Ok, or what refuses a transfer of n bytes. What is required the type of the numbers says.
+pub fn refusal(rest: &Rest, m: &Numbers, room: usize, n: usize) -> Result<(), u8>
     requires { length m.now ≡ number_count }
-    ensures { result ≡ first_row (take_rows (whole_of rest m.now) room n) }
+    ensures { result ≡ kept (first_row (take_rows (whole_of rest.now m.now) room n)) }
 {
-    let posted = rule_50::posted_broken(m, rest.taken);
-    let opening = rest.opening;
-    let track = rest.track;
-    let phase = track.phase;
-    refusals::take_refusal(posted, opening, phase, rest.closed, rest.taken, room, n)
+    refusals::take_refusal(rule_50::posted_broken(m, rest.taken), rest, room, n)
 }
 
 // Inner: one more taken, with this track and last stamp.

@@ -1,28 +1,12 @@
 -- What the tests of 45 and 46 say, and what a size that breaks neither is.
-use Prim.Native.Nat.{ℕ, ◌≤◌, ◌<◌}
+use Prim.Native.Nat.{ℕ, ◌≤◌}
 use mathlib.Core.Path.{◌≡◌}
-use mathlib.Core.Bool.{true, false}
+use mathlib.Core.Bool.{false}
 use native.Mathlib.Omega.{arith}
 use lib.Dec.{eqb, ltb}
-use borrow.Author.Tests.{eq-eqb, ne_eqb, lt-ltb, eqb-false, ltb-false}
+use borrow.Author.Tests.{eqb-false, ltb-false}
 use Rattle.rules.proofs.Rows.{or-first, or-second}
 use Rattle.sizes.specs.Sizes.{frame_most, payload_least, payload_most, frame_size_broken, payload_size_broken, Between}
-
-pub frame-none : (n : ℕ) → n ≡ 0 → true ≡ frame_size_broken n
-unfolding frame_size_broken
-frame-none n h = rw (eq-eqb n 0 h)
-
-pub frame-some : (n : ℕ) → (n ≡ 0 → ⊥) → ltb frame_most n ≡ frame_size_broken n
-unfolding frame_size_broken
-frame-some n h = rw (ne_eqb n 0 h)
-
-pub payload-short : (n : ℕ) → n < payload_least → true ≡ payload_size_broken n
-unfolding payload_size_broken
-payload-short n h = rw (lt-ltb n payload_least h)
-
-pub payload-long : (n : ℕ) → ltb n payload_least ≡ false → ltb payload_most n ≡ payload_size_broken n
-unfolding payload_size_broken
-payload-long n h = rw h
 
 not-zero : (n : ℕ) → (n ≡ 0 → ⊥) → 1 ≤ n
 not-zero n h = omega arith

@@ -38,21 +38,17 @@ pub fn by_eof(o: Opening) -> bool
 }
 
 // 45: the frame size is 0 or over 16,777,216.
+#[tactic(auto, unfolding(crate::specs::Sizes::frame_size_broken))]
 pub fn frame_size_broken(n: usize) -> bool
     ensures { result ≡ frame_size_broken n }
 {
-    if n == 0 {
-        return true;
-    }
-    FRAME_MOST < n
+    n == 0 || FRAME_MOST < n
 }
 
 // 46: the payload size is under 2 or over 65,536.
+#[tactic(auto, unfolding(crate::specs::Sizes::payload_size_broken))]
 pub fn payload_size_broken(n: usize) -> bool
     ensures { result ≡ payload_size_broken n }
 {
-    if n < PAYLOAD_LEAST {
-        return true;
-    }
-    PAYLOAD_MOST < n
+    n < PAYLOAD_LEAST || PAYLOAD_MOST < n
 }

@@ -1,5 +1,6 @@
 -- The entities are judged one by one: none so far has a source that names nothing, the first that names an output terminal is known, and the rows show what the
 -- sources name.
+use Rattle.rules.specs.Verdicts.{accept, refuse}
 use Prim.Native.Nat.{ℕ, zero, ◌+◌, ◌≤◌, ◌<◌}
 use mathlib.Core.Path.{◌≡◌, refl, sym, ap, ◌∙◌, subst}
 use mathlib.Core.List.{List}
@@ -14,14 +15,13 @@ use native.Mathlib.Omega.{arith}
 use Rattle.rules.specs.IfElse.{if_else}
 use Rattle.rules.specs.First.{NoneBelow, First}
 use Rattle.rules.specs.Chain.{Chain, Chain.one, Chain.more, OnLoop, FirstLoop}
-use Rattle.rules.specs.declared.Verdict.TheVariants.{Accepted, Refused}
 use Rattle.rules.proofs.Firsts.{lt-or-ge}
 use Rattle.bits.specs.Bits.{bit_of, Bit}
 use Rattle.bits.proofs.Bits.{bit-zero}
 use Rattle.graph.specs.Rows.{places, Edge}
 use Rattle.entities.specs.Table.{entities_most, entity_at, used}
 use Rattle.entities.specs.declared.Table.{Table}
-use Rattle.sources.specs.Sources.{Names, Feeds, Breaks13, Breaks14, None, Judged, Judged.thirteen, Judged.fourteen, Judged.fifteen, Judged.fine}
+use Rattle.sources.specs.Sources.{Names, Feeds, Breaks13, Breaks14, NoEntity, Judged, Judged.thirteen, Judged.fourteen, Judged.fifteen, Judged.fine}
 use Rattle.sources.specs.Links.{LinksOf}
 
 -- ---- the first place of those up to and with i
@@ -134,7 +134,7 @@ module _ (s : List ℕ) (t : Table) (rows : List ℕ) (output i : ℕ) (few : t.
       filled = filled_more (λ a j. Names s (used t) (entity_at (used t) a) j) rows i row (rw w.size (omega arith)) w.filled here.places;
     }
 
-    pub judged-13 : lost ≡ true → Judged s (used t) (Refused 13 (entity_at t.entities i).offset)
+    pub judged-13 : lost ≡ true → Judged s (used t) (refuse 13 (entity_at t.entities i).offset)
     judged-13 e =
         rw (← at_place i h)
         (thirteen i (rw many h) (record { within = omega (arith, many); before = w.lost; here = λ l. here.nothing.0 e }))
@@ -143,17 +143,17 @@ module _ (s : List ℕ) (t : Table) (rows : List ℕ) (output i : ℕ) (few : t.
     full : i ≡ length (used t)
     full = omega (arith, w.within, many)
 
-    none-lost : None (used t) (Breaks13 s (used t))
+    none-lost : NoEntity (used t) (Breaks13 s (used t))
     none-lost k l = w.lost k (omega (arith, many))
 
     first_out : First (Breaks14 s (used t)) (length (used t)) output
     first_out = subst (λ (n : ℕ). First (Breaks14 s (used t)) n output) full w.first
 
-    pub judged-14 : output < t.count → Judged s (used t) (Refused 14 (entity_at t.entities output).offset)
+    pub judged-14 : output < t.count → Judged s (used t) (refuse 14 (entity_at t.entities output).offset)
     judged-14 l = rw (← at_place output l) (fourteen output (rw many l) none-lost first_out)
 
     module _ (no : t.count ≤ output) (r : ℕ) (loop : FirstLoop (Edge rows) places r) where
-      none_out : None (used t) (Breaks14 s (used t))
+      none_out : NoEntity (used t) (Breaks14 s (used t))
       none_out k l = first_out.before k (omega (arith, many))
 
       same : (a b : ℕ) → Edge rows a b ↔ Feeds s (used t) a b
@@ -164,10 +164,10 @@ module _ (s : List ℕ) (t : Table) (rows : List ℕ) (output i : ℕ) (few : t.
       few' : length (used t) ≤ places
       few' = rw many few
 
-      pub judged-15 : r < t.count → Judged s (used t) (Refused 15 (entity_at t.entities r).offset)
+      pub judged-15 : r < t.count → Judged s (used t) (refuse 15 (entity_at t.entities r).offset)
       judged-15 l =
           rw (← at_place r l)
           (fifteen r (rw many l) none-lost none_out (loop-here (Edge rows) (Feeds s (used t)) (length (used t)) places r same (λ a b e. e.0) few' loop (rw many l)))
 
-      pub judged-fine : t.count ≤ r → Judged s (used t) Accepted
+      pub judged-fine : t.count ≤ r → Judged s (used t) accept
       judged-fine l = fine none-lost none_out (loop-none (Edge rows) (Feeds s (used t)) (length (used t)) places r same (λ a b e. e.0) few' loop (rw many l))

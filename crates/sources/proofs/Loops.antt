@@ -1,5 +1,7 @@
 -- What is a loop and what is none. Where every source names an earlier entity that is no output terminal, nothing is broken, however many paths lead from
 -- one entity to another; and entities that feed each other are on a loop, whether or not an output terminal leads there.
+use Rattle.std.specs.Prelude.{None, Option, Some}
+use Rattle.rules.specs.Verdicts.{accept}
 use Prim.Native.Nat.{ℕ, zero, suc, ◌<◌}
 use mathlib.Core.Path.{◌≡◌, refl, sym}
 use mathlib.Core.List.{List}
@@ -11,13 +13,10 @@ use borrow.Author.Tests.{ltb-true, eqb-false, not-true}
 use native.Mathlib.Omega.{arith}
 use native.Mathlib.Nat.{eq-or-lt_of_le}
 use Rattle.rules.specs.Chain.{Chain, Chain.one, Chain.more, OnLoop}
-use Rattle.rules.specs.declared.Verdict.TheVariants.{Accepted}
 use Rattle.rules.proofs.Rows.{and_first, and_second}
 use Rattle.entities.specs.Table.{entity_at, find_from}
 use Rattle.entities.specs.declared.Entity.{Entity}
-use Rattle.entities.specs.declared.Found.{Found}
-use Rattle.entities.specs.declared.Found.TheVariants.{At, Nothing}
-use Rattle.sources.specs.Sources.{sources_of, source_at, Feeds, Breaks13, Breaks14, Breaks15, None, Judged, Judged.fine}
+use Rattle.sources.specs.Sources.{sources_of, source_at, Feeds, Breaks13, Breaks14, Breaks15, NoEntity, Judged, Judged.fine}
 
 -- a chain of edges that all go down goes down
 module _ (E : ℕ → ℕ → Type 0) (down : (i j : ℕ) → E i j → j < i) where
@@ -29,9 +28,9 @@ module _ (E : ℕ → ℕ → Type 0) (down : (i j : ℕ) → E i j → j < i) w
   no_loop i c = omega (arith, chain-down c)
 
 -- the answer of a lookup is an entity before i that is no output terminal
-pub record Earlier (l : List Entity) (i : ℕ) (f : Found) : Type 0 where
+pub record Earlier (l : List Entity) (i : ℕ) (f : Option ℕ) : Type 0 where
   pub place : ℕ
-  pub found : f ≡ At place
+  pub found : f ≡ Some place
   pub before : place < i
   pub plain : (entity_at l place).kind ≡ 3 → ⊥
 
@@ -39,14 +38,14 @@ abbrev pub Orderly : List ℕ → List Entity → Type 0
 Orderly s l = (i : ℕ) → i < length l → (q : ℕ) → q < sources_of s (entity_at l i) → Earlier l i (find_from 0 l (source_at s (entity_at l i) q))
 
 -- TWO PATHS TO ONE SOURCE ARE NO LOOP
-pub orderly-fine : (s : List ℕ) (l : List Entity) → Orderly s l → Judged s l Accepted
+pub orderly-fine : (s : List ℕ) (l : List Entity) → Orderly s l → Judged s l accept
 orderly-fine s l o =
     fine lost output (λ i h. no_loop (Feeds s l) down i)
   where
-    lost : None l (Breaks13 s l)
+    lost : NoEntity l (Breaks13 s l)
     lost i h x = let e = o i h x.0 x.1 in let n = e.found in let p = x.2 in let z : ◌≡◌ {A = ℕ} 0 1 = cc in omega arith
 
-    output : None l (Breaks14 s l)
+    output : NoEntity l (Breaks14 s l)
     output i h x =
         let e = o i h x.0 x.1 in
         let n = e.found in
@@ -80,14 +79,14 @@ all-below zero f h i l = absurd (omega arith)
 all-below (suc n) f h i l =
     ⊎_elim (λ e. rw e (and_first (f n) (all_below n f) h)) (λ k. all-below n f (and_second (f n) (all_below n f) h) i k) (eq-or-lt_of_le {n = i} {m = n} (omega arith))
 
-unfoldable pub earlier : List Entity → ℕ → Found → Bool
-earlier l i Nothing = false
-earlier l i (At j) = ltb j i && not (eqb (entity_at l j).kind 3)
+unfoldable pub earlier : List Entity → ℕ → Option ℕ → Bool
+earlier l i None = false
+earlier l i (Some j) = ltb j i && not (eqb (entity_at l j).kind 3)
 
-earlier-is : (l : List Entity) (i : ℕ) (f : Found) → earlier l i f ≡ true → Earlier l i f
+earlier-is : (l : List Entity) (i : ℕ) (f : Option ℕ) → earlier l i f ≡ true → Earlier l i f
 unfolding earlier
-earlier-is l i Nothing h = absurd (true≢false (sym h))
-earlier-is l i (At j) h = record {
+earlier-is l i None h = absurd (true≢false (sym h))
+earlier-is l i (Some j) h = record {
   place = j;
   found = refl;
   before = ltb-true j i (and_first (ltb j i) (not (eqb (entity_at l j).kind 3)) h);
@@ -105,9 +104,9 @@ orderly-is s l h i hi q hq =
     (all-below (length l) (λ k. all_below (sources_of s (entity_at l k)) (λ a. earlier l k (find_from 0 l (source_at s (entity_at l k) a)))) h i hi) q hq)
 
 -- every source names an entity that is no output terminal
-unfoldable pub plain : List Entity → Found → Bool
-plain l Nothing = false
-plain l (At j) = not (eqb (entity_at l j).kind 3)
+unfoldable pub plain : List Entity → Option ℕ → Bool
+plain l None = false
+plain l (Some j) = not (eqb (entity_at l j).kind 3)
 
 unfoldable pub all_plain : List ℕ → List Entity → Bool
 all_plain s l = all_below (length l) (λ i. all_below (sources_of s (entity_at l i)) (λ q. plain l (find_from 0 l (source_at s (entity_at l i) q))))
@@ -119,10 +118,10 @@ module _ (s : List ℕ) (l : List Entity) (h : all_plain s l ≡ true) where
       all-below (sources_of s (entity_at l i)) (λ a. plain l (find_from 0 l (source_at s (entity_at l i) a)))
       (all-below (length l) (λ k. all_below (sources_of s (entity_at l k)) (λ a. plain l (find_from 0 l (source_at s (entity_at l k) a)))) h i hi) q hq
 
-  pub plain-found : None l (Breaks13 s l)
+  pub plain-found : NoEntity l (Breaks13 s l)
   unfolding plain
   plain-found i hi x = true≢false (sym (rw x.2 at (plain_at i hi x.0 x.1)))
 
-  pub plain-kept : None l (Breaks14 s l)
+  pub plain-kept : NoEntity l (Breaks14 s l)
   unfolding plain
   plain-kept i hi x = let p = plain_at i hi x.0 x.1 in eqb-false (entity_at l x.2.0).kind 3 (not-true (eqb (entity_at l x.2.0).kind 3) (rw x.2.1 at p)) x.2.2

@@ -1,11 +1,10 @@
 -- The promise of `judge` leaves one answer.
+use Rattle.rules.specs.Verdicts.{Verdict, refuse}
 use Prim.Native.Nat.{ℕ, ◌<◌}
 use mathlib.Core.Path.{◌≡◌, refl, ap}
 use mathlib.Core.List.{List}
 use lib.ListN.{length}
 use Rattle.rules.specs.First.{NoneBelow, First}
-use Rattle.rules.specs.declared.Verdict.{Verdict}
-use Rattle.rules.specs.declared.Verdict.TheVariants.{Refused}
 use Rattle.rules.proofs.Firsts.{first-unique}
 use Rattle.entities.specs.Table.{entity_at}
 use Rattle.entities.specs.declared.Entity.{Entity}
@@ -15,8 +14,8 @@ clash : {P : ℕ → Type 0} {n i : ℕ} → i < n → First P n i → NoneBelow
 clash {i = i} l f g = g i l (f.here l)
 
 module _ (s : List ℕ) (l : List Entity) where
-  same : (c : ℕ) {P : ℕ → Type 0} (i j : ℕ) → First P (length l) i → First P (length l) j → Refused c (entity_at l i).offset ≡ Refused c (entity_at l j).offset
-  same c {P} i j f g = ap (λ (k : ℕ). Refused c (entity_at l k).offset) (first-unique P (length l) i j f g)
+  same : (c : ℕ) {P : ℕ → Type 0} (i j : ℕ) → First P (length l) i → First P (length l) j → refuse c (entity_at l i).offset ≡ refuse c (entity_at l j).offset
+  same c {P} i j f g = ap (λ (k : ℕ). refuse c (entity_at l k).offset) (first-unique P (length l) i j f g)
 
   pub judge-unique : {v w : Verdict} → Judged s l v → Judged s l w → v ≡ w
   judge-unique (thirteen i l f) (thirteen j k g) = same 13 i j f g

@@ -1,12 +1,11 @@
 // The sources of one entity: whether one names nothing, whether one names an output terminal, and the places that they name.
-ghost use Rattle.std.specs.Prelude.{◌≡◌, true, ◌↔◌, ℕ, ◌<◌, ◌≤◌};
+ghost use Rattle.std.specs.Prelude.{◌≡◌, true, ◌↔◌, ℕ, ◌<◌, ◌≤◌, None, Some};
 ghost use Rattle.bits.specs.Bits.{Bit};
 ghost use Rattle.entities.specs.Table.{entities_most, output_terminal, used, entity_at};
-ghost use Rattle.entities.specs.declared.Found.TheVariants.{At, Nothing};
 ghost use Rattle.control_rules.specs.Descriptors.{kind_of, source_count, source_place};
 ghost use Rattle.sources.specs.Links.{LinksOf};
 
-use entities::{Entity, Found, OUTPUT_TERMINAL, Table};
+use entities::{Entity, OUTPUT_TERMINAL, Table};
 
 #[derive(Drop)]
 pub struct Links {
@@ -29,46 +28,35 @@ pub fn gather(s: &[u8], t: Table, e: Entity) -> Links
     let mut lost = false;
     let mut output = false;
     let mut row: u32 = 0;
-    let mut q: usize = 0;
-    while q < count {
+    for q in 0..count {
         let f = entities::find_among(all, t.count, le::byte_at(s, place + q));
-        lost = lost | names_nothing(f);
+        lost = lost | f.is_none();
         output = output | names_output(t, f);
         row = row | place_bit(f);
-        q = q + 1;
     }
     Links { lost, output, row }
 }
 
-fn names_nothing(f: Found) -> bool
-    ensures { (result ≡ true) ↔ (f ≡ Nothing) }
+fn names_output(t: Table, f: Option<usize>) -> bool
+    requires { ((j : ℕ) → f ≡ Some j → j < t.count) × (t.count ≤ entities_most) }
+    ensures { (result ≡ true) ↔ ((j : ℕ) × (f ≡ Some j) × ((entity_at (used t) j).kind ≡ output_terminal)) }
 {
     match f {
-        Found::Nothing => true,
-        Found::At(_) => false,
-    }
-}
-
-fn names_output(t: Table, f: Found) -> bool
-    requires { ((j : ℕ) → f ≡ At j → j < t.count) × (t.count ≤ entities_most) }
-    ensures { (result ≡ true) ↔ ((j : ℕ) × (f ≡ At j) × ((entity_at (used t) j).kind ≡ output_terminal)) }
-{
-    match f {
-        Found::Nothing => false,
-        Found::At(j) => {
+        None => false,
+        Some(j) => {
             let e = t.entities[j];
             e.kind == OUTPUT_TERMINAL
         }
     }
 }
 
-fn place_bit(f: Found) -> u32
-    requires { (j : ℕ) → f ≡ At j → j < entities_most }
-    ensures { (j : ℕ) → Bit result j ↔ (f ≡ At j) }
+fn place_bit(f: Option<usize>) -> u32
+    requires { (j : ℕ) → f ≡ Some j → j < entities_most }
+    ensures { (j : ℕ) → Bit result j ↔ (f ≡ Some j) }
 {
     match f {
-        Found::Nothing => 0,
-        Found::At(j) => 1u32 << j,
+        None => 0,
+        Some(j) => 1u32 << j,
     }
 }
 

@@ -1,4 +1,5 @@
 -- Cases by computation.
+use Rattle.std.specs.Prelude.{None, Some}
 use Prim.Native.Nat.{ℕ}
 use mathlib.Core.Path.{◌≡◌, refl, sym}
 use mathlib.Core.Bool.{true≢false}
@@ -11,8 +12,6 @@ use Rattle.sizes.specs.Sizes.{frame_size_broken, payload_size_broken, sizes_brok
 use Rattle.sizes.specs.declared.Opening.{Opening}
 use Rattle.sizes.specs.declared.HeaderKind.TheVariants.{Old}
 use Rattle.sizes.specs.Framing.{by_eof}
-use Rattle.session_rules.specs.declared.Stamp.TheVariants.{At}
-use Rattle.session_rules.specs.declared.Layer.{Layer}
 use Rattle.session_rules.specs.Layouts.{header_layout}
 use Rattle.session_rules.specs.Transfer.{flag_of, layer_place, need_of, rows_by, stamp_of, layer_of, header_by, header_of, reading_of}
 use Rattle.session_rules.specs.Turns.{turn_of, hands_of, out_of, spoilt_of, closed_of}
@@ -86,9 +85,9 @@ at-middle =
       reads = refl;
       other = λ e. true≢false (sym e);
       unspoilt = refl;
-      item = record { entry = Entry.Delivered (record { len = 1; stamp = At 0x10; layer = Layer.Absent }); load = 0xBB ∷ [] };
+      item = record { entry = Entry.Delivered (record { len = 1; stamp = Some 0x10; layer = None }); load = 0xBB ∷ [] };
       alone = refl;
-      delivery = record { len = 1; stamp = At 0x10; layer = Layer.Absent };
+      delivery = record { len = 1; stamp = Some 0x10; layer = None };
       delivered = refl;
       stamp = 0x10;
       stamped = refl;
@@ -128,9 +127,9 @@ at-middle-by-fid =
       reads = refl;
       other = λ e. true≢false (sym e);
       unspoilt = refl;
-      item = record { entry = Entry.Delivered (record { len = 1; stamp = At 0x10; layer = Layer.Absent }); load = 0xBB ∷ [] };
+      item = record { entry = Entry.Delivered (record { len = 1; stamp = Some 0x10; layer = None }); load = 0xBB ∷ [] };
       alone = refl;
-      delivery = record { len = 1; stamp = At 0x10; layer = Layer.Absent };
+      delivery = record { len = 1; stamp = Some 0x10; layer = None };
       delivered = refl;
       stamp = 0x10;
       stamped = refl;

@@ -1,4 +1,6 @@
 -- A job split at a middle frame.
+use Rattle.std.specs.Prelude.{Some}
+use Rattle.session_rules.specs.Options.{Stamp}
 use Prim.Native.Nat.{ℕ, ◌+◌}
 use mathlib.Core.Path.{◌≡◌, ap, ◌∙◌, subst}
 use mathlib.Core.Bool.{true}
@@ -6,8 +8,6 @@ use mathlib.Core.List.{List, [], ◌∷◌, ◌++◌, map, append-nil}
 use native.Mathlib.Omega.{arith}
 use native.Mathlib.Nat.{add-zero}
 use Rattle.sizes.specs.declared.Opening.{Opening}
-use Rattle.session_rules.specs.declared.Stamp.{Stamp}
-use Rattle.session_rules.specs.declared.Stamp.TheVariants.{At}
 use Rattle.session_rules.specs.declared.Delivery.{Delivery}
 use Rattle.session_rules.specs.Accounts.{ticks_at, backward_at, untimed_at}
 use Rattle.session_rules.specs.Entry.{Entry}
@@ -37,7 +37,7 @@ of-stamps before middle after =
     record { ticks = between-shared forward before middle after; backward = between-shared back before middle after }
 
 -- ---- entries
-module _ (before after : List Entry) (d : Delivery) (s : ℕ) (e : d.stamp ≡ At s) where
+module _ (before after : List Entry) (d : Delivery) (s : ℕ) (e : d.stamp ≡ Some s) where
   abbrev middle : Entry
   middle = Entry.Delivered d
 

@@ -1,10 +1,9 @@
 -- A job cut in two by its calls: those before the middle frame, its own, and those after it. The first half has those before and its own, the second its own
 -- and those after.
-use Rattle.std.specs.Prelude.{◌≡◌, false, List, [], ◌∷◌, ℕ}
+use Rattle.std.specs.Prelude.{◌≡◌, false, List, [], ◌∷◌, ℕ, Some}
 use Rattle.sizes.specs.declared.Opening.{Opening}
 use Rattle.session_rules.specs.declared.Header.{Header}
 use Rattle.session_rules.specs.declared.Reading.TheVariants.{Readable}
-use Rattle.session_rules.specs.declared.Stamp.TheVariants.{At}
 use Rattle.session_rules.specs.Transfer.{reading_of}
 use Rattle.session_rules.specs.declared.Delivery.{Delivery}
 use Rattle.session_rules.specs.Entry.{Entry}
@@ -24,4 +23,4 @@ pub record Middle (o : Opening) (before : List Call) (t : List ℕ) (own : List 
   pub delivery : Delivery
   pub delivered : item.entry ≡ Entry.Delivered delivery
   pub stamp : ℕ
-  pub stamped : delivery.stamp ≡ At stamp
+  pub stamped : delivery.stamp ≡ Some stamp

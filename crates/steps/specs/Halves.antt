@@ -1,8 +1,7 @@
 -- Document 02, Six: "When I split a job at a middle frame, the two halves should bill as the whole." The middle frame ends the first half and begins the second.
 -- All is over the rule's own definitions (books/specs/Rule).
-use Rattle.std.specs.Prelude.{ℕ, ◌+◌, ◌≡◌, List, [], ◌∷◌, ◌++◌, get_or}
+use Rattle.std.specs.Prelude.{ℕ, ◌+◌, ◌≡◌, List, [], ◌∷◌, ◌++◌, get_or, Some}
 use Rattle.sizes.specs.declared.Opening.{Opening}
-use Rattle.session_rules.specs.declared.Stamp.TheVariants.{At}
 use Rattle.session_rules.specs.declared.Delivery.{Delivery}
 use Rattle.session_rules.specs.declared.Ledger.{Ledger}
 use Rattle.session_rules.specs.Accounts.{ticks_at, backward_at, untimed_at}
@@ -53,7 +52,7 @@ pub record Split (whole first second : Job) : Type 0 where
   pub delivery : Delivery
   pub delivered : middle.entry ≡ Entry.Delivered delivery
   pub stamp : ℕ
-  pub stamped : delivery.stamp ≡ At stamp
+  pub stamped : delivery.stamp ≡ Some stamp
 
 -- what a job is billed by
 abbrev pub billed : Job → ℕ → ℕ
@@ -66,7 +65,7 @@ pub record BillAsWhole (whole first second : Job) : Type 0 where
 
 pub record Halves : Type 0 where
   pub of-stamps : (before : List ℕ) (middle : ℕ) (after : List ℕ) → StampHalves before middle after
-  pub of-entries : (before after : List Entry) (d : Delivery) (s : ℕ) → d.stamp ≡ At s → EntryHalves before (Entry.Delivered d) after
+  pub of-entries : (before after : List Entry) (d : Delivery) (s : ℕ) → d.stamp ≡ Some s → EntryHalves before (Entry.Delivered d) after
   pub of-jobs : (whole first second : Job) → Split whole first second → BillAsWhole whole first second
   pub of_calls : (o : Opening) (whole first second : List Offer) (before : List Call) (t : List ℕ) (own after : List Call) → Middle o before t own →
       list_of o whole ≡ before ++ (Call.transfer t ∷ (own ++ after)) →

@@ -1,4 +1,5 @@
 -- A block is refused by a rule of a descriptor exactly when that rule comes to be asked there and is broken; and for 39 and 40 in words.
+use Rattle.rules.specs.Verdicts.{refuse}
 use Prim.Native.Nat.{ℕ, ◌≤◌, ◌<◌}
 use mathlib.Core.Path.{◌≡◌, refl}
 use mathlib.Core.List.{List}
@@ -7,7 +8,6 @@ use lib.ListN.{length}
 use native.Mathlib.Omega.{arith}
 use Rattle.rules.specs.Numbered.{Given}
 use Rattle.rules.specs.Walk.{FirstBreak, BrokenBy}
-use Rattle.rules.specs.declared.Verdict.TheVariants.{Refused}
 use Rattle.rules.proofs.Rows.{given-each}
 use Rattle.rules.proofs.Walks.{first_by}
 use Rattle.blocks.specs.Blocks.{whole_rows}
@@ -55,14 +55,14 @@ module _ (t : Table) (s : List ℕ) where
     to-broken (by-38 a w c x n) e = absurd (d.no-38 e)
 
     -- EXACTLY WHEN, number by number
-    pub refused-by : (o : ℕ) → ((streaming_of t s).verdict ≡ Refused k o) ↔ Broken k o
+    pub refused-by : (o : ℕ) → ((streaming_of t s).verdict ≡ refuse k o) ↔ Broken k o
     refused-by o = (λ e. to-broken ((refused t s k o).0 e) refl, λ r. (refused t s k o).1 (by-descriptor k o r.0 ((by-rule k o).1 r.1)))
 
   -- ---- 39
   of-39 : OfDescriptor 39
   of-39 = record { above = omega arith; no-36 = λ e. omega arith; no-37 = λ e. omega arith; no-38 = λ e. omega arith }
 
-  pub refused-39 : (o : ℕ) → ((streaming_of t s).verdict ≡ Refused 39 o) ↔ Untrue t s o
+  pub refused-39 : (o : ℕ) → ((streaming_of t s).verdict ≡ refuse 39 o) ↔ Untrue t s o
   refused-39 o = (λ e. to ((refused-by 39 of-39 o).0 e), λ u. (refused-by 39 of-39 o).1 (u.block, (u.comes, (row-39 s o (left u.comes.seen) (length u.comes.seen.formats)).1 (u.frame, u.asked, u.untrue))))
     where
       to : Broken 39 o → Untrue t s o
@@ -74,7 +74,7 @@ module _ (t : Table) (s : List ℕ) where
   of-40 : OfDescriptor 40
   of-40 = record { above = omega arith; no-36 = λ e. omega arith; no-37 = λ e. omega arith; no-38 = λ e. omega arith }
 
-  pub refused-40 : (o : ℕ) → ((streaming_of t s).verdict ≡ Refused 40 o) ↔ Unsteady t s o
+  pub refused-40 : (o : ℕ) → ((streaming_of t s).verdict ≡ refuse 40 o) ↔ Unsteady t s o
   refused-40 o = (λ e. to ((refused-by 40 of-40 o).0 e), λ u. (refused-by 40 of-40 o).1 (u.block, (u.comes, (row-40 s o (left u.comes.seen)).1 u.wrong)))
     where
       to : Broken 40 o → Unsteady t s o

@@ -1,4 +1,5 @@
 -- A streaming block is accepted exactly when no rule is broken, and refused by (k, o) exactly when k is the first broken rule at the first place.
+use Rattle.rules.specs.Verdicts.{Verdict, accept, refuse}
 use Prim.Native.Nat.{ℕ, zero, suc, ◌+◌, ◌≤◌, ◌<◌}
 use mathlib.Core.Path.{◌≡◌, refl, sym, ap, ◌∙◌}
 use mathlib.Core.List.{List}
@@ -11,12 +12,10 @@ use native.Mathlib.Omega.{arith}
 use Rattle.rules.specs.IfElse.{if_else}
 use Rattle.rules.specs.First.{NoneBelow, First}
 use Rattle.rules.specs.Walk.{Outcome, done, stop, walk}
-use Rattle.rules.specs.declared.Verdict.{Verdict}
-use Rattle.rules.specs.declared.Verdict.TheVariants.{Accepted, Refused}
 use Rattle.rules.specs.Numbered.{first_row, Given}
 use Rattle.rules.proofs.Rows.{row_first, row-none, none_row, given-row, given-number}
 use Rattle.rules.proofs.Firsts.{first-map, first-unique, none_below}
-use Rattle.rules.proofs.Verdicts.{apart}
+use Rattle.rules.proofs.Verdicts.{apart, same-refusal}
 use Rattle.rules.proofs.Walks.{walk-done, walk-stop}
 use Rattle.entities.specs.declared.Table.{Table}
 use Rattle.streaming_rules.specs.Rules.{head_rows}
@@ -77,16 +76,16 @@ module _ (s : List ℕ) (a : Seen) where
 
   -- what comes after the walk
   pub data After : Verdict → Type 0 where
-    at_count : (i : ℕ) → i < length a.formats → First (CountWrong a) (length a.formats) i → After (Refused 36 (format_in a i).offset)
-    at_default : NoneBelow (length a.formats) (CountWrong a) → (i : ℕ) → i < length a.formats → First (DefaultWrong a) (length a.formats) i → After (Refused 37 (format_in a i).offset)
-    at-number : NoneBelow (length a.formats) (CountWrong a) → NoneBelow (length a.formats) (DefaultWrong a) → (length a.formats ≡ format_count s → ⊥) → After (Refused 38 0)
-    well : NoneBelow (length a.formats) (CountWrong a) → NoneBelow (length a.formats) (DefaultWrong a) → length a.formats ≡ format_count s → After Accepted
+    at_count : (i : ℕ) → i < length a.formats → First (CountWrong a) (length a.formats) i → After (refuse 36 (format_in a i).offset)
+    at_default : NoneBelow (length a.formats) (CountWrong a) → (i : ℕ) → i < length a.formats → First (DefaultWrong a) (length a.formats) i → After (refuse 37 (format_in a i).offset)
+    at-number : NoneBelow (length a.formats) (CountWrong a) → NoneBelow (length a.formats) (DefaultWrong a) → (length a.formats ≡ format_count s → ⊥) → After (refuse 38 0)
+    well : NoneBelow (length a.formats) (CountWrong a) → NoneBelow (length a.formats) (DefaultWrong a) → length a.formats ≡ format_count s → After accept
 
   pub late_is : After (late s a)
   unfolding late_by if_else i j
   late_is = go (ltb i (length a.formats)) refl (ltb j (length a.formats)) refl (eqb (length a.formats) (format_count s)) refl
     where
-      go : (b : Bool) → ltb i (length a.formats) ≡ b → (c : Bool) → ltb j (length a.formats) ≡ c → (d : Bool) → eqb (length a.formats) (format_count s) ≡ d → After (if_else b (Refused 36 (format_in a i).offset) (if_else c (Refused 37 (format_in a j).offset) (if_else d Accepted (Refused 38 0))))
+      go : (b : Bool) → ltb i (length a.formats) ≡ b → (c : Bool) → ltb j (length a.formats) ≡ c → (d : Bool) → eqb (length a.formats) (format_count s) ≡ d → After (if_else b (refuse 36 (format_in a i).offset) (if_else c (refuse 37 (format_in a j).offset) (if_else d accept (refuse 38 0))))
       go true p c q d r = at_count i (ltb-true i (length a.formats) p) first_count
       go false p true q d r = at_default (none_below _ _ i first_count (ltb-false i _ p)) j (ltb-true j (length a.formats) q) first-default
       go false p false q true r = well (none_below _ _ i first_count (ltb-false i _ p)) (none_below _ _ j first-default (ltb-false j _ q)) (eqb-true _ _ r)
@@ -94,12 +93,12 @@ module _ (s : List ℕ) (a : Seen) where
 
   -- one verdict comes after a walk
   after-unique : {v w : Verdict} → After v → After w → v ≡ w
-  after-unique (at_count i l f) (at_count j m g) = ap (λ (k : ℕ). Refused 36 (format_in a k).offset) (first-unique (CountWrong a) (length a.formats) i j f g)
+  after-unique (at_count i l f) (at_count j m g) = ap (λ (k : ℕ). refuse 36 (format_in a k).offset) (first-unique (CountWrong a) (length a.formats) i j f g)
   after-unique (at_count i l f) (at_default c j m g) = absurd (c i l (f.here l))
   after-unique (at_count i l f) (at-number c d e) = absurd (c i l (f.here l))
   after-unique (at_count i l f) (well c d e) = absurd (c i l (f.here l))
   after-unique (at_default b i l f) (at_count j m g) = absurd (b j m (g.here m))
-  after-unique (at_default b i l f) (at_default c j m g) = ap (λ (k : ℕ). Refused 37 (format_in a k).offset) (first-unique (DefaultWrong a) (length a.formats) i j f g)
+  after-unique (at_default b i l f) (at_default c j m g) = ap (λ (k : ℕ). refuse 37 (format_in a k).offset) (first-unique (DefaultWrong a) (length a.formats) i j f g)
   after-unique (at_default b i l f) (at-number c d e) = absurd (d i l (f.here l))
   after-unique (at_default b i l f) (well c d e) = absurd (d i l (f.here l))
   after-unique (at-number b x y) (at_count j m g) = absurd (b j m (g.here m))
@@ -158,7 +157,7 @@ module _ (t : Table) (s : List ℕ) where
   done-by a w v r = past_head w.block ∙ (rw ((walk-done (block_course t s) (steady _ s) a).1 (w.there, w.each), late-given s a r))
 
   pub tables : (a : Seen) → Sound t s a → streaming_of t s ≡ accepted_with s a
-  tables a w = done-by a w.walked Accepted (well w.counts w.defaults w.number)
+  tables a w = done-by a w.walked accept (well w.counts w.defaults w.number)
 
   head-given : (k : ℕ) → Given (head_rows t.count s) k → streaming_of t s ≡ refused_by k 0
   head-given zero g = absurd (omega (arith, given-number g (head-numbered t.count s)))
@@ -168,25 +167,25 @@ module _ (t : Table) (s : List ℕ) where
   unfolding after_walk
   all-zero (by-block k g) = head-given k g
   all-zero (by-descriptor k o b f) = past_head b ∙ (rw ((walk-stop (block_course t s) (steady _ s) k o).1 f))
-  all-zero (by-36 a w i l f) = done-by a w (Refused 36 (format_in a i).offset) (at_count i l f)
-  all-zero (by-37 a w c i l f) = done-by a w (Refused 37 (format_in a i).offset) (at_default c i l f)
-  all-zero (by-38 a w c d e) = done-by a w (Refused 38 0) (at-number c d e)
+  all-zero (by-36 a w i l f) = done-by a w (refuse 36 (format_in a i).offset) (at_count i l f)
+  all-zero (by-37 a w c i l f) = done-by a w (refuse 37 (format_in a i).offset) (at_default c i l f)
+  all-zero (by-38 a w c d e) = done-by a w (refuse 38 0) (at-number c d e)
 
   -- ---- EXACTLY WHEN
   -- accepted exactly when no rule is broken
-  pub accepted : ((streaming_of t s).verdict ≡ Accepted) ↔ ((a : Seen) × Sound t s a)
+  pub accepted : ((streaming_of t s).verdict ≡ accept) ↔ ((a : Seen) × Sound t s a)
   unfolding accepted_with refused_by
   accepted = (to (streaming_of t s) reads, λ p. ap (λ (x : Streaming). x.verdict) (tables p.0 p.1))
     where
-      to : (x : Streaming) → Ends t s x → x.verdict ≡ Accepted → (a : Seen) × Sound t s a
+      to : (x : Streaming) → Ends t s x → x.verdict ≡ accept → (a : Seen) × Sound t s a
       to x (taken a w) e = (a, w)
       to x (given_back k o w) e = absurd (apart k o e)
 
   -- refused by (k, o) exactly when k is the first broken rule, at the first place that breaks it
-  pub refused : (k o : ℕ) → ((streaming_of t s).verdict ≡ Refused k o) ↔ FirstBroken t s k o
+  pub refused : (k o : ℕ) → ((streaming_of t s).verdict ≡ refuse k o) ↔ FirstBroken t s k o
   unfolding accepted_with refused_by
   refused k o = (to (streaming_of t s) reads, λ w. ap (λ (x : Streaming). x.verdict) (all-zero w))
     where
-      to : (x : Streaming) → Ends t s x → x.verdict ≡ Refused k o → FirstBroken t s k o
+      to : (x : Streaming) → Ends t s x → x.verdict ≡ refuse k o → FirstBroken t s k o
       to x (taken a w) e = absurd (apart k o (sym e))
-      to x (given_back j p w) e = let q : j ≡ k = cc in let r : p ≡ o = cc in rw (← q, ← r) w
+      to x (given_back j p w) e = let q = same-refusal j p k o e in rw (← q.0, ← q.1) w

@@ -1,4 +1,5 @@
 -- The walk's loop: its invariant, and how it starts, goes on and ends.
+use Rattle.rules.specs.Verdicts.{Verdict, accept, refuse}
 use Prim.Native.Nat.{ℕ, suc, ◌+◌, ◌-◌, ◌≤◌, ◌<◌}
 use mathlib.Core.Path.{◌≡◌, refl, sym, ◌∙◌}
 use mathlib.Core.List.{List, [], ◌∷◌, ◌++◌, append-nil}
@@ -13,8 +14,6 @@ use Rattle.rules.specs.IfElse.{if_else}
 use Rattle.rules.specs.Pad.{pad}
 use Rattle.rules.specs.Numbered.{first_row}
 use Rattle.rules.specs.Walk.{broken_at}
-use Rattle.rules.specs.declared.Verdict.{Verdict}
-use Rattle.rules.specs.declared.Verdict.TheVariants.{Accepted, Refused}
 use Rattle.rules.proofs.Padded.{pad-set, pad-at}
 use Rattle.rules.proofs.Rows.{row-none}
 use Rattle.rules.proofs.Walks.{Walking, Steady, starts, stops, ends, goes}
@@ -214,9 +213,9 @@ module _ (linked : Bool) (s : List ℕ) (formats : List Format) (frames : List F
     unfolding after_walk
     ended = rw (ends (course linked s) w.seen o w.walking h, v-is)
 
-    pub going-refuses : (k p : ℕ) → v ≡ Refused k p → refused_by k p ≡ walked linked s
+    pub going-refuses : (k p : ℕ) → v ≡ refuse k p → refused_by k p ≡ walked linked s
     going-refuses k p q = sym (ended ∙ (rw q))
 
-    pub going-accepts : v ≡ Accepted → ◌≡◌ {A = Streaming} (record { verdict = Accepted; endpoint = byte s 0 6; link = byte s 0 8; format_count = f; formats = formats; frame_count = n; frames = frames }) (walked linked s)
+    pub going-accepts : v ≡ accept → ◌≡◌ {A = Streaming} (record { verdict = accept; endpoint = byte s 0 6; link = byte s 0 8; format_count = f; formats = formats; frame_count = n; frames = frames }) (walked linked s)
     unfolding accepted_with
     going-accepts q = rw (w.formats-kept, w.frames-kept, w.formats-counted, w.frames-counted) (sym (ended ∙ (rw q)))

@@ -1,4 +1,5 @@
 -- The frames of an accepted block: there are at most 64, and each lies within the block with its intervals.
+use Rattle.rules.specs.Verdicts.{accept}
 use Prim.Native.Nat.{ℕ, ◌+◌, ◌≤◌, ◌<◌}
 use mathlib.Core.Path.{◌≡◌, refl, sym, ap, ◌∙◌}
 use mathlib.Core.List.{List, [], ◌∷◌, ◌++◌, append-nil}
@@ -7,7 +8,6 @@ use lib.ListN.{length, get_or, length-append}
 use native.Mathlib.Omega.{arith}
 use Rattle.rules.specs.IfElse.{if_else}
 use Rattle.rules.specs.Walk.{Reached, first, next, Clean}
-use Rattle.rules.specs.declared.Verdict.TheVariants.{Accepted}
 use Rattle.rules.proofs.Padded.{pad-at}
 use Rattle.rules.proofs.Growing.{each_more}
 use Rattle.entities.specs.declared.Table.{Table}
@@ -62,7 +62,7 @@ held_with : (s : List ℕ) (a : Seen) → Held s a.frames → FramesHeld s (acce
 unfolding accepted_with
 held_with s a h = record { few = h.few; inside = λ i k. rw (pad-at frames_most no_frame a.frames i) (h.inside i k) }
 
-pub frames-held : (t : Table) (s : List ℕ) (x : Streaming) → x ≡ streaming_of t s → x.verdict ≡ Accepted → FramesHeld s x
+pub frames-held : (t : Table) (s : List ℕ) (x : Streaming) → x ≡ streaming_of t s → x.verdict ≡ accept → FramesHeld s x
 frames-held t s x e v =
     let p = (accepted t s).0 (sym (ap (λ (y : Streaming). y.verdict) e) ∙ v) in
     rw (e, tables t s p.0 p.1) (held_with s p.0 (held _ s p.1.walked.each p.1.walked.there))

@@ -1,11 +1,11 @@
 -- 36 to 38: what the tests of `late_verdict` say.
+use Rattle.rules.specs.Verdicts.{accept, refuse}
 use Prim.Native.Nat.{ℕ, ◌≤◌, ◌<◌}
 use mathlib.Core.Path.{◌≡◌}
 use mathlib.Core.Bool.{true, false, not}
 use lib.Dec.{eqb, ltb}
 use borrow.Author.Tests.{lt-ltb, le-ltb, eq-eqb, ne_eqb}
 use Rattle.rules.specs.IfElse.{if_else}
-use Rattle.rules.specs.declared.Verdict.TheVariants.{Accepted, Refused}
 use Rattle.streaming_descriptors.specs.declared.Format.{Format}
 use Rattle.rules.specs.Place.{first_place}
 use Rattle.streaming.specs.Inner.{count_broken, default_broken, late_by}
@@ -17,30 +17,26 @@ count-differs m n h = rw (ne_eqb m n h)
 pub count-agrees : (m n : ℕ) → m ≡ n → not (eqb m n) ≡ false
 count-agrees m n h = rw (eq-eqb m n h)
 
-pub default-zero : (f : Format) → f.default ≡ 0 → true ≡ default_broken f
-unfolding default_broken
-default-zero f h = rw (eq-eqb f.default 0 h)
-
 pub default-some : (f : Format) → (f.default ≡ 0 → ⊥) → ltb f.frames f.default ≡ default_broken f
 unfolding default_broken
 default-some f h = rw (ne_eqb f.default 0 h)
 
 module _ (g : ℕ → Format) (k : ℕ → ℕ) (n p i : ℕ) (a : i ≡ first_place (λ i. count_broken (g i) (k i)) n) where
-  pub late-36 : i < n → Refused 36 (g i).offset ≡ late_by g k n p
+  pub late-36 : i < n → refuse 36 (g i).offset ≡ late_by g k n p
   unfolding late_by if_else
   late-36 h = rw (← a, lt-ltb i n h)
 
   module _ (b : n ≤ i) (j : ℕ) (c : j ≡ first_place (λ i. default_broken (g i)) n) where
-    pub late-37 : j < n → Refused 37 (g j).offset ≡ late_by g k n p
+    pub late-37 : j < n → refuse 37 (g j).offset ≡ late_by g k n p
     unfolding late_by if_else
     late-37 h = rw (← a, le-ltb i n b, ← c, lt-ltb j n h)
 
     module _ (d : n ≤ j) (q : ℕ) (e : q ≡ p) where
-      pub late-none : n ≡ q → Accepted ≡ late_by g k n p
+      pub late-none : n ≡ q → accept ≡ late_by g k n p
       unfolding late_by if_else
       late-none h = rw (← a, le-ltb i n b, ← c, le-ltb j n d, ← e, eq-eqb n q h)
 
-      pub late-38 : (n ≡ q → ⊥) → Refused 38 0 ≡ late_by g k n p
+      pub late-38 : (n ≡ q → ⊥) → refuse 38 0 ≡ late_by g k n p
       unfolding late_by if_else
       late-38 h = rw (← a, le-ltb i n b, ← c, le-ltb j n d, ← e, ne_eqb n q h)
 

@@ -1,4 +1,5 @@
 -- The formats and frames of a block that breaks no rule: each stands where it says, as its descriptor has it, and none is left out.
+use Rattle.rules.specs.Verdicts.{accept}
 use Prim.Native.Nat.{ℕ, ◌+◌, ◌-◌, ◌/◌, ◌%◌, ◌^◌, ◌≤◌, ◌<◌}
 use mathlib.Core.Path.{◌≡◌, refl, sym, ap, ◌∙◌}
 use mathlib.Core.List.{List, [], ◌∷◌, ◌++◌}
@@ -11,7 +12,6 @@ use native.Mathlib.Omega.{arith}
 use native.Mathlib.Decide.{dec_le, ℕ_discrete}
 use Rattle.rules.specs.IfElse.{if_else}
 use Rattle.rules.specs.Walk.{Reached, first, next, Clean}
-use Rattle.rules.specs.declared.Verdict.TheVariants.{Accepted}
 use Rattle.rules.proofs.Firsts.{lt-or-ge}
 use Rattle.rules.proofs.Rows.{or-first, or-second}
 use Rattle.rules.proofs.Growing.{at_old, at_new, each_more}
@@ -222,7 +222,7 @@ module _ (t : Table) (s : List ℕ) where
       whole = held w.walked.each w.walked.there
 
   -- what an accepted answer lists
-  pub lists : (x : Streaming) → x ≡ streaming_of t s → x.verdict ≡ Accepted → (a : Seen) × Listed t s a × (x ≡ accepted_with s a)
+  pub lists : (x : Streaming) → x ≡ streaming_of t s → x.verdict ≡ accept → (a : Seen) × Listed t s a × (x ≡ accepted_with s a)
   lists x e v =
       let p = (accepted t s).0 (sym (ap (λ (y : Streaming). y.verdict) e) ∙ v) in
       (p.0, listed p.0 p.1, e ∙ tables t s p.0 p.1)

@@ -1,16 +1,14 @@
 -- What is read of a streaming block: its link, its formats and frames in block order with the rules 25 to 35 at each descriptor, and what is answered, refused or accepted.
 -- `t` is the entity table, `s` the block.
-use Rattle.std.specs.Prelude.{ℕ, suc, ◌-◌, List, [], ◌∷◌, ◌++◌, Bool, false, ◌&&◌, length, get_or, replicate, eqb}
+use Rattle.rules.specs.Verdicts.{accept, refuse}
+use Rattle.std.specs.Prelude.{ℕ, suc, ◌-◌, List, [], ◌∷◌, ◌++◌, Bool, false, ◌&&◌, length, get_or, replicate, eqb, None, Option, Some}
 use Rattle.le.specs.Le.{byte}
 use Rattle.rules.specs.IfElse.{if_else}
 use Rattle.rules.specs.Pad.{pad}
 use Rattle.rules.specs.Walk.{Course}
-use Rattle.rules.specs.declared.Verdict.TheVariants.{Accepted, Refused}
 use Rattle.entities.specs.Table.{output_terminal, entity_at, found_in}
 use Rattle.entities.specs.declared.Entity.{Entity}
 use Rattle.entities.specs.declared.Table.{Table}
-use Rattle.entities.specs.declared.Found.{Found}
-use Rattle.entities.specs.declared.Found.TheVariants.{At, Nothing}
 use Rattle.streaming_descriptors.specs.Descriptors.{len_at, kind_at, is_format, is_frame, format_of, no_format, no_frame, format_at, frame_at}
 use Rattle.streaming_rules.specs.Rules.{formats_most, frames_most, rows}
 use Rattle.streaming_rules.specs.declared.Sofar.{Sofar}
@@ -25,9 +23,9 @@ streaming_terminal = 0x0101
 unfoldable pub is_output : Entity → Bool
 is_output e = eqb e.kind output_terminal && eqb e.terminal streaming_terminal
 
-unfoldable pub linked_at : Table → Found → Bool
-linked_at t (At i) = is_output (entity_at t.entities i)
-linked_at t Nothing = false
+unfoldable pub linked_at : Table → Option ℕ → Bool
+linked_at t (Some i) = is_output (entity_at t.entities i)
+linked_at t None = false
 
 abbrev pub linked_to : Table → ℕ → Bool
 linked_to t link = linked_at t (found_in t link)
@@ -84,7 +82,7 @@ course linked s =
 unfoldable pub refused_by : ℕ → ℕ → Streaming
 refused_by k o =
     record {
-      verdict = Refused k o;
+      verdict = refuse k o;
       endpoint = 0;
       link = 0;
       format_count = 0;
@@ -97,7 +95,7 @@ refused_by k o =
 unfoldable pub accepted_with : List ℕ → Seen → Streaming
 accepted_with s a =
     record {
-      verdict = Accepted;
+      verdict = accept;
       endpoint = endpoint_of s;
       link = link_of s;
       format_count = length a.formats;

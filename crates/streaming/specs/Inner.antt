@@ -1,11 +1,10 @@
 -- What reading a streaming block answers, computed: 20 to 24, the walk over its descriptors with 25 to 35, then 36 to 38. Nothing here needs to be believed: Broken
 -- says it without a walk. `t` is the entity table, `s` the block.
-use Rattle.std.specs.Prelude.{ℕ, zero, suc, ◌+◌, List, Bool, not, ◌||◌, length, get_or, replicate, ltb, eqb}
+use Rattle.rules.specs.Verdicts.{Verdict, accept, refuse}
+use Rattle.std.specs.Prelude.{ℕ, zero, suc, ◌+◌, List, Bool, not, ◌||◌, length, get_or, replicate, ltb, eqb, Err, Ok}
 use Rattle.rules.specs.IfElse.{if_else}
 use Rattle.rules.specs.Numbered.{first_row}
 use Rattle.rules.specs.Walk.{Outcome, done, stop, walk}
-use Rattle.rules.specs.declared.Verdict.{Verdict}
-use Rattle.rules.specs.declared.Verdict.TheVariants.{Accepted, Refused}
 use Rattle.entities.specs.declared.Table.{Table}
 use Rattle.streaming_descriptors.specs.Descriptors.{no_format}
 use Rattle.streaming_rules.specs.Rules.{formats_most, head_rows}
@@ -32,17 +31,17 @@ unfoldable pub late_by : (ℕ → Format) → (ℕ → ℕ) → ℕ → ℕ → 
 late_by format frames n p =
     let i = first_place (λ i. count_broken (format i) (frames i)) n in
     let j = first_place (λ i. default_broken (format i)) n in
-    if_else (ltb i n) (Refused 36 (format i).offset)
-    (if_else (ltb j n) (Refused 37 (format j).offset)
-    (if_else (eqb n p) Accepted (Refused 38 0)))
+    if_else (ltb i n) (refuse 36 (format i).offset)
+    (if_else (ltb j n) (refuse 37 (format j).offset)
+    (if_else (eqb n p) accept (refuse 38 0)))
 
 abbrev pub late : List ℕ → Seen → Verdict
 late s a = late_by (λ i. get_or a.formats i no_format) (λ i. count_under (i + 1) a.frames) (length a.formats) (format_count s)
 
 -- the answer
 abbrev pub answer : Verdict → List ℕ → Seen → Streaming
-answer Accepted s a = accepted_with s a
-answer (Refused k o) s a = refused_by k o
+answer (Ok _) s a = accepted_with s a
+answer (Err r) s a = refused_by r.number r.offset
 
 unfoldable pub after_walk : List ℕ → Outcome Seen → Streaming
 after_walk s (done a) = answer (late s a) s a

@@ -8,12 +8,13 @@ ghost use Rattle.rules.specs.Place.{first_place};
 ghost use Rattle.streaming.specs.Answer.{is_output, linked_to, refused_by};
 ghost use Rattle.streaming.specs.Inner.{count_broken, default_broken, late_by, no_counts, streaming_of};
 
-use entities::{Entity, Found, Table};
-use rules::Verdict;
+use entities::{Entity, Table};
+use rules::{Refused, Verdict};
 use streaming_descriptors::{Format, Frame};
 use streaming_rules::{FORMATS_MOST, FRAMES_MOST, Sofar};
 
-// The verdict, the header's endpoint and terminal link, and the formats and frames in block order, unused places zero. A refused block gives all zero.
+// The verdict, the header's endpoint and terminal link, and the formats and frames in block order, unused places zero. A refused block gives all zero. (No Result:
+// `streaming_of` says so.)
 #[derive(Drop)]
 pub struct Streaming {
     pub verdict: Verdict,
@@ -34,10 +35,7 @@ const STREAMING: u16 = 0x0101;
 fn is_output(e: Entity) -> bool
     ensures { result ≡ is_output e }
 {
-    if e.kind != entities::OUTPUT_TERMINAL {
-        return false;
-    }
-    e.terminal == STREAMING
+    e.kind == entities::OUTPUT_TERMINAL && e.terminal == STREAMING
 }
 
 // 30: the first used place of the table that carries the link is an output terminal of type 0x0101.
@@ -45,23 +43,21 @@ fn is_linked(table: Table, link: u8) -> bool
     ensures { result ≡ linked_to table link }
 {
     match entities::find(table, link) {
-        Found::At(i) => is_output(table.entities[i]),
-        Found::Nothing => false,
+        Some(i) => is_output(table.entities[i]),
+        None => false,
     }
 }
 
-// The first of the n formats that breaks 36; n where none does.
+// The first of the n formats that breaks 36; n where none does. (No Option: `first_place` gives the number.)
 fn first_count(formats: [Format; FORMATS_MOST], n: usize, counts: &Counts) -> usize
     requires { n ≤ formats_most }
     ensures { result ≡ first_place (λ i. count_broken (get_or formats i no_format) (get_or counts.now (i + 1) 0)) n }
 {
-    let mut i: usize = 0;
-    while i < n {
+    for i in 0..n {
         let f = formats[i];
         if f.frames != counts[i + 1] {
             return i;
         }
-        i = i + 1;
     }
     n
 }
@@ -70,23 +66,18 @@ fn first_count(formats: [Format; FORMATS_MOST], n: usize, counts: &Counts) -> us
 fn default_broken(f: Format) -> bool
     ensures { result ≡ default_broken f }
 {
-    if f.default == 0 {
-        return true;
-    }
-    f.frames < f.default
+    f.default == 0 || f.frames < f.default
 }
 
-// The first of the n formats that breaks 37; n where none does.
+// The first of the n formats that breaks 37; n where none does. (No Option: `first_place` gives the number.)
 fn first_default(formats: [Format; FORMATS_MOST], n: usize) -> usize
     requires { n ≤ formats_most }
     ensures { result ≡ first_place (λ i. default_broken (get_or formats i no_format)) n }
 {
-    let mut i: usize = 0;
-    while i < n {
+    for i in 0..n {
         if default_broken(formats[i]) {
             return i;
         }
-        i = i + 1;
     }
     n
 }
@@ -99,26 +90,26 @@ fn late_verdict(formats: [Format; FORMATS_MOST], n: usize, counts: &Counts, p: u
     let i = first_count(formats, n, counts);
     if i < n {
         let f = formats[i];
-        return Verdict::Refused {
+        return Err(Refused {
             number: 36,
             offset: f.offset as usize,
-        };
+        });
     }
     let j = first_default(formats, n);
     if j < n {
         let f = formats[j];
-        return Verdict::Refused {
+        return Err(Refused {
             number: 37,
             offset: f.offset as usize,
-        };
+        });
     }
     if n == le::wide(p) {
-        return Verdict::Accepted;
+        return Ok(());
     }
-    Verdict::Refused {
+    Err(Refused {
         number: 38,
         offset: 0,
-    }
+    })
 }
 
 // A refused block: all zero but the verdict.
@@ -130,7 +121,7 @@ fn refused(number: u8, offset: usize) -> Streaming
     let formats = [no_format; FORMATS_MOST];
     let frames = [no_frame; FRAMES_MOST];
     Streaming {
-        verdict: Verdict::Refused { number, offset },
+        verdict: Err(Refused { number, offset }),
         endpoint: 0,
         link: 0,
         format_count: 0,
@@ -152,8 +143,8 @@ pub fn read(table: Table, block: &[u8]) -> Streaming
     ensures { result ≡ streaming_of table block.now }
 {
     let whole = streaming_rules::head_rule(table.count, block);
-    if whole != 0 {
-        return refused(whole, 0);
+    if let Err(number) = whole {
+        return refused(number, 0);
     }
     let linked = is_linked(table, block[8]);
     let no_format = streaming_descriptors::no_format();
@@ -165,6 +156,7 @@ pub fn read(table: Table, block: &[u8]) -> Streaming
     let mut n: usize = 0;
     let mut last = no_format;
     let mut at: usize = 0;
+    // a walk: the descriptors' own lengths give the step
     while at < block.len() {
         let numbered = counts[f];
         let a = Sofar {
@@ -175,8 +167,8 @@ pub fn read(table: Table, block: &[u8]) -> Streaming
             numbered,
         };
         let broken = streaming_rules::rule_at(block, at, a);
-        if broken != 0 {
-            return refused(broken, at);
+        if let Err(number) = broken {
+            return refused(number, at);
         }
         let next = at + le::wide(block[at]);
         let kind = streaming_descriptors::kind_of(block[at + 2]);
@@ -198,11 +190,11 @@ pub fn read(table: Table, block: &[u8]) -> Streaming
         }
     }
     let verdict = late_verdict(formats, f, &counts, block[3]);
-    if let Verdict::Refused { number, offset } = verdict {
+    if let Err(Refused { number, offset }) = verdict {
         return refused(number, offset);
     }
     Streaming {
-        verdict: Verdict::Accepted,
+        verdict: Ok(()),
         endpoint: block[6],
         link: block[8],
         format_count: f,

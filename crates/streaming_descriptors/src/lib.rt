@@ -10,7 +10,7 @@ const YUY2: [u8; 16] = *b"YUY2\x00\x00\x10\x00\x80\x00\x00\xAA\x00\x38\x9B\x71";
 
 const NV12: [u8; 16] = *b"NV12\x00\x00\x10\x00\x80\x00\x00\xAA\x00\x38\x9B\x71";
 
-// What a subtype number says. Formats and frames go by the format's subtype.
+// What a subtype number says. Formats and frames go by the format's subtype: the block's own number, which is printed as it is, and no enum that is turned back.
 #[derive(Clone, Copy)]
 pub enum Kind {
     Header,
@@ -182,25 +182,13 @@ pub fn shape_ok(s: &[u8], at: usize, len: usize, kind: Kind) -> bool
 pub fn is_format(kind: Kind) -> bool
     ensures { result ≡ is_format kind }
 {
-    match kind {
-        Kind::Header => false,
-        Kind::Formats(_) => true,
-        Kind::Frames(_) => false,
-        Kind::Unread => false,
-        Kind::Other => false,
-    }
+    matches!(kind, Kind::Formats(_))
 }
 
 pub fn is_frame(kind: Kind) -> bool
     ensures { result ≡ is_frame kind }
 {
-    match kind {
-        Kind::Header => false,
-        Kind::Formats(_) => false,
-        Kind::Frames(_) => true,
-        Kind::Unread => false,
-        Kind::Other => false,
-    }
+    matches!(kind, Kind::Frames(_))
 }
 
 // The format's subtype, of a format or a frame; 0 of what is neither.
@@ -209,8 +197,7 @@ pub fn format_of(kind: Kind) -> u8
 {
     match kind {
         Kind::Header => 0,
-        Kind::Formats(format) => format,
-        Kind::Frames(format) => format,
+        Kind::Formats(format) | Kind::Frames(format) => format,
         Kind::Unread => 0,
         Kind::Other => 0,
     }

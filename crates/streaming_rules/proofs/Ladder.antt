@@ -8,7 +8,8 @@ use lib.Dec.{eqb, ltb}
 use borrow.Author.Tests.{eq-eqb, ne_eqb, not-false}
 use Rattle.le.specs.Le.{byte, le16_at, le32_at}
 use Rattle.rules.specs.IfElse.{if_else}
-use Rattle.rules.specs.Numbered.{first_row}
+use Rattle.std.specs.Prelude.{Result}
+use Rattle.rules.specs.Numbered.{first_row, kept}
 use Rattle.blocks.specs.Blocks.{length_broken, type_broken}
 use Rattle.blocks.proofs.Right.{said-placed}
 use Rattle.intervals.specs.Intervals.{offered}
@@ -51,7 +52,7 @@ module _ (s : List ℕ) (o : ℕ) (a : Sofar) (b : Bool) (x : b ≡ length_broke
           unfolding rows
           rule-28 h = rw (← x, y, ← z, w, ne_eqb (byte s o 2) 2 v, ← d, ← e, g, ← f, h)
 
-          pub rule-on : (r : ℕ) → not q ≡ false → r ≡ first_row (kind_rows k s o a) → r ≡ first_row (rows s o a)
+          pub rule-on : (r : Result (Unit {0}) ℕ) → not q ≡ false → r ≡ kept (first_row (kind_rows k s o a)) → r ≡ kept (first_row (rows s o a))
           unfolding rows
           rule-on r h i = rw (← x, y, ← z, w, ne_eqb (byte s o 2) 2 v, ← d, ← e, g, ← f, h) i
 
@@ -68,10 +69,6 @@ or_no true v e = e
 or_no false v e = e
 
 -- ---- 32
-pub no-format-yet : (f : ℕ) (a : Sofar) → a.formats ≡ 0 → true ≡ misplaced f a
-unfolding misplaced
-no-format-yet f a h = rw (eq-eqb a.formats 0 h)
-
 pub some-format : (f : ℕ) (a : Sofar) → (a.formats ≡ 0 → ⊥) → not (eqb a.last.kind f) ≡ misplaced f a
 unfolding misplaced
 some-format f a h = rw (ne_eqb a.formats 0 h)
@@ -100,10 +97,6 @@ untrue-is f x s o w h n r e a b c q = rw (eq-eqb f 4 e, ← a, ← b, ← c) q
 
 -- ---- 40
 module _ (f : ℕ) (s : List ℕ) (o : ℕ) where
-  pub no_flag : (f ≡ 0x10 → ⊥) → false ≡ flag_wrong f s o
-  unfolding flag_wrong
-  no_flag h = rw (ne_eqb f 0x10 h)
-
   pub flag_is : f ≡ 0x10 → ltb 1 (byte s o 27) ≡ flag_wrong f s o
   unfolding flag_wrong
   flag_is h = rw (eq-eqb f 0x10 h)

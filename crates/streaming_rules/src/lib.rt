@@ -2,7 +2,7 @@
 #![tactic(auto)]
 
 ghost use Rattle.std.specs.Prelude.{◌≡◌, true, ◌+◌, ◌≤◌, ◌<◌, length};
-ghost use Rattle.rules.specs.Numbered.{first_row};
+ghost use Rattle.rules.specs.Numbered.{first_row, kept};
 ghost use Rattle.streaming_descriptors.specs.Descriptors.{kind_at, len_at, shape, format_layout, frame_length_at, format_of};
 ghost use Rattle.streaming_rules.specs.Rules.{formats_most, head_rows, is_unread, misplaced, offers_under, offers_at, default_offered, untrue_at, flag_wrong, line_wrong, kind_rows, rows};
 
@@ -42,28 +42,22 @@ pub struct Sofar {
 fn is_unread(kind: Kind) -> bool
     ensures { result ≡ is_unread kind }
 {
-    match kind {
-        Kind::Header => false,
-        Kind::Formats(_) => false,
-        Kind::Frames(_) => false,
-        Kind::Unread => true,
-        Kind::Other => false,
-    }
+    matches!(kind, Kind::Unread)
 }
 
 // 29 and 30, of the header.
-fn header_rule(s: &[u8], at: usize, a: Sofar) -> u8
+fn header_rule(s: &[u8], at: usize, a: Sofar) -> Result<(), u8>
     requires { at + 13 ≤ length s.now }
-    ensures { result ≡ first_row (kind_rows Kind.Header s.now at a) }
+    ensures { result ≡ kept (first_row (kind_rows Kind.Header s.now at a)) }
 {
     let endpoint = s[at + 6];
     if (endpoint >> 7) % 2 != 1 {
-        return 29;
+        return Err(29);
     }
     if a.linked {
-        return 0;
+        return Ok(());
     }
-    30
+    Err(30)
 }
 
 // 40: the flag of a frame-based format is not 0 or 1.
@@ -71,37 +65,31 @@ fn is_flag_wrong(s: &[u8], at: usize, format: u8) -> bool
     requires { at + (format_layout format).length ≤ length s.now }
     ensures { result ≡ flag_wrong format s.now at }
 {
-    if format != FRAME_BASED {
-        return false;
-    }
-    1 < s[at + 27]
+    format == FRAME_BASED && 1 < s[at + 27]
 }
 
 // 31, 35 and 40, of a format.
-fn format_rule(s: &[u8], at: usize, format: u8, a: Sofar) -> u8
+fn format_rule(s: &[u8], at: usize, format: u8, a: Sofar) -> Result<(), u8>
     requires { (at + (format_layout format).length ≤ length s.now) × (a.formats ≤ formats_most) }
-    ensures { result ≡ first_row (kind_rows (Kind.Formats format) s.now at a) }
+    ensures { result ≡ kept (first_row (kind_rows (Kind.Formats format) s.now at a)) }
 {
     if le::wide(s[at + 3]) != a.formats + 1 {
-        return 31;
+        return Err(31);
     }
     if is_flag_wrong(s, at, format) {
-        return 40;
+        return Err(40);
     }
     if FORMATS_MOST <= a.formats {
-        return 35;
+        return Err(35);
     }
-    0
+    Ok(())
 }
 
 // 32: no format yet, or the last one is of another kind.
 fn is_misplaced(format: u8, a: Sofar) -> bool
     ensures { result ≡ misplaced format a }
 {
-    if a.formats == 0 {
-        return true;
-    }
-    a.last.kind != format
+    a.formats == 0 || a.last.kind != format
 }
 
 // Whether the frame at `at`, under a format of this subtype, offers x as an interval.
@@ -165,80 +153,83 @@ fn is_line_wrong(s: &[u8], at: usize, format: u8, last: Format) -> bool
 }
 
 // 32 to 35, 39 and 40, of a frame.
-fn frame_rule(s: &[u8], at: usize, format: u8, a: Sofar) -> u8
+fn frame_rule(s: &[u8], at: usize, format: u8, a: Sofar) -> Result<(), u8>
     requires { at + frame_length_at format s.now at ≤ length s.now }
-    ensures { result ≡ first_row (kind_rows (Kind.Frames format) s.now at a) }
+    ensures { result ≡ kept (first_row (kind_rows (Kind.Frames format) s.now at a)) }
 {
     if is_misplaced(format, a) {
-        return 32;
+        return Err(32);
     }
     if le::wide(s[at + 3]) != le::wide(a.numbered) + 1 {
-        return 33;
+        return Err(33);
     }
     let offered = default_offered(s, at, format);
     if !offered {
-        return 34;
+        return Err(34);
     }
     if is_untrue(s, at, format, a.last) {
-        return 39;
+        return Err(39);
     }
     if is_line_wrong(s, at, format, a.last) {
-        return 40;
+        return Err(40);
     }
     if FRAMES_MOST <= a.frames {
-        return 35;
+        return Err(35);
     }
-    0
+    Ok(())
 }
 
-// 29 to 35, 39 and 40, by the kind; 0 where none is broken.
-fn kind_rule(s: &[u8], at: usize, kind: Kind, a: Sofar) -> u8
+// 29 to 35, 39 and 40, by the kind.
+fn kind_rule(s: &[u8], at: usize, kind: Kind, a: Sofar) -> Result<(), u8>
     requires at_value { (shape kind s.now at ≡ true) × (at + len_at s.now at ≤ length s.now) }
     requires formats_le_formats_most { a.formats ≤ formats_most }
-    ensures { result ≡ first_row (kind_rows kind s.now at a) }
+    ensures { result ≡ kept (first_row (kind_rows kind s.now at a)) }
 {
     match kind {
         Kind::Header => header_rule(s, at, a),
         Kind::Formats(format) => format_rule(s, at, format, a),
         Kind::Frames(format) => frame_rule(s, at, format, a),
-        Kind::Unread => 0,
-        Kind::Other => 0,
+        Kind::Unread => Ok(()),
+        Kind::Other => Ok(()),
     }
 }
 
-// Inner: the first of 25 to 35, 39 and 40 that the descriptor at `at` breaks; 0 where none is broken.
-pub fn rule_at(s: &[u8], at: usize, a: Sofar) -> u8
+// Inner: the first of 25 to 35, 39 and 40 that the descriptor at `at` breaks.
+pub fn rule_at(s: &[u8], at: usize, a: Sofar) -> Result<(), u8>
     requires { (at < length s.now) × (a.formats ≤ formats_most) }
-    ensures { result ≡ first_row (rows s.now at a) }
+    ensures { result ≡ kept (first_row (rows s.now at a)) }
 {
     if blocks::length_broken(s, at) {
-        return 25;
+        return Err(25);
     }
     if blocks::type_broken(s, at) {
-        return 26;
+        return Err(26);
     }
     let sub = s[at + 2];
     if sub == OUTPUT_HEADER {
-        return 26;
+        return Err(26);
     }
     let kind = streaming_descriptors::kind_of(sub);
     if is_unread(kind) {
-        return 27;
+        return Err(27);
     }
     let len = le::wide(s[at]);
     let shaped = streaming_descriptors::shape_ok(s, at, len, kind);
     if !shaped {
-        return 28;
+        return Err(28);
     }
     kind_rule(s, at, kind, a)
 }
 
-// The first of 20 to 24 that the block breaks; 0 where none is broken.
-pub fn head_rule(entities: usize, s: &[u8]) -> u8
-    ensures { result ≡ first_row (head_rows entities s.now) }
+// The first of 20 to 24 that the block breaks.
+pub fn head_rule(entities: usize, s: &[u8]) -> Result<(), u8>
+    ensures { result ≡ kept (first_row (head_rows entities s.now)) }
 {
     if ENTITIES_MOST < entities {
-        return 20;
+        return Err(20);
     }
-    blocks::whole_rule(s, LIMITS)
+    match blocks::whole_rule(s, LIMITS) {
+        0 => Ok(()),
+        number => Err(number),
+    }
 }

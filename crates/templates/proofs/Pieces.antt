@@ -87,42 +87,40 @@ module _ {s : List ℕ} {o k : ℕ} {t old : List ℕ} {start i at : ℕ} {buf :
   pub all-rendered : Rendering s o k t old start i at buf → length t ≤ i → Put old start (rendered s o k t) at buf × (at ≤ start + 6 * length t)
   all-rendered p h = (over (no-piece p.fuel s o k t i h) p.going, omega (arith, p.room, p.within))
 
--- ---- a template for each thing of a row: `left` of n are left, the next at `place`
-pub record Listing (s : List ℕ) (o step : ℕ) (t old : List ℕ) (start n k left at place : ℕ) (buf : List ℕ) : Type 0 where
-  pub within : left ≤ n
+-- ---- a template for each thing of a row: i of n are done, the next at `place`
+pub record Listing (s : List ℕ) (o step : ℕ) (t old : List ℕ) (start n k i at place : ℕ) (buf : List ℕ) : Type 0 where
+  pub within : i ≤ n
   pub few : n < 256
-  pub room : at ≤ start + 384 * (n - left)
-  pub low : place ≤ 256 + 4 * (n - left)
+  pub room : at ≤ start + 384 * i
+  pub low : place ≤ 256 + 4 * i
   pub size : length buf ≡ length old
-  pub going : Going old start (listed s o step t n k) at buf (listed s o step t left place)
+  pub going : Going old start (listed s o step t n k) at buf (listed s o step t (n - i) place)
 
-pub start-listing : (s : List ℕ) (o step : ℕ) (t old : List ℕ) (start n k : ℕ) → n < 256 → k < 256 → start ≤ length old → Listing s o step t old start n k n start k old
+pub start-listing : (s : List ℕ) (o step : ℕ) (t old : List ℕ) (start n k : ℕ) → n < 256 → k < 256 → start ≤ length old → Listing s o step t old start n k 0 start k old
 start-listing s o step t old start n k f l h =
-    record { within = omega arith; few = f; room = omega arith; low = omega arith; size = refl; going = begin old start (listed s o step t n k) h }
+    let e : n - 0 ≡ n = omega arith in
+    record { within = omega arith; few = f; room = omega arith; low = omega arith; size = refl; going = rw e (begin old start (listed s o step t n k) h) }
 
-one-thing : (s : List ℕ) (o step : ℕ) (t : List ℕ) (left place : ℕ) → listed s o step t (suc left) place ≡ rendered s o place t ++ listed s o step t left (place + step)
+one-thing : (s : List ℕ) (o step : ℕ) (t : List ℕ) (left rest place : ℕ) → left ≡ suc rest → listed s o step t left place ≡ rendered s o place t ++ listed s o step t rest (place + step)
 unfolding listed
-one-thing s o step t left place = refl
+one-thing s o step t left rest place e = rw e
 
-one_less : (left : ℕ) → suc left - 1 ≡ left
-one_less left = omega arith
+no-thing : (s : List ℕ) (o step : ℕ) (t : List ℕ) (left place : ℕ) → left ≡ 0 → listed s o step t left place ≡ []
+unfolding listed
+no-thing s o step t left place e = rw e
 
-module _ {s : List ℕ} {o step : ℕ} {t old : List ℕ} {start n k at place : ℕ} {buf : List ℕ} where
-  pub thing-more : (left : ℕ) {r : ℕ} {new : List ℕ} → 0 < left → step < 5 → length t ≤ 64 → Listing s o step t old start n k left at place buf
-      → Put buf at (rendered s o place t) r new → r ≤ at + 6 * length t → Listing s o step t old start n k (left - 1) r (place + step) new
-  thing-more zero z f m p q b = absurd (omega arith)
-  thing-more (suc left) z f m p q b =
-      rw (one_less left)
-      (record {
-        within = omega (arith, p.within);
+module _ {s : List ℕ} {o step : ℕ} {t old : List ℕ} {start n k i at place : ℕ} {buf : List ℕ} where
+  pub thing-more : {r : ℕ} {new : List ℕ} → i < n → step < 5 → length t ≤ 64 → Listing s o step t old start n k i at place buf
+      → Put buf at (rendered s o place t) r new → r ≤ at + 6 * length t → Listing s o step t old start n k (i + 1) r (place + step) new
+  thing-more z f m p q b =
+      record {
+        within = omega arith;
         few = p.few;
-        room = omega (arith, p.within, p.room);
-        low = omega (arith, p.within, p.low);
+        room = omega (arith, p.room);
+        low = omega (arith, p.low);
         size = q.size ∙ p.size;
-        going = more (rendered s o place t) (listed s o step t left (place + step)) (one-thing s o step t left place) p.going q;
-      })
+        going = more (rendered s o place t) (listed s o step t (n - (i + 1)) (place + step)) (one-thing s o step t (n - i) (n - (i + 1)) place (omega arith)) p.going q;
+      }
 
-  pub all_listed : (left : ℕ) → left ≤ 0 → Listing s o step t old start n k left at place buf → Put old start (listed s o step t n k) at buf × (at ≤ start + 97920)
-  unfolding listed
-  all_listed zero h p = (over refl p.going, omega (arith, p.room, p.few))
-  all_listed (suc left) h p = absurd (omega arith)
+  pub all_listed : n ≤ i → Listing s o step t old start n k i at place buf → Put old start (listed s o step t n k) at buf × (at ≤ start + 97920)
+  all_listed h p = (over (no-thing s o step t (n - i) place (omega arith)) p.going, omega (arith, p.room, p.within, p.few))

@@ -1,7 +1,7 @@
 // Text with fields: `%`, a form and two digits stand for what the bytes hold at that offset, and every other byte for itself.
 #![tactic(auto)]
 
-ghost use Rattle.std.specs.Prelude.{◌≡◌, ◌+◌, ◌-◌, ◌*◌, ◌≤◌, ◌<◌, length, get_or};
+ghost use Rattle.std.specs.Prelude.{◌≡◌, ◌+◌, ◌-◌, ◌*◌, ◌≤◌, ◌<◌, length};
 ghost use Rattle.text.specs.Put.{Put};
 ghost use Rattle.templates.specs.Values.{word_at, long_at, hex_digit, hex_text, shown, letter_text, hundredths, rate_text, form_of, value_of};
 ghost use Rattle.templates.specs.Template.{is_field, length_at, field_at, piece_at, rendered, listed};
@@ -33,6 +33,7 @@ pub fn render(buf: &mut [u8], start: usize, s: &[u8], o: usize, k: usize, t: &[u
 {
     let mut at = start;
     let mut i: usize = 0;
+    // a walk: the template's bytes give the step
     while i < t.len() {
         at = piece(buf, at, s, o, k, t, i);
         i += length_at(t, i);
@@ -57,11 +58,9 @@ pub fn list(
 {
     let mut at = start;
     let mut place = k;
-    let mut left = n;
-    while 0 < left {
+    for _i in 0..n {
         at = render(buf, at, s, o, place, t);
         place += step;
-        left -= 1;
     }
     at
 }

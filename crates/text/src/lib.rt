@@ -46,10 +46,8 @@ pub fn numbers(buf: &mut [u8], start: usize, ns: &[u64]) -> usize
     ensures upper_bound { result ≤ start + 21 * length ns.now }
 {
     let mut at = start;
-    let mut i = 0;
-    while i < ns.len() {
-        at = number(buf, at, ns[i]);
-        i += 1;
+    for n in ns {
+        at = number(buf, at, *n);
     }
     at
 }

@@ -1,4 +1,5 @@
 -- A trace begins with a fresh session, unless its sizes are such that none can be opened: then by 45, or by 46.
+use Rattle.std.specs.Prelude.{Ok}
 use mathlib.Core.Path.{◌≡◌, refl}
 use mathlib.Core.Bool.{Bool, true, false}
 use mathlib.Core.List.{[], ◌∷◌}
@@ -11,7 +12,6 @@ use Rattle.sizes.specs.Framing.{by_eof}
 use Rattle.sizes.specs.Sizes.{frame_size_broken, payload_size_broken, sizes_broken}
 use Rattle.rules.specs.Numbered.{row, first_row}
 use Rattle.session_rules.specs.Refusals.{opening_rows}
-use Rattle.session_rules.specs.declared.Start.{Start}
 use Rattle.session_rules.specs.Session.{open_by, open_of}
 use Rattle.trace.specs.Trace.{ledger_sizes, replay_sizes, new_trace, begin_of, start_by}
 
@@ -28,7 +28,7 @@ begun-start o = rw (enough o) (go (frame_size_broken o.frame) (payload_size_brok
     go false true = refl
     go false false = refl
 
-pub begun-open : (o : Opening) → sizes_broken o ≡ false → begin_of o ≡ record { trace = new_trace o; start = Start.Open }
+pub begun-open : (o : Opening) → sizes_broken o ≡ false → begin_of o ≡ record { trace = new_trace o; start = Ok tt }
 unfolding open_of opening_rows sizes_broken
 begun-open o e = rw (or-first (frame_size_broken o.frame) (payload_size_broken o.payload) e, or-second (frame_size_broken o.frame) (payload_size_broken o.payload) e, enough o)
 

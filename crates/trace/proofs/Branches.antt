@@ -1,4 +1,6 @@
 -- What each branch of the code says of the definitions.
+use Rattle.std.specs.Prelude.{Err, Ok}
+use Rattle.session_rules.specs.Options.{Ended, Closing}
 use Prim.Native.Nat.{ℕ, zero, suc, ◌+◌}
 use mathlib.Core.Path.{◌≡◌, refl, sym, ◌∙◌, ap, subst}
 use mathlib.Core.Bool.{Bool, true, false, ◌||◌}
@@ -10,7 +12,6 @@ use Rattle.sizes.specs.declared.Opening.{Opening}
 use Rattle.session_rules.specs.declared.Ledger.{Ledger}
 use Rattle.session_rules.specs.Ledger.{no_ledger}
 use Rattle.session_rules.specs.declared.Answer.{Answer}
-use Rattle.session_rules.specs.declared.Ended.{Ended}
 use Rattle.session_rules.specs.declared.HandOut.{HandOut}
 use Rattle.session_rules.specs.declared.Session.{Session}
 use Rattle.session_rules.specs.declared.Rest.{Rest}
@@ -20,9 +21,7 @@ use Rattle.session.specs.declared.RestClosed.{RestClosed}
 use Rattle.session_rules.specs.declared.Taken.{Taken}
 use Rattle.session_rules.specs.declared.Outcome.{Outcome}
 use Rattle.session_rules.specs.declared.Reported.{Reported}
-use Rattle.session_rules.specs.declared.Report.{Report}
 use Rattle.session_rules.specs.declared.Closed.{Closed}
-use Rattle.session_rules.specs.declared.Closing.{Closing}
 use Rattle.session_rules.specs.declared.Opened.{Opened}
 use Rattle.session_rules.specs.Refusals.{take_rows, lost_rows, close_rows, ledger_of}
 use Rattle.session_rules.specs.Session.{open_of, take_by, take_of, lost_by, lost_of, close_by, close_of}
@@ -131,11 +130,11 @@ module _ (s : Session) (t : List ℕ) (x : RestTaken) (l : List ℕ) (e : taken_
   transfer-handed a q f = transfer-met (rw q tt) f
 
 -- ---- a lost report
-lost-refused₀ : (s : Session) (n k : ℕ) → (lost_by n s).report ≡ Report.Refused k → k ≡ n
+lost-refused₀ : (s : Session) (n k : ℕ) → (lost_by n s).report ≡ Err k → k ≡ n
 lost-refused₀ s zero k e = absurd (let z : ◌≡◌ {A = ℕ} 0 1 = cc in omega arith)
 lost-refused₀ s (suc n) k e = cc
 
-lost-noted₀ : (s : Session) (n : ℕ) → (lost_by n s).report ≡ Report.Noted → 0 ≡ n
+lost-noted₀ : (s : Session) (n : ℕ) → (lost_by n s).report ≡ Ok tt → 0 ≡ n
 lost-noted₀ s zero e = refl
 lost-noted₀ s (suc n) e = absurd (let z : ◌≡◌ {A = ℕ} 0 1 = cc in omega arith)
 
@@ -153,20 +152,20 @@ module _ (s : Session) (x : RestReported) (l : List ℕ) (e : reported_with x l 
     as_said k x.rest l Said.Nothing g f,
   )
 
-  pub lost-refused : (k : ℕ) → x.report ≡ Report.Refused k → g ≡ answered_by k x.rest Said.Nothing → Answered s Ask.lost (going_with g l) g.said
+  pub lost-refused : (k : ℕ) → x.report ≡ Err k → g ≡ answered_by k x.rest Said.Nothing → Answered s Ask.lost (going_with g l) g.said
   unfolding lost_of
   lost-refused k q f = by-lost-row k (lost-refused₀ s lost-row k (ap (λ (y : Reported). y.report) (sym e) ∙ q)) f
 
-  pub lost-noted : x.report ≡ Report.Noted → g ≡ answered_by 0 x.rest Said.Nothing → Answered s Ask.lost (going_with g l) g.said
+  pub lost-noted : x.report ≡ Ok tt → g ≡ answered_by 0 x.rest Said.Nothing → Answered s Ask.lost (going_with g l) g.said
   unfolding lost_of
   lost-noted q f = by-lost-row 0 (lost-noted₀ s lost-row (ap (λ (y : Reported). y.report) (sym e) ∙ q)) f
 
 -- ---- close
-close-refused₀ : (s : Session) (n k : ℕ) → (close_by n s).closing ≡ Closing.Refused k → k ≡ n
+close-refused₀ : (s : Session) (n k : ℕ) → (close_by n s).closing ≡ Err k → k ≡ n
 close-refused₀ s zero k e = absurd (let z : ◌≡◌ {A = ℕ} 0 1 = cc in omega arith)
 close-refused₀ s (suc n) k e = cc
 
-close-closed₀ : (s : Session) (n : ℕ) (a : Ended) → (close_by n s).closing ≡ Closing.Closed a → 0 ≡ n
+close-closed₀ : (s : Session) (n : ℕ) (a : Ended) → (close_by n s).closing ≡ Ok a → 0 ≡ n
 close-closed₀ s zero a e = refl
 close-closed₀ s (suc n) a e = absurd (let z : ◌≡◌ {A = ℕ} 0 1 = cc in omega arith)
 
@@ -184,13 +183,13 @@ module _ (s : Session) (x : RestClosed) (l : List ℕ) (e : closed_with x l ≡ 
     as_said k x.rest l (Said.Close x.closing) g f ∙ ap (λ (y : Closed). Said.Close y.closing) e,
   )
 
-  pub close-refused : (k : ℕ) → x.closing ≡ Closing.Refused k → g ≡ answered_by k x.rest (Said.Close (Closing.Refused k))
+  pub close-refused : (k : ℕ) → x.closing ≡ Err k → g ≡ answered_by k x.rest (Said.Close (Err k))
       → Answered s Ask.close (going_with g l) g.said
   unfolding close_of
   close-refused k q f =
       by-close-row k (close-refused₀ s close_row k (ap (λ (y : Closed). y.closing) (sym e) ∙ q)) (f ∙ ap (λ (y : Closing). answered_by k x.rest (Said.Close y)) (sym q))
 
-  pub close-closed : (a : Ended) → x.closing ≡ Closing.Closed a → g ≡ answered_by 0 x.rest (Said.Close x.closing) → Answered s Ask.close (going_with g l) g.said
+  pub close-closed : (a : Ended) → x.closing ≡ Ok a → g ≡ answered_by 0 x.rest (Said.Close x.closing) → Answered s Ask.close (going_with g l) g.said
   unfolding close_of
   close-closed a q f = by-close-row 0 (close-closed₀ s close_row a (ap (λ (y : Closed). y.closing) (sym e) ∙ q)) f
 

@@ -1,15 +1,11 @@
 -- Many records in a row: what the loop over them keeps.
-use Prim.Native.Nat.{ℕ, zero, suc, ◌+◌, ◌-◌, ◌≤◌, ◌<◌}
+use Prim.Native.Nat.{ℕ, zero, suc, min, ◌<◌}
 use mathlib.Core.Path.{◌≡◌, refl, sym, ◌∙◌, ap}
 use mathlib.Core.Bool.{Bool, true, false, true≢false, ◌||◌}
-use mathlib.Core.List.{List, [], ◌∷◌}
-use mathlib.Core.Logic.{◌⊎◌, ⊎_elim, inl, inr}
-use native.Mathlib.Omega.{arith}
-use lib.ListN.{length, take, drop, length-drop, drop_of_length-le}
-use lib.Seq.{drop-drop, take_all}
-use lib.Dec.{ltb}
-use borrow.Author.Tests.{lt-ltb, le-ltb, ltb-true, ltb-false}
-use Rattle.rules.specs.IfElse.{if_else}
+use mathlib.Core.List.{List, [], ◌∷◌, ◌++◌}
+use lib.ListN.{length, drop}
+use Rattle.rules.proofs.Lists.{no-elements}
+use Rattle.rules.proofs.Chunks.{chunk-parts}
 use Rattle.session_rules.specs.declared.Session.{Session}
 use Rattle.session_rules.specs.Refusals.{posted_of}
 use Rattle.session_rules.specs.declared.Rest.{Rest}
@@ -17,7 +13,7 @@ use Rattle.books.proofs.Sized.{next-sized}
 use Rattle.records.specs.declared.Form.{Form}
 use Rattle.records.specs.Form.{size_of}
 use Rattle.records.specs.Record.{record_bad, records_of}
-use Rattle.records.proofs.Records.{some_size, records-more}
+use Rattle.records.proofs.Records.{records-more}
 use Rattle.trace.specs.Record.{record_ask}
 use Rattle.trace.specs.Trace.{offer_of, offered, read_by, step_of, traced, good_of}
 use Rattle.trace.specs.declared.State.{State}
@@ -28,58 +24,13 @@ use Rattle.session_rules.specs.Accounts.{number_count}
 use Rattle.session_rules.proofs.Places.{Sized}
 use Rattle.session.specs.Inner.{whole_of}
 use Rattle.session_rules.specs.Calls.{refusal, next}
-use Rattle.trace.specs.Inner.{end_of, going_with, good_with, is_decided}
+use Rattle.trace.specs.Inner.{going_with, good_with, is_decided}
 
--- ---- from a record's first byte to its last, or to the last there is
-pub record Cut (f : Form) (l : List ℕ) (at end : ℕ) : Type 0 where
-  pub here : at < length l
-  pub within : end ≤ length l
-  pub next : at < end
-  pub whole : (end ≡ at + size_of f) ⊎ ((end ≡ length l) × (length l < at + size_of f))
-
-module _ (f : Form) (s at n : ℕ) (e : s ≡ size_of f) where
-  pub end_short : n - at < s → n ≡ end_of f at n
-  unfolding if_else
-  end_short h = rw (sym e, lt-ltb (n - at) s h)
-
-  pub end_whole : s ≤ n - at → at + s ≡ end_of f at n
-  unfolding if_else
-  end_whole h = rw (sym e, le-ltb (n - at) s h)
-
-pub cut_at : (f : Form) (l : List ℕ) (at end : ℕ) → at < length l → end ≡ end_of f at (length l) → Cut f l at end
-unfolding if_else
-cut_at f l at end h e = go (ltb (length l - at) (size_of f)) refl e
-  where
-    go : (x : Bool) → ltb (length l - at) (size_of f) ≡ x → end ≡ if_else x (length l) (at + size_of f) → Cut f l at end
-    go true q g =
-        let z : length l - at < size_of f = ltb-true (length l - at) (size_of f) q in
-        record { here = h; within = omega arith; next = omega arith; whole = inr (g, omega arith) }
-    go false q g =
-        let z : size_of f ≤ length l - at = ltb-false (length l - at) (size_of f) q in
-        record { here = h; within = omega arith; next = omega (arith, some_size f); whole = inl g }
-
-module _ (f : Form) (l : List ℕ) (at end : ℕ) (c : Cut f l at end) where
-  cut_record : take (end - at) (drop at l) ≡ take (size_of f) (drop at l)
-  cut_record = ⊎_elim (λ e. let z : end - at ≡ size_of f = omega arith in ap (λ (n : ℕ). take n (drop at l)) z) short c.whole
-    where
-      short : (end ≡ length l) × (length l < at + size_of f) → take (end - at) (drop at l) ≡ take (size_of f) (drop at l)
-      short e =
-          let n = length-drop at l in
-          take_all (end - at) (drop at l) (omega (arith, n)) ∙ sym (take_all (size_of f) (drop at l) (omega (arith, n)))
-
-  cut-rest : drop end l ≡ drop (size_of f) (drop at l)
-  cut-rest = ⊎_elim (λ e. ap (λ (n : ℕ). drop n l) e ∙ sym (drop-drop (size_of f) at l)) short c.whole
-    where
-      short : (end ≡ length l) × (length l < at + size_of f) → drop end l ≡ drop (size_of f) (drop at l)
-      short e =
-          let n = length-drop at l in
-          drop_of_length-le l {i = end} (omega arith) ∙ sym (drop_of_length-le (drop at l) {i = size_of f} (omega (arith, n)))
-
-  pub cut-records : records_of f (drop at l) ≡ take (end - at) (drop at l) ∷ records_of f (drop end l)
-  cut-records =
-      records-more f (drop at l) (omega (arith, length-drop at l, c.here))
-      ∙ ap (◌∷ records_of f (drop (size_of f) (drop at l))) (sym cut_record)
-      ∙ ap (λ (r : List ℕ). take (end - at) (drop at l) ∷ records_of f r) (sym cut-rest)
+-- ---- a chunk of what is left is the first record
+chunk-records : (f : Form) (left x more : List ℕ) → left ≡ x ++ more → length x ≡ min (size_of f) (length left) → 0 < length left → records_of f left ≡ x ∷ records_of f more
+chunk-records f left x more e size some =
+    let parts = chunk-parts (size_of f) left x more e size in
+    records-more f left some ∙ ap (λ (l : List ℕ). l ∷ records_of f (drop (size_of f) left)) parts.0 ∙ ap (λ (l : List ℕ). x ∷ records_of f l) parts.1
 
 -- ---- a trace that went wrong stays as it is
 not_good : (f : Form) (t : Trace) → is_decided t.state ≡ true → (rs : List (List ℕ)) → traced f t rs ≡ t
@@ -117,10 +68,9 @@ module _ (f : Form) (s : Session) (z : Sized (posted_of s)) where
       go false = by_row (refusal s (offer_of s (record_ask f r))) (next s (offer_of s (record_ask f r))) (next-sized s z (offer_of s (record_ask f r)))
 
 -- ---- the loop
--- what is still to be read, from where the trace stands, leads to the same as all of it
-pub record Reading-on (f : Form) (t : Trace) (l : List ℕ) (r : Rest) (m : List ℕ) (at : ℕ) : Type 0 where
-  pub trace : traced f (good_with r m) (records_of f (drop at l)) ≡ traced f t (records_of f l)
-  pub within : at ≤ length l
+-- what is left to be read, from where the trace stands, leads to the same as all of it
+pub record Reading-on (f : Form) (t : Trace) (l : List ℕ) (r : Rest) (m : List ℕ) (left : List ℕ) : Type 0 where
+  pub trace : traced f (good_with r m) (records_of f left) ≡ traced f t (records_of f l)
   pub sized : length m ≡ number_count
 
 good-state : (z : State) → is_decided z ≡ false → z ≡ Good
@@ -141,36 +91,38 @@ module _ (f : Form) (t : Trace) (l : List ℕ) where
   run-stays x e d = sym (not_good f t (sym e ∙ d) (records_of f l))
 
   -- a good one begins at the first record
-  pub run-begins : (r : Rest) (m : List ℕ) → t ≡ good_with r m → length m ≡ number_count → Reading-on f t l r m 0
-  run-begins r m e z =
-      record { trace = sym (ap (λ (y : Trace). traced f y (records_of f l)) e); within = omega arith; sized = z }
+  pub run-begins : (r : Rest) (m left : List ℕ) → t ≡ good_with r m → left ≡ l → length m ≡ number_count → Reading-on f t l r m left
+  run-begins r m left e q z = record {
+    trace = ap (λ (y : List ℕ). traced f (good_with r m) (records_of f y)) q ∙ sym (ap (λ (y : Trace). traced f y (records_of f l)) e);
+    sized = z;
+  }
 
-  module _ (r : Rest) (m : List ℕ) (at : ℕ) (on : Reading-on f t l r m at) where
+  module _ (r : Rest) (m left : List ℕ) (on : Reading-on f t l r m left) where
     -- all is read
-    pub run_ends : length l ≤ at → good_with r m ≡ traced f t (records_of f l)
+    pub run_ends : length left ≡ 0 → good_with r m ≡ traced f t (records_of f l)
     unfolding records_of
-    run_ends h = sym (ap (λ (y : List ℕ). traced f (good_with r m) (records_of f y)) (drop_of_length-le l {i = at} h)) ∙ on.trace
+    run_ends h = sym (ap (λ (y : List ℕ). traced f (good_with r m) (records_of f y)) (no-elements left h)) ∙ on.trace
 
     -- one record more
-    module _ (end : ℕ) (u : Cut f l at end) (g : Going) (k : List ℕ) (p : going_with g k ≡ step_of f (good_with r m) (take (end - at) (drop at l))) where
-      after-trace : traced f (going_with g k) (records_of f (drop end l)) ≡ traced f t (records_of f l)
+    module _ (x more : List ℕ) (e : left ≡ x ++ more) (size : length x ≡ min (size_of f) (length left)) (some : 0 < length left)
+        (g : Going) (k : List ℕ) (p : going_with g k ≡ step_of f (good_with r m) x) where
+      after-trace : traced f (going_with g k) (records_of f more) ≡ traced f t (records_of f l)
       after-trace =
-          ap (λ (y : Trace). traced f y (records_of f (drop end l))) p
-          ∙ sym (ap (λ (y : List (List ℕ)). traced f (good_with r m) y) (cut-records f l at end u))
+          ap (λ (y : Trace). traced f y (records_of f more)) p
+          ∙ sym (ap (λ (y : List (List ℕ)). traced f (good_with r m) y) (chunk-records f left x more e size some))
           ∙ on.trace
 
       -- it decides
-      pub run-decided : (x : Bool) → x ≡ is_decided g.state → x ≡ true → going_with g k ≡ traced f t (records_of f l)
-      run-decided x e d = sym (not_good f (going_with g k) (sym e ∙ d) (records_of f (drop end l))) ∙ after-trace
+      pub run-decided : (b : Bool) → b ≡ is_decided g.state → b ≡ true → going_with g k ≡ traced f t (records_of f l)
+      run-decided b q d = sym (not_good f (going_with g k) (sym q ∙ d) (records_of f more)) ∙ after-trace
 
       -- the trace goes on
-      pub run_on : (x : Bool) → x ≡ is_decided g.state → x ≡ false → Reading-on f t l g.rest k end
-      run_on x e d =
+      pub run_on : (b : Bool) → b ≡ is_decided g.state → b ≡ false → Reading-on f t l g.rest k more
+      run_on b q d =
           record {
-            trace = ap (λ (y : Trace). traced f y (records_of f (drop end l))) good ∙ after-trace;
-            within = u.within;
-            sized = ap (λ (y : Trace). length y.session.numbers) p ∙ step-sized f (whole_of r m) on.sized (take (end - at) (drop at l));
+            trace = ap (λ (y : Trace). traced f y (records_of f more)) good ∙ after-trace;
+            sized = ap (λ (y : Trace). length y.session.numbers) p ∙ step-sized f (whole_of r m) on.sized x;
           }
         where
           good : good_with g.rest k ≡ going_with g k
-          good = λ i. record { session = whole_of g.rest k; state = sym (good-state g.state (sym e ∙ d)) i }
+          good = λ i. record { session = whole_of g.rest k; state = sym (good-state g.state (sym q ∙ d)) i }

@@ -1,4 +1,5 @@
 -- How a trace stands, which of its records are good and what its session is, is what its records alone say.
+use Rattle.std.specs.Prelude.{Ok}
 use Prim.Native.Nat.{ℕ, zero, suc, ◌+◌, ◌≤◌}
 use mathlib.Core.Path.{◌≡◌, refl, sym, ◌∙◌, ap}
 use mathlib.Core.Bool.{Bool, true, false, cond, ◌||◌}
@@ -19,7 +20,6 @@ use Rattle.session_rules.specs.declared.Session.{Session}
 use Rattle.session_rules.specs.Refusals.{taken_most}
 use Rattle.session_rules.specs.Refusals.{record_broken}
 use Rattle.session_rules.specs.declared.Outcome.{Outcome}
-use Rattle.session_rules.specs.declared.Closing.{Closing}
 use Rattle.session_rules.specs.Session.{fresh, read_of, took_by, took_of, take_of, close_of}
 use Rattle.session_rules.specs.Call.{Ask, Call, heard_of}
 use Rattle.session_rules.specs.Calls.{Offer, refusal, next, next_call, after, taken, call_of, unless, offer_with}
@@ -264,7 +264,7 @@ module _ (f : Form) (o : Opening) where
       answers Ask.close ok =
           ap (λ (z : Session). Said.Close (close_of z).closing) w.read.session
           ∙ ap Said.Close (close-answers o (offers_of f o rs) (sym (ap (λ (z : Session). refusal z Offer.close) w.read.session) ∙ ok))
-          ∙ ap (λ (ds : List Call). Said.Close (Closing.Closed (ending_of o ds))) w.read.calls
+          ∙ ap (λ (ds : List Call). Said.Close (Ok (ending_of o ds))) w.read.calls
 
       says-by : (r : List ℕ) (x : Bool) → bad_after f rs r ≡ x → said_of f s r ≡ said_by x s (record_ask f r)
       unfolding said_of

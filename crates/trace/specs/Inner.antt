@@ -1,20 +1,13 @@
 -- What the inner contracts cite. Nothing here needs to be believed.
-use Rattle.std.specs.Prelude.{ℕ, zero, suc, ◌+◌, ◌-◌, List, Bool, true, false, ltb}
-use Rattle.rules.specs.IfElse.{if_else}
+use Rattle.std.specs.Prelude.{ℕ, zero, suc, ◌+◌, List, Bool, true, false}
 use Rattle.session_rules.specs.declared.Rest.{Rest}
 use Rattle.session.specs.Inner.{whole_of}
-use Rattle.records.specs.declared.Form.{Form}
-use Rattle.records.specs.Form.{size_of}
 use Rattle.trace.specs.declared.State.{State}
 use Rattle.trace.specs.declared.State.TheVariants.{Good, Bad, Refused}
 use Rattle.trace.specs.declared.Trace.{Trace}
 use Rattle.trace.specs.declared.Said.{Said}
 use Rattle.trace.specs.declared.Going.{Going}
 use Rattle.trace.specs.Trace.{closes, good_of}
-
--- where the record ends that begins at `at`, of so many bytes
-abbrev pub end_of : Form → ℕ → ℕ → ℕ
-end_of f at n = if_else (ltb (n - at) (size_of f)) n (at + size_of f)
 
 -- A TRACE IN TWO PARTS: its ledger's numbers, which are lent, and the rest
 abbrev pub going_with : Going → List ℕ → Trace

@@ -1,11 +1,10 @@
 -- Document 01, "The ledger program", and document 02, Thirteen: how a trace stands, from its records alone.
-use Rattle.std.specs.Prelude.{ℕ, ◌+◌, ◌≤◌, ◌≡◌, Bool, true, false, cond, ◌||◌, List, [], ◌∷◌, ◌++◌, map, length, ltb, eqb}
+use Rattle.std.specs.Prelude.{ℕ, ◌+◌, ◌≤◌, ◌≡◌, Bool, true, false, cond, ◌||◌, List, [], ◌∷◌, ◌++◌, map, length, ltb, eqb, Ok}
 use Rattle.sizes.specs.declared.Opening.{Opening}
 use Rattle.session_rules.specs.Ledger.{no_ledger}
 use Rattle.session_rules.specs.Refusals.{taken_most}
 use Rattle.session_rules.specs.declared.Session.{Session}
 use Rattle.session_rules.specs.declared.Outcome.{Outcome}
-use Rattle.session_rules.specs.declared.Closing.{Closing}
 use Rattle.session_rules.specs.Session.{fresh}
 use Rattle.session_rules.specs.Call.{Ask, Call}
 use Rattle.session_rules.specs.Calls.{Offer, after, taken, offer_with}
@@ -74,7 +73,7 @@ pub record Read (f : Form) (o : Opening) (rs : List (List ℕ)) (s : Session) : 
 abbrev pub says_to : Opening → List Call → Ask → Said
 says_to o cs (Ask.transfer t) = Said.Transfer (Outcome.Taken (answer_of o cs t))
 says_to o cs Ask.lost = Said.Nothing
-says_to o cs Ask.close = Said.Close (Closing.Closed (ending_of o cs))
+says_to o cs Ask.close = Said.Close (Ok (ending_of o cs))
 
 -- THE STATE, CASE BY CASE. Good: no record is bad, nothing comes after close, and no more than 4,294,967,295 records are of kind 0 or 1.
 pub record AllGood (f : Form) (rs : List (List ℕ)) : Type 0 where

@@ -1,11 +1,11 @@
 -- Document 01, "The ledger program", and document 02, Thirteen: a whole trace, record by record, and what is printed of it.
-use Rattle.std.specs.Prelude.{ℕ, zero, suc, ◌+◌, List, [], ◌∷◌, Bool, true, false, ◌||◌, length, replicate}
+use Rattle.session_rules.specs.Options.{Start}
+use Rattle.std.specs.Prelude.{ℕ, zero, suc, ◌+◌, List, [], ◌∷◌, Bool, true, false, ◌||◌, length, replicate, Err, Ok}
 use Rattle.sizes.specs.declared.Opening.{Opening}
 use Rattle.sizes.specs.declared.HeaderKind.TheVariants.{Old}
 use Rattle.session_rules.specs.Ledger.{no_ledger}
 use Rattle.session_rules.specs.declared.Session.{Session}
 use Rattle.session_rules.specs.declared.Opened.{Opened}
-use Rattle.session_rules.specs.declared.Start.{Start}
 use Rattle.session_rules.specs.Refusals.{ledger_of}
 use Rattle.session_rules.specs.Session.{fresh, open_of, take_of, close_of}
 use Rattle.records.specs.declared.Form.{Form}
@@ -41,9 +41,9 @@ begin_of o = begun_by (open_of o o.frame)
 
 -- what stands there, by whether the frame size is 0 or over 16,777,216 and the payload size under 2 or over 65,536
 abbrev pub start_by : Bool → Bool → Start
-start_by true b = Start.Refused 45
-start_by false true = Start.Refused 46
-start_by false false = Start.Open
+start_by true b = Err 45
+start_by false true = Err 46
+start_by false false = Ok tt
 
 -- the next record's number, from 1: one for each transfer and report taken, and one for close
 abbrev pub closes : Bool → ℕ

@@ -9,10 +9,10 @@ ghost use Rattle.trace.specs.Record.{record_ask};
 ghost use Rattle.trace.specs.Trace.{ledger_sizes, replay_sizes, begin_of, read_call, said_call, step_of, said_of, traced, good_of, report_of};
 ghost use Rattle.session.specs.Inner.{whole_of};
 ghost use Rattle.session_rules.specs.Call.{Ask};
-ghost use Rattle.trace.specs.Inner.{end_of, going_with, good_with, number_rest, answered_by, is_decided};
+ghost use Rattle.trace.specs.Inner.{going_with, good_with, number_rest, answered_by, is_decided};
 
 use records::Form;
-use session_rules::{Closing, Ledger, Numbers, Outcome, Report, Rest, Session, Start};
+use session_rules::{Closing, Ledger, Numbers, Outcome, Rest, Session, Start};
 use sizes::{HeaderKind, Opening};
 
 // What the ledger program reads with: its sizes, frames that end by EOF, and the old kind of header.
@@ -47,7 +47,7 @@ pub struct Trace {
     pub state: State,
 }
 
-// A trace of no records, and what opening its session answered: 45 or 46 where it is refused.
+// A trace of no records, and what opening its session answered: 45 or 46 where it is refused. (No Result: the trace is there then too, by `begin_of`.)
 #[derive(Drop)]
 pub struct Begun {
     pub trace: Trace,
@@ -133,8 +133,8 @@ fn lost(s: Rest, m: &mut Numbers) -> Going
     let report = reported.report;
     let next = reported.rest;
     match report {
-        Report::Refused(k) => answered(k, next, Said::Nothing),
-        Report::Noted => answered(0, next, Said::Nothing),
+        Err(k) => answered(k, next, Said::Nothing),
+        Ok(()) => answered(0, next, Said::Nothing),
     }
 }
 
@@ -147,8 +147,8 @@ fn close(s: Rest, m: &mut Numbers) -> Going
     let closing = closed.closing;
     let next = closed.rest;
     match closing {
-        Closing::Refused(k) => answered(k, next, Said::Close(closing)),
-        Closing::Closed(_) => answered(0, next, Said::Close(closing)),
+        Err(k) => answered(k, next, Said::Close(closing)),
+        Ok(_) => answered(0, next, Said::Close(closing)),
     }
 }
 
@@ -193,27 +193,11 @@ pub fn step(form: Form, s: Rest, m: &mut Numbers, r: &[u8]) -> Going
     call(form, s, m, r)
 }
 
-// Where the record ends that begins at `at`.
-fn end_of(form: Form, at: usize, len: usize) -> usize
-    requires { at ≤ len }
-    ensures { result ≡ end_of form at len }
-{
-    let size = form.size();
-    if len - at < size {
-        return len;
-    }
-    at + size
-}
-
 // A bad or refused record decides a trace.
 pub fn decided(state: State) -> bool
     ensures { result ≡ is_decided state }
 {
-    match state {
-        State::Good => false,
-        State::Bad(_) => true,
-        State::Refused(_, _) => true,
-    }
+    matches!(state, State::Bad(_) | State::Refused(_, _))
 }
 
 // A good trace goes on. Its ledger's numbers are taken out once, for all the records.
@@ -222,10 +206,8 @@ fn follow(form: Form, s: Session, records: &[u8]) -> Trace
 {
     let mut numbers = s.numbers;
     let mut rest = s.rest;
-    let mut at = 0;
-    while at < records.len() {
-        let end = end_of(form, at, records.len());
-        let going = step(form, rest, &mut numbers, &records[at..end]);
+    for record in records.chunks(form.size()) {
+        let going = step(form, rest, &mut numbers, record);
         rest = going.rest;
         let state = going.state;
         if decided(state) {
@@ -234,7 +216,6 @@ fn follow(form: Form, s: Session, records: &[u8]) -> Trace
                 state,
             };
         }
-        at = end;
     }
     Trace {
         session: Session { rest, numbers },

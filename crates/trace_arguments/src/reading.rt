@@ -4,7 +4,6 @@ ghost use Rattle.trace.specs.Trace.{replay_sizes};
 ghost use Rattle.trace_arguments.specs.Words.{opening_of, is_right};
 
 use crate::Word;
-use arguments::Number;
 use records::Form;
 use std::env::{Env, FillError};
 
@@ -32,13 +31,7 @@ pub struct Call {
 pub fn is_right(call: Call) -> bool
     ensures { result ≡ is_right call.awaits }
 {
-    let awaits = call.awaits;
-    match awaits {
-        Awaits::Any => true,
-        Awaits::Frame => false,
-        Awaits::Payload => false,
-        Awaits::Nothing => false,
-    }
+    matches!(call.awaits, Awaits::Any)
 }
 
 // No word yet: a replay's own sizes, and long records.
@@ -122,30 +115,30 @@ fn named(call: Call, i: usize) -> Call {
     }
 }
 
-fn frame(call: Call, n: Number) -> Call {
+fn frame(call: Call, n: Option<u32>) -> Call {
     let form = call.form;
     match n {
-        Number::Is(x) => Call {
+        Some(x) => Call {
             awaits: Awaits::Payload,
             frame: x,
             payload: call.payload,
             form,
             file: call.file,
         },
-        Number::None => awaiting(call, Awaits::Nothing),
+        None => awaiting(call, Awaits::Nothing),
     }
 }
 
-fn payload(call: Call, n: Number) -> Call {
+fn payload(call: Call, n: Option<u32>) -> Call {
     let form = call.form;
     match n {
-        Number::Is(x) => Call {
+        Some(x) => Call {
             awaits: Awaits::Any,
             frame: call.frame,
             payload: x,
             form,
             file: call.file,
         },
-        Number::None => awaiting(call, Awaits::Nothing),
+        None => awaiting(call, Awaits::Nothing),
     }
 }

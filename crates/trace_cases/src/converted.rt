@@ -44,15 +44,12 @@ fn all(trace: &[u8], read: usize, piece: &mut [u8], out: &mut [u8]) -> Written
     let mut reader = Reader { converter, have: 0 };
     let mut count: u64 = 0;
     let mut hash: u64 = 2166136261;
-    let mut at = 0;
-    while at < trace.len() {
-        let to = crate::next(at, read, trace.len());
-        let progress = fed(reader, piece, &trace[at..to], out);
+    for part in trace.chunks(read) {
+        let progress = fed(reader, piece, part, out);
         reader = progress.reader;
         let n = input::within(progress.wrote, out);
         count = std::num::wrapping_add_u64(count, n as u64);
         hash = print::hashed(hash, &out[..n]);
-        at = to;
     }
     let progress = convert::last(reader, piece, out);
     let n = input::within(progress.wrote, out);

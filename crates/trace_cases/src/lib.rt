@@ -1,7 +1,7 @@
 // Case L: a trace of either form in reads of a given size, and what the programs print of it, or what it is converted to.
 #![tactic(auto)]
 
-ghost use Rattle.std.specs.Prelude.{◌-◌, ◌<◌, ◌≤◌};
+ghost use Rattle.std.specs.Prelude.{◌≤◌};
 
 mod converted;
 mod shown;
@@ -21,11 +21,9 @@ pub fn run() -> bool {
     let payload = input::word() as usize;
     let read = limited(input::word());
     let mut trace = [0u8; 70000];
-    let part = input::part(&mut trace);
-    let n = part.count;
-    if !part.fine {
+    let Some(n) = input::part(&mut trace) else {
         return false;
-    }
+    };
     let opening = Opening {
         frame,
         payload,
@@ -55,22 +53,5 @@ fn lines(show: u8) -> Show {
 fn limited(n: u32) -> usize
     ensures { (1 ≤ result) × (result ≤ 4096) }
 {
-    if n < 1 {
-        return 1;
-    }
-    if MOST < n {
-        return MOST as usize;
-    }
-    n as usize
-}
-
-// Inner: the end of the read that begins at this place.
-fn next(at: usize, read: usize, len: usize) -> usize
-    requires { (at < len) × (1 ≤ read) × (read ≤ 4096) }
-    ensures { (at < result) × (result ≤ len) × (result - at ≤ 4096) }
-{
-    if len - at < read {
-        return len;
-    }
-    at + read
+    n.clamp(1, MOST) as usize
 }

@@ -6,7 +6,6 @@ use cases::{input, print};
 use frame_lines::Show;
 use records::Form;
 use replay::{Progress, Reader, Replay};
-use session_rules::Start;
 use sizes::Opening;
 use trace::Trace;
 
@@ -17,8 +16,8 @@ pub fn run(form: Form, show: Show, opening: Opening, trace: &[u8], read: usize)
     let start = begun.start;
     let r = begun.replay;
     match start {
-        Start::Refused(number) => print::line(b"open refused", number as u64),
-        Start::Open => follow(form, show, r, trace, read),
+        Err(number) => print::line(b"open refused", number as u64),
+        Ok(()) => follow(form, show, r, trace, read),
     }
 }
 
@@ -55,14 +54,11 @@ fn all(
     requires { (1 ≤ read) × (read ≤ 4096) × (length piece.old ≡ size_of form) × (64 ≤ size_of form) × (size_of form ≤ 3076) × (30000 ≤ length out.old) }
 {
     let mut reader = Reader { replay: r, have: 0 };
-    let mut at = 0;
-    while at < trace.len() {
-        let to = crate::next(at, read, trace.len());
-        let progress = fed(reader, form, show, piece, &trace[at..to], out);
+    for part in trace.chunks(read) {
+        let progress = fed(reader, form, show, piece, part, out);
         reader = progress.reader;
         let n = input::within(progress.wrote, out);
         print::text(&out[..n]);
-        at = to;
     }
     let lined = replay::last(reader, form, show, piece, out);
     let n = input::within(lined.at, out);

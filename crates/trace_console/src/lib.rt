@@ -9,7 +9,6 @@ use console::print;
 use frame_lines::Show;
 use records::Form;
 use replay::{Reader, Replay};
-use session_rules::Start;
 use sizes::Opening;
 use std::io::{Error, ErrorKind, Print, Read};
 
@@ -207,7 +206,7 @@ pub fn run<R: Print, F: Read>(
     let start = begun.start;
     let first = begun.replay;
     match start {
-        Start::Open => follow(rt, first, show, form, from, name),
-        Start::Refused(number) => shut(rt, number),
+        Ok(()) => follow(rt, first, show, form, from, name),
+        Err(number) => shut(rt, number),
     }
 }

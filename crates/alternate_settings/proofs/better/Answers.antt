@@ -4,8 +4,8 @@ use Rattle.alternate_settings.proofs.better.Goals as goal
 pub returns-then-x-payload : goal.returns-then-x-payload
 returns-then-x-payload c = search too_few
 
-pub returns-in-Nothing : goal.returns-in-Nothing
-returns-in-Nothing c = search the-first
+pub returns-in-None : goal.returns-in-None
+returns-in-None c = search the-first
 
 pub returns-then-is_better : goal.returns-then-is_better
 returns-then-is_better c = search the-new

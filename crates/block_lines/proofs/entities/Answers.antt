@@ -17,4 +17,4 @@ loop-i-preserved c = let printed = c.entity-at in
     one_more entity_line no_entity _ entities_most _ c.loop-i.i (omega arith) (omega arith) c.loop-i.invariant printed.ensures.put printed.ensures.upper_bound
 
 pub returns : goal.returns
-returns c = let both = all-places entity_line no_entity _ entities_most _ _ c.loop-i-test.false c.loop-i.invariant in record { put = both.0; upper_bound = both.1 }
+returns c = let both = all-places entity_line no_entity _ entities_most _ _ (omega arith) c.loop-i.invariant in record { put = both.0; upper_bound = both.1 }

@@ -1,4 +1,3 @@
-use Prim.Native.Nat.{◌-◌}
 use Rattle.entities.specs.Table.{entities_most}
 use Rattle.block_lines.specs.Lines.{entity_line}
 use Rattle.block_lines.proofs.Tables.{Printed}
@@ -6,6 +5,3 @@ use Rattle.block_lines.proofs.entities.Given as goal
 
 abbrev pub invariant-loop-i : goal.invariant-loop-i
 invariant-loop-i l = Printed entity_line l.t.entities entities_most l.n l.initial.buf l.start l.i l.at l.buf
-
-abbrev pub decreases-loop-i : goal.decreases-loop-i
-decreases-loop-i l = entities_most - l.i

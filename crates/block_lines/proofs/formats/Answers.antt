@@ -17,4 +17,4 @@ loop-i-preserved c = let printed = c.format-at in
     one_more format_line no_format _ 8 _ c.loop-i.i (omega arith) (omega arith) c.loop-i.invariant printed.ensures.put printed.ensures.upper_bound
 
 pub returns : goal.returns
-returns c = let both = all-places format_line no_format _ 8 _ _ c.loop-i-test.false c.loop-i.invariant in record { put = both.0; upper_bound = both.1 }
+returns c = let both = all-places format_line no_format _ 8 _ _ (omega arith) c.loop-i.invariant in record { put = both.0; upper_bound = both.1 }

@@ -16,4 +16,4 @@ loop-i-preserved c = let printed = c.number-at in
     one_more number 0 _ 32 _ c.loop-i.i (omega arith) (omega arith) c.loop-i.invariant printed.ensures.put (let b = printed.ensures.upper_bound in omega arith)
 
 pub returns : goal.returns
-returns c = let both = all-places number 0 _ 32 _ _ c.loop-i-test.false c.loop-i.invariant in record { put = both.0; upper_bound = both.1 }
+returns c = let both = all-places number 0 _ 32 _ _ (omega arith) c.loop-i.invariant in record { put = both.0; upper_bound = both.1 }

@@ -5,11 +5,8 @@ use Rattle.camera_names.proofs.controls.Goals as goal
 pub loop-i-init : goal.loop-i-init
 loop-i-init c = first_bit _ _ _ _ _ _ _ (omega arith)
 
-pub loop-i-smaller : goal.loop-i-smaller
-loop-i-smaller c = omega arith
-
 pub loop-i-preserved : goal.loop-i-preserved
-loop-i-preserved c = next_bit _ c.loop-i.invariant c.loop-i-test.true c.is_set.ensures c.control-at.ensures.put c.control-at.ensures.upper_bound
+loop-i-preserved c = next_bit _ c.loop-i.invariant (omega arith) c.is_set.ensures c.control-at.ensures.put c.control-at.ensures.upper_bound
 
 pub returns : goal.returns
-returns c = let both = all-bits c.loop-i.invariant c.loop-i-test.false in record { put = both.0; upper_bound = both.1 }
+returns c = let both = all-bits c.loop-i.invariant (omega arith) in record { put = both.0; upper_bound = both.1 }

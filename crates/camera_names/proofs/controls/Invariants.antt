@@ -1,9 +1,5 @@
 use Rattle.camera_names.proofs.Bits.{Bitwise}
-use Prim.Native.Nat.{◌-◌}
 use Rattle.camera_names.proofs.controls.Given as goal
 
 abbrev pub invariant-loop-i : goal.invariant-loop-i
 invariant-loop-i l = Bitwise l.s l.o l.k l.n l.names l.initial.buf l.start l.at l.i l.buf
-
-abbrev pub decreases-loop-i : goal.decreases-loop-i
-decreases-loop-i l = 24 - l.i

@@ -9,14 +9,11 @@ loop-i-init c = seek _ _
 
 pub returns-then-types-i : goal.returns-then-types-i
 unfolding terminal_place
-returns-then-types-i c = found_here _ _ _ c.loop-i.invariant c.loop-i-test.true (eq-eqb _ _ c.if-types-i.true)
-
-pub loop-i-smaller : goal.loop-i-smaller
-loop-i-smaller c = omega arith
+returns-then-types-i c = found_here _ _ _ c.loop-i.invariant (omega arith) (eq-eqb _ _ c.if-types-i.true)
 
 pub loop-i-preserved : goal.loop-i-preserved
-loop-i-preserved c = not-here _ _ _ c.loop-i.invariant c.loop-i-test.true (ne_eqb _ _ c.if-types-i.false)
+loop-i-preserved c = not-here _ _ _ c.loop-i.invariant (omega arith) (ne_eqb _ _ c.if-types-i.false)
 
 pub returns : goal.returns
 unfolding terminal_place
-returns c = none_here _ _ _ c.loop-i.invariant c.loop-i-test.false
+returns c = none_here _ _ _ c.loop-i.invariant (omega arith)

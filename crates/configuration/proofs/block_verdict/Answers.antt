@@ -10,11 +10,11 @@ slice_bounds-stream_verdict-end c = end-in _ _ c.requires _ c.block_at-b.ensures
 
 pub overflow_add-result : goal.overflow_add-result
 overflow_add-result c = omega
-    (arith, own_in _ _ c.requires _ c.block_at-b.ensures _ _ c.stream_verdict.ensures _ _ c.in-Refused.is)
+    (arith, own_in _ _ c.requires _ c.block_at-b.ensures _ _ c.stream_verdict.ensures _ _ c.in-Err.is)
 
-pub returns-in-Accepted : goal.returns-in-Accepted
-returns-in-Accepted c = own-accepted _ _ c.requires _ c.block_at-b.ensures _ _ c.stream_verdict.ensures c.in-Accepted.is
+pub returns-in-Ok : goal.returns-in-Ok
+returns-in-Ok c = own-accepted _ _ c.requires _ c.block_at-b.ensures _ _ c.stream_verdict.ensures c.in-Ok.is
 
-pub returns-in-Refused : goal.returns-in-Refused
-returns-in-Refused c = own-refused _ _ c.requires _ c.block_at-b.ensures _ _ c.stream_verdict.ensures _ _
-    c.in-Refused.is
+pub returns-in-Err : goal.returns-in-Err
+returns-in-Err c = own-refused _ _ c.requires _ c.block_at-b.ensures _ _ c.stream_verdict.ensures _ _
+    c.in-Err.is

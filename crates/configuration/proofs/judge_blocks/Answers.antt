@@ -10,10 +10,10 @@ pub slice_bounds-read-end : goal.slice_bounds-read-end
 slice_bounds-read-end c = end-in _ _ c.requires _ c.block_at-b.ensures
 
 pub overflow_add-result : goal.overflow_add-result
-overflow_add-result c = omega (arith, late-in _ _ c.requires _ c.block_at-b.ensures _ c.read-c.ensures _ _ c.in-Refused.is)
+overflow_add-result c = omega (arith, late-in _ _ c.requires _ c.block_at-b.ensures _ c.read-c.ensures _ _ c.in-Err.is)
 
-pub returns-in-Refused : goal.returns-in-Refused
-returns-in-Refused c = late-control _ _ c.requires _ c.block_at-b.ensures _ c.read-c.ensures _ _ c.in-Refused.is
+pub returns-in-Err : goal.returns-in-Err
+returns-in-Err c = late-control _ _ c.requires _ c.block_at-b.ensures _ c.read-c.ensures _ _ c.in-Err.is
 
 pub slice_bounds-entries_named-end : goal.slice_bounds-entries_named-end
 slice_bounds-entries_named-end c = end-in _ _ c.requires _ c.block_at-b.ensures

@@ -19,4 +19,4 @@ pub loop-i-preserved : goal.loop-i-preserved
 loop-i-preserved c = stream-more (stream_text c.args.s.now) no_stream _ stream_most _ _ (omega arith) (omega arith) c.loop-i.invariant c.stream-at.ensures.put c.stream-at.ensures.upper_bound
 
 pub returns : goal.returns
-returns c = all-places (stream_text c.args.s.now) no_stream _ stream_most _ _ c.loop-i-test.false c.loop-i.invariant
+returns c = all-places (stream_text c.args.s.now) no_stream _ stream_most _ _ (omega arith) c.loop-i.invariant

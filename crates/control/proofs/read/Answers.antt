@@ -1,8 +1,8 @@
 use Rattle.control.proofs.Walking.{head-bad, head-right}
 use Rattle.control.proofs.read.Goals as goal
 
-pub returns-then-broken-ne0 : goal.returns-then-broken-ne0
-returns-then-broken-ne0 c = search head-bad
+pub returns-in-Err : goal.returns-in-Err
+returns-in-Err c = head-bad _ _ _ c.in-Err.ensures c.refused.ensures
 
 pub walk-requires : goal.walk-requires
-walk-requires c = search head-right
+walk-requires c = head-right _ _ c.in_default.ensures

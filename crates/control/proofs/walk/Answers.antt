@@ -2,10 +2,12 @@ use Rattle.std.proofs.Common.{ℕ, ◌<◌, List, length, get_or, Fits, w8}
 use lib.ListN.{set}
 use Prim.Native.Nat.{◌+◌}
 use native.Mathlib.Omega.{arith}
-use mathlib.Core.Path.{◌≡◌, refl, sym, ap, ◌∙◌}
+use mathlib.Core.Path.{◌≡◌, refl, ap}
 use Rattle.le.specs.Le.{byte}
 use Rattle.used_ids.specs.Marks.{marked}
-use Rattle.rules.specs.Numbered.{first_row}
+use Rattle.std.specs.Prelude.{Ok}
+use Rattle.rules.specs.Numbered.{first_row, kept}
+use Rattle.rules.proofs.Kept.{ok-is}
 use Rattle.control_rules.specs.Rules.{rows_in}
 use Rattle.control_rules.specs.Descriptors.{revision_of}
 use Rattle.entities.specs.declared.Table.{Table}
@@ -19,8 +21,8 @@ turn : (s : List ℕ) (t : Table) (m : List ℕ) (at : ℕ) → Reading s t m at
 turn s t m at r f h = record { reading = r; small = omega (arith, f (at + 3)); inside = h }
 
 -- where the descriptor breaks no rule
-none : (s : List ℕ) (t : Table) (m : List ℕ) (at : ℕ) (v : Revision) (r : ℕ) → v ≡ revision_of s → r ≡ first_row (rows_in v s at (marked m (byte s at 3)) t.count) → r ≡ 0 → rule_here s t m at ≡ 0
-none s t m at v r e q z = sym (rw e at q) ∙ z
+none : (s : List ℕ) (t : Table) (m : List ℕ) (at : ℕ) (v : Revision) (u : Unit {0}) → v ≡ revision_of s → Ok u ≡ kept (first_row (rows_in v s at (marked m (byte s at 3)) t.count)) → rule_here s t m at ≡ 0
+none s t m at v u e q = ok-is u _ (rw e at q)
 
 pub revision_of-revision-requires : goal.revision_of-revision-requires
 revision_of-revision-requires c = let h = head-sizes _ c.requires in omega arith
@@ -28,29 +30,29 @@ revision_of-revision-requires c = let h = head-sizes _ c.requires in omega arith
 pub loop-at-init : goal.loop-at-init
 loop-at-init c = rw (c.no_table-table.ensures, c.none-marks.ensures) (begins _)
 
-pub returns-then-broken-ne0 : goal.returns-then-broken-ne0
-returns-then-broken-ne0 c = refuses _ c.loop-at.table _ _ (turn c.args.s.now c.loop-at.table c.loop-at.marks c.loop-at.at c.loop-at.invariant c.type_inv.s c.loop-at-test.true) _ _ c.requires
-    (rw c.revision_of-revision.ensures at c.rule_at-broken.ensures) c.if-broken-ne0.true c.refused.ensures
+pub returns-in-Err : goal.returns-in-Err
+returns-in-Err c = refuses _ c.loop-at.table _ _ (turn c.args.s.now c.loop-at.table c.loop-at.marks c.loop-at.at c.loop-at.invariant c.type_inv.s c.loop-at-test.true) _ _ c.requires
+    (rw c.revision_of-revision.ensures at c.in-Err.ensures) c.refused.ensures
 
 pub bounds-s-at : goal.bounds-s-at
-bounds-s-at c = has_sub _ c.loop-at.table _ _ (turn c.args.s.now c.loop-at.table c.loop-at.marks c.loop-at.at c.loop-at.invariant c.type_inv.s c.loop-at-test.true) (none c.args.s.now c.loop-at.table c.loop-at.marks c.loop-at.at _ _ c.revision_of-revision.ensures c.rule_at-broken.ensures c.if-broken-ne0.false)
+bounds-s-at c = has_sub _ c.loop-at.table _ _ (turn c.args.s.now c.loop-at.table c.loop-at.marks c.loop-at.at c.loop-at.invariant c.type_inv.s c.loop-at-test.true) (none c.args.s.now c.loop-at.table c.loop-at.marks c.loop-at.at _ _ c.revision_of-revision.ensures c.in_default.ensures)
 
 pub bounds-s-at-then-is_entity : goal.bounds-s-at-then-is_entity
-bounds-s-at-then-is_entity c = has-id _ c.loop-at.table _ _ (turn c.args.s.now c.loop-at.table c.loop-at.marks c.loop-at.at c.loop-at.invariant c.type_inv.s c.loop-at-test.true) (none c.args.s.now c.loop-at.table c.loop-at.marks c.loop-at.at _ _ c.revision_of-revision.ensures c.rule_at-broken.ensures c.if-broken-ne0.false)
+bounds-s-at-then-is_entity c = has-id _ c.loop-at.table _ _ (turn c.args.s.now c.loop-at.table c.loop-at.marks c.loop-at.at c.loop-at.invariant c.type_inv.s c.loop-at-test.true) (none c.args.s.now c.loop-at.table c.loop-at.marks c.loop-at.at _ _ c.revision_of-revision.ensures c.in_default.ensures)
     (said-entity c.args.s.now c.loop-at.at _ _ _ _ c.revision_of-revision.ensures c.known_as.ensures c.is_entity.ensures c.if-is_entity.true)
 
 pub entity_at-requires : goal.entity_at-requires
-entity_at-requires c = record { at_le_most = (let h = head-sizes _ c.requires in omega arith, (fine-here _ c.loop-at.table _ _ (turn c.args.s.now c.loop-at.table c.loop-at.marks c.loop-at.at c.loop-at.invariant c.type_inv.s c.loop-at-test.true) (none c.args.s.now c.loop-at.table c.loop-at.marks c.loop-at.at _ _ c.revision_of-revision.ensures c.rule_at-broken.ensures c.if-broken-ne0.false)).shaped); at_value = (said-entity c.args.s.now c.loop-at.at _ _ _ _ c.revision_of-revision.ensures c.known_as.ensures c.is_entity.ensures c.if-is_entity.true) }
+entity_at-requires c = record { at_le_most = (let h = head-sizes _ c.requires in omega arith, (fine-here _ c.loop-at.table _ _ (turn c.args.s.now c.loop-at.table c.loop-at.marks c.loop-at.at c.loop-at.invariant c.type_inv.s c.loop-at-test.true) (none c.args.s.now c.loop-at.table c.loop-at.marks c.loop-at.at _ _ c.revision_of-revision.ensures c.in_default.ensures)).shaped); at_value = (said-entity c.args.s.now c.loop-at.at _ _ _ _ c.revision_of-revision.ensures c.known_as.ensures c.is_entity.ensures c.if-is_entity.true) }
 
 pub bounds-table-count : goal.bounds-table-count
-bounds-table-count c = has-place _ c.loop-at.table _ _ (turn c.args.s.now c.loop-at.table c.loop-at.marks c.loop-at.at c.loop-at.invariant c.type_inv.s c.loop-at-test.true) (none c.args.s.now c.loop-at.table c.loop-at.marks c.loop-at.at _ _ c.revision_of-revision.ensures c.rule_at-broken.ensures c.if-broken-ne0.false)
+bounds-table-count c = has-place _ c.loop-at.table _ _ (turn c.args.s.now c.loop-at.table c.loop-at.marks c.loop-at.at c.loop-at.invariant c.type_inv.s c.loop-at-test.true) (none c.args.s.now c.loop-at.table c.loop-at.marks c.loop-at.at _ _ c.revision_of-revision.ensures c.in_default.ensures)
     (said-entity c.args.s.now c.loop-at.at _ _ _ _ c.revision_of-revision.ensures c.known_as.ensures c.is_entity.ensures c.if-is_entity.true)
 
 pub overflow_add-at-in-loop-at : goal.overflow_add-at-in-loop-at
-overflow_add-at-in-loop-at c = let f = (fine-here _ c.loop-at.table _ _ (turn c.args.s.now c.loop-at.table c.loop-at.marks c.loop-at.at c.loop-at.invariant c.type_inv.s c.loop-at-test.true) (none c.args.s.now c.loop-at.table c.loop-at.marks c.loop-at.at _ _ c.revision_of-revision.ensures c.rule_at-broken.ensures c.if-broken-ne0.false)).shaped in omega arith
+overflow_add-at-in-loop-at c = let f = (fine-here _ c.loop-at.table _ _ (turn c.args.s.now c.loop-at.table c.loop-at.marks c.loop-at.at c.loop-at.invariant c.type_inv.s c.loop-at-test.true) (none c.args.s.now c.loop-at.table c.loop-at.marks c.loop-at.at _ _ c.revision_of-revision.ensures c.in_default.ensures)).shaped in omega arith
 
 pub loop-at-smaller : goal.loop-at-smaller
-loop-at-smaller c = let f = (fine-here _ c.loop-at.table _ _ (turn c.args.s.now c.loop-at.table c.loop-at.marks c.loop-at.at c.loop-at.invariant c.type_inv.s c.loop-at-test.true) (none c.args.s.now c.loop-at.table c.loop-at.marks c.loop-at.at _ _ c.revision_of-revision.ensures c.rule_at-broken.ensures c.if-broken-ne0.false)).shaped in omega arith
+loop-at-smaller c = let f = (fine-here _ c.loop-at.table _ _ (turn c.args.s.now c.loop-at.table c.loop-at.marks c.loop-at.at c.loop-at.invariant c.type_inv.s c.loop-at-test.true) (none c.args.s.now c.loop-at.table c.loop-at.marks c.loop-at.at _ _ c.revision_of-revision.ensures c.in_default.ensures)).shaped in omega arith
 
 pub loop-at-preserved : goal.loop-at-preserved
 loop-at-preserved c =
@@ -59,7 +61,7 @@ loop-at-preserved c =
     let m = c.loop-at.marks in
     let o = c.loop-at.at in
     let w : Turn s t m o = turn s t m o c.loop-at.invariant c.type_inv.s c.loop-at-test.true in
-    let n : rule_here s t m o ≡ 0 = none s t m o _ _ c.revision_of-revision.ensures c.rule_at-broken.ensures c.if-broken-ne0.false in
+    let n : rule_here s t m o ≡ 0 = none s t m o _ _ c.revision_of-revision.ensures c.in_default.ensures in
     rw c.wide-at.ensures.0
     (elim c.if-is_entity.branch [
       | then-is_entity b ↦ rw (b.table-is, b.marks-is) (gains s t m o w n (said-entity s o _ _ _ _ c.revision_of-revision.ensures c.known_as.ensures c.is_entity.ensures b.if-is_entity.true) _ _ refl (ap (set t.entities t.count) b.entity_at.ensures) b.with.ensures)
@@ -72,10 +74,10 @@ judge-requires c = few-entities _ _ _ _ c.loop-at.invariant
 pub le32-requires : goal.le32-requires
 le32-requires c = let h = head-sizes _ c.requires in omega arith
 
-pub returns-in-Accepted : goal.returns-in-Accepted
-returns-in-Accepted c = accepts _ c.loop-at.table _ _ c.loop-at.invariant c.requires (omega arith) _ c.judge.ensures _ _
-    c.in-Accepted.is c.le32.ensures c.revision_of-revision.ensures
+pub returns-in-Ok : goal.returns-in-Ok
+returns-in-Ok c = accepts _ c.loop-at.table _ _ c.loop-at.invariant c.requires (omega arith) _ c.judge.ensures _ _
+    c.in-Ok.is c.le32.ensures c.revision_of-revision.ensures
 
-pub returns-in-Refused : goal.returns-in-Refused
-returns-in-Refused c = rejects _ c.loop-at.table _ _ c.loop-at.invariant c.requires (omega arith) _ c.judge.ensures _ _ _
-    c.in-Refused.is c.refused-in-Refused.ensures
+pub returns-in-Err-judge : goal.returns-in-Err-judge
+returns-in-Err-judge c = rejects _ c.loop-at.table _ _ c.loop-at.invariant c.requires (omega arith) _ c.judge.ensures _ _ _
+    c.in-Err-judge.is c.refused-in-Err-judge.ensures

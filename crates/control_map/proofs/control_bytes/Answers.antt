@@ -1,15 +1,8 @@
-use native.Mathlib.Omega.{arith}
 use Rattle.control_map.proofs.Bytes.{fills, filled_more, filled-all}
 use Rattle.control_map.proofs.control_bytes.Goals as goal
 
 pub loop-i-init : goal.loop-i-init
 loop-i-init c = fills _ _ _
-
-pub overflow_add-i : goal.overflow_add-i
-overflow_add-i c = omega arith
-
-pub loop-i-smaller : goal.loop-i-smaller
-loop-i-smaller c = omega arith
 
 pub loop-i-preserved : goal.loop-i-preserved
 loop-i-preserved c = search filled_more

@@ -1,9 +1,6 @@
-use Rattle.std.proofs.Common.{◌-◌, length}
+use Rattle.std.proofs.Common.{◌≡◌}
 use Rattle.convert.proofs.Branches.{Ran}
 use Rattle.convert.proofs.run.Given as goal
 
-abbrev pub invariant-loop-from : goal.invariant-loop-from
-invariant-loop-from l = Ran l.initial.converter l.part l.initial.out l.start l.out l.converter l.at l.from
-
-abbrev pub decreases-loop-from : goal.decreases-loop-from
-decreases-loop-from l = length l.part - l.from
+abbrev pub invariant-loop-record : goal.invariant-loop-record
+invariant-loop-record l = (l.record-iterator.size ≡ 64) × Ran l.initial.converter l.part l.initial.out l.start l.out l.converter l.at l.record-iterator.rest.now

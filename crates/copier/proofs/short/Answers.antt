@@ -4,7 +4,7 @@ use Rattle.copier.proofs.short.Goals as goal
 
 pub returns : goal.returns
 returns c = four c.args.part.now c.args.src.now _ _ _ _ _
-    c.move_step.ensures
-    c.move_step-2.ensures
-    c.move_step-3.ensures
-    c.move_step-4.ensures c.requires.2 (omega arith) (omega arith) (omega arith)
+    c.moved.ensures
+    c.moved-2.ensures
+    c.moved-3.ensures
+    c.moved-4.ensures c.requires.2 (omega arith) (omega arith) (omega arith)

@@ -8,17 +8,8 @@ loop-i-init c = search seek
 pub returns-then-count-i : goal.returns-then-count-i
 returns-then-count-i c = search none_left
 
-pub offset_bounds-entities-i : goal.offset_bounds-entities-i
-offset_bounds-entities-i c = omega arith
-
 pub returns-then-e-id : goal.returns-then-e-id
 returns-then-e-id c = search here-at
-
-pub overflow_add-i : goal.overflow_add-i
-overflow_add-i c = omega arith
-
-pub loop-i-smaller : goal.loop-i-smaller
-loop-i-smaller c = omega arith
 
 pub loop-i-preserved : goal.loop-i-preserved
 loop-i-preserved c = not-here _ _ _ _ c.loop-i.invariant _ (omega arith) (omega arith) c.if-e-id.false

@@ -8,10 +8,7 @@ pub loop-i-preserved : goal.loop-i-preserved
 loop-i-preserved c =
     let l = c.args.entities.now in
     let i = c.loop-i.i in
-    record {
-      within = omega arith;
-      so_far = c.with_place-next.ensures ∙ (ap (λ a. set a i (entity_at l i)) c.loop-i.invariant.so_far ∙ taken_more entities_most l i c.loop-i-test.true);
-    }
+    c.with_place-next.ensures ∙ (ap (λ a. set a i (entity_at l i)) c.loop-i.invariant ∙ taken_more entities_most l i (omega arith))
 
 pub returns : goal.returns
-returns c = c.loop-i.invariant.so_far ∙ taken-all entities_most c.args.entities.now c.loop-i.i (omega arith)
+returns c = c.loop-i.invariant ∙ taken-all entities_most c.args.entities.now c.loop-i.i (omega arith)

@@ -1,8 +1,8 @@
 use Rattle.exports.proofs.Verdicts.{accepted-under, refused-under}
 use Rattle.exports.proofs.number_under.Goals as goal
 
-pub returns-in-Refused : goal.returns-in-Refused
-returns-in-Refused c = search refused-under
+pub returns-in-Err : goal.returns-in-Err
+returns-in-Err c = refused-under _ _ _ _ c.in-Err.is
 
-pub returns-in-Accepted : goal.returns-in-Accepted
-returns-in-Accepted c = search accepted-under
+pub returns-in-Ok : goal.returns-in-Ok
+returns-in-Ok c = search accepted-under

@@ -1,17 +1,20 @@
-use Rattle.fill.proofs.Rounds.{set_found, set_on, set-end}
-use mathlib.Core.Path.{refl}
+use Prim.Native.Nat.{◌-◌}
+use lib.Dec.{eqb}
+use lib.ListN.{length, take, drop, length-drop}
+use lib.Seq.{take_all}
+use mathlib.Core.Bool.{not}
+use mathlib.Core.Path.{◌≡◌, ◌∙◌}
 use native.Mathlib.Omega.{arith}
-use borrow.Author.Rules.{rules}
+use Rattle.std.proofs.Common.{rules, tests}
+use Rattle.std.proofs.lemmas.Iterator.{YieldsList-from_slice}
+use Rattle.std.proofs.lemmas.Iterator.Search.{any_from_yields_List}
+use Rattle.fill.proofs.Searched.{searched}
 use Rattle.fill.proofs.any_set.Goals as goal
 
-pub loop-i-init : goal.loop-i-init
-loop-i-init c = (search rules, refl)
-
-pub returns-then-r-i-ne0 : goal.returns-then-r-i-ne0
-returns-then-r-i-ne0 c = search set_found
-
-pub loop-i-preserved : goal.loop-i-preserved
-loop-i-preserved c = (omega arith, search set_on)
-
 pub returns : goal.returns
-returns c = search set-end
+returns c =
+    let r = c.args.r.now in
+    let at = c.args.at in
+    let lent : c.iter.result.rest.now ≡ take (length r - at) (drop at r) = search rules in
+    let whole = lent ∙ take_all (length r - at) (drop at r) (simp length-drop (omega arith)) in
+    any_from_yields_List (λ b. not (eqb b 0)) _ _ _ c.any.ensures.ran (YieldsList-from_slice (drop at r) whole) (λ x b q k. search (rules, tests)) ∙ searched _

@@ -7,8 +7,8 @@ returns-then-len-eq0 c = search complete-empty
 pub returns-then-still : goal.returns-then-still
 returns-then-still c = search complete-still
 
-pub returns-in-Bad : goal.returns-in-Bad
-returns-in-Bad c = search complete-bad
+pub returns-in-Some : goal.returns-in-Some
+returns-in-Some c = search complete-bad
 
 pub returns-else-still : goal.returns-else-still
 returns-else-still c = search complete-whole

@@ -1,4 +1,6 @@
+use mathlib.Core.Path.{◌∙◌}
+use Rattle.session_rules.proofs.Choices.{or-first}
 use Rattle.frames.proofs.first_of.Goals as goal
 
-pub returns-then-bad : goal.returns-then-bad
-returns-then-bad c = simp (c.if-bad.true, c.in-Sound.is)
+pub returns : goal.returns
+returns c = c.or.ensures ∙ rw c.then_some.ensures (or-first _ _ _)

@@ -1,14 +1,16 @@
+use mathlib.Core.Path.{◌∙◌}
+use Rattle.session_rules.proofs.Choices.{or-earlier, or-later, beq-same}
 use Rattle.frames.proofs.joined.Goals as goal
 
 pub returns : goal.returns
 returns c = simp (
-  c.later-layer.ensures,
-  c.earlier-stamp.ensures,
+  c.or-layer.ensures ∙ or-later c.args.r.layer c.args.h.layer,
+  c.or-stamp.ensures ∙ or-earlier c.args.r.stamp c.args.h.stamp,
   c.filled-fill.ensures,
   c.first_of-fault.ensures,
   c.first_of-m.ensures,
   c.first_of-c.ensures,
   c.clash.ensures,
   c.first_of-e.ensures,
-  c.same-mixed.ensures,
+  beq-same,
 )

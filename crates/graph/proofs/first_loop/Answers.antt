@@ -1,7 +1,6 @@
 use Prim.Native.Nat.{ℕ}
 use mathlib.Core.Path.{sym, ◌∙◌}
 use native.Mathlib.Omega.{arith}
-use borrow.Author.Rules.{rules}
 use borrow.Author.Count.{below_more}
 use borrow.Author.Tests.{eqb-true, eqb-false}
 use lib.ListN.{get_or}
@@ -10,7 +9,7 @@ use Rattle.graph.specs.Rows.{Edge}
 use Rattle.graph.proofs.first_loop.Goals as goal
 
 pub loop-i-init : goal.loop-i-init
-loop-i-init c = (search rules, λ a l. absurd (omega arith))
+loop-i-init c = λ a l. absurd (omega arith)
 
 pub returns-then-bit : goal.returns-then-bit
 returns-then-bit c = let l = c.loop-i in
@@ -18,23 +17,20 @@ returns-then-bit c = let l = c.loop-i in
     let m = c.close.new.m in
     record {
       within = omega arith;
-      before = λ a h ch. l.invariant.1 a h ((closed a a).1 ch);
+      before = λ a h ch. l.invariant a h ((closed a a).1 ch);
       here = λ h. (closed l.i l.i).0 (eqb-true (bit_of (get_or m l.i 0) l.i) 1 (sym c.bit.ensures ∙ c.if-bit.true));
     }
 
 pub loop-i-preserved : goal.loop-i-preserved
 loop-i-preserved c = let l = c.loop-i in
-    let m = c.close.new.m in (
-      omega arith,
-      below_more (λ (a : ℕ). Edge m a a → ⊥) l.i l.invariant.1
-          (eqb-false (bit_of (get_or m l.i 0) l.i) 1 (sym c.bit.ensures ∙ c.if-bit.false)),
-    )
+    let m = c.close.new.m in
+    below_more (λ (a : ℕ). Edge m a a → ⊥) l.i l.invariant (eqb-false (bit_of (get_or m l.i 0) l.i) 1 (sym c.bit.ensures ∙ c.if-bit.false))
 
 pub returns : goal.returns
 returns c = let l = c.loop-i in
     let closed = c.close.ensures.by_index in
     record {
-      within = l.invariant.0;
-      before = λ a h ch. l.invariant.1 a h ((closed a a).1 ch);
+      within = omega arith;
+      before = λ a h ch. l.invariant a (omega arith) ((closed a a).1 ch);
       here = λ h. absurd (omega arith);
     }

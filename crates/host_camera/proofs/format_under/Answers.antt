@@ -1,5 +1,5 @@
 use Rattle.host_camera.proofs.Telling.{format-under}
 use Rattle.host_camera.proofs.format_under.Goals as goal
 
-pub returns-in-Accepted : goal.returns-in-Accepted
-returns-in-Accepted c = search format-under
+pub returns-in-Ok : goal.returns-in-Ok
+returns-in-Ok c = search format-under

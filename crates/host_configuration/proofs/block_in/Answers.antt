@@ -1,5 +1,5 @@
 use Rattle.host_configuration.proofs.Telling.{there-accepted, at-accepted}
 use Rattle.host_configuration.proofs.block_in.Goals as goal
 
-pub returns-in-Accepted : goal.returns-in-Accepted
-returns-in-Accepted c = search (there-accepted, at-accepted)
+pub returns-in-Ok : goal.returns-in-Ok
+returns-in-Ok c = search (there-accepted, at-accepted)

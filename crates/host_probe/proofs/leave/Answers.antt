@@ -1,8 +1,8 @@
 use Rattle.host_probe.proofs.Steps.{left-accepted, left-refused}
 use Rattle.host_probe.proofs.leave.Goals as goal
 
-pub returns-in-Accepted : goal.returns-in-Accepted
-returns-in-Accepted c = search left-accepted
+pub returns-in-Ok : goal.returns-in-Ok
+returns-in-Ok c = search left-accepted
 
-pub returns-in-Refused : goal.returns-in-Refused
-returns-in-Refused c = search left-refused
+pub returns-in-Err : goal.returns-in-Err
+returns-in-Err c = search left-refused

@@ -4,5 +4,5 @@ use Rattle.host_probe.proofs.palkodhen_probe_read.Goals as goal
 pub returns-in-None : goal.returns-in-None
 returns-in-None c = search (read_none, left-none)
 
-pub returns-in-Is : goal.returns-in-Is
-returns-in-Is c = search (read_is, left_is)
+pub returns-in-Some : goal.returns-in-Some
+returns-in-Some c = search (read_is, left_is)

@@ -4,5 +4,5 @@ use Rattle.host_probe.proofs.palkodhen_probe_write.Goals as goal
 pub returns-in-None : goal.returns-in-None
 returns-in-None c = search (write-none, room-none)
 
-pub returns-in-Is : goal.returns-in-Is
-returns-in-Is c = search (write-is, room-is)
+pub returns-in-Some : goal.returns-in-Some
+returns-in-Some c = search (write-is, room-is)

@@ -7,13 +7,10 @@ pub loop-i-init : goal.loop-i-init
 loop-i-init c = seek _ _
 
 pub returns-then-from-i : goal.returns-then-from-i
-returns-then-from-i c = found_here _ _ _ c.loop-i.invariant c.loop-i-test.true (differ _ _ c.if-from-i.true)
-
-pub loop-i-smaller : goal.loop-i-smaller
-loop-i-smaller c = omega arith
+returns-then-from-i c = found_here _ _ _ c.loop-i.invariant (omega arith) (differ _ _ c.if-from-i.true)
 
 pub loop-i-preserved : goal.loop-i-preserved
-loop-i-preserved c = not-here _ _ _ c.loop-i.invariant c.loop-i-test.true (agree _ _ c.if-from-i.false)
+loop-i-preserved c = not-here _ _ _ c.loop-i.invariant (omega arith) (agree _ _ c.if-from-i.false)
 
 pub returns : goal.returns
-returns c = none_here _ _ _ c.loop-i.invariant c.loop-i-test.false
+returns c = none_here _ _ _ c.loop-i.invariant (omega arith)

@@ -4,5 +4,5 @@ use Rattle.host_setup.proofs.palkodhen_setup.Goals as goal
 pub returns-in-None : goal.returns-in-None
 returns-in-None c = search no-setting
 
-pub returns-in-Is : goal.returns-in-Is
-returns-in-Is c = search this-setting
+pub returns-in-Some : goal.returns-in-Some
+returns-in-Some c = search this-setting

@@ -4,5 +4,5 @@ use Rattle.host_setup.proofs.setup_with.Goals as goal
 pub returns-in-None : goal.returns-in-None
 returns-in-None c = search no-request
 
-pub returns-in-Is : goal.returns-in-Is
-returns-in-Is c = search this-request
+pub returns-in-Some : goal.returns-in-Some
+returns-in-Some c = search this-request

@@ -6,14 +6,11 @@ use Rattle.interfaces.proofs.place_of.Goals as goal
 pub loop-i-init : goal.loop-i-init
 loop-i-init c = seek _ _
 
-pub returns-then-e-number : goal.returns-then-e-number
-returns-then-e-number c = found_here _ _ _ c.loop-i.invariant c.loop-i-test.true (eq-eqb _ _ c.if-e-number.true)
-
-pub loop-i-smaller : goal.loop-i-smaller
-loop-i-smaller c = omega arith
+pub returns-then-streams-i : goal.returns-then-streams-i
+returns-then-streams-i c = found_here _ _ _ c.loop-i.invariant (omega arith) (eq-eqb _ _ c.if-streams-i.true)
 
 pub loop-i-preserved : goal.loop-i-preserved
-loop-i-preserved c = not-here _ _ _ c.loop-i.invariant c.loop-i-test.true (ne_eqb _ _ c.if-e-number.false)
+loop-i-preserved c = not-here _ _ _ c.loop-i.invariant (omega arith) (ne_eqb _ _ c.if-streams-i.false)
 
 pub returns : goal.returns
-returns c = none_here _ _ _ c.loop-i.invariant c.loop-i-test.false
+returns c = none_here _ _ _ c.loop-i.invariant (omega arith)

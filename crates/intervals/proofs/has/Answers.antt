@@ -3,15 +3,15 @@ use Rattle.intervals.specs.Intervals.{among}
 use native.Mathlib.Omega.{arith}
 use Rattle.intervals.proofs.has.Goals as goal
 
-pub loop-left-init : goal.loop-left-init
-loop-left-init c = rest-start _ _ _ _ (omega arith)
+pub loop-i-init : goal.loop-i-init
+loop-i-init c = rest-start _ _ _ _
 
 pub returns-then-le32-x : goal.returns-then-le32-x
-returns-then-le32-x c = here-among _ _ _ _ _ _ _ c.loop-left.invariant (omega arith) _ c.le32.ensures c.if-le32-x.true
+returns-then-le32-x c = here-among _ _ _ _ _ _ c.loop-i.invariant (omega arith) _ c.le32.ensures c.if-le32-x.true
 
-pub loop-left-preserved : goal.loop-left-preserved
-loop-left-preserved c = among-on _ _ _ _ _ _ _ c.loop-left.invariant (omega arith) _ c.le32.ensures c.if-le32-x.false
+pub loop-i-preserved : goal.loop-i-preserved
+loop-i-preserved c = among-on _ _ _ _ _ _ c.loop-i.invariant (omega arith) _ c.le32.ensures c.if-le32-x.false
 
 pub returns : goal.returns
 unfolding among
-returns c = none_left _ _ _ _ _ _ _ c.loop-left.invariant c.loop-left-test.false
+returns c = none_left _ _ _ _ _ _ c.loop-i.invariant (omega arith)

@@ -1,4 +1,5 @@
 use Rattle.intervals.proofs.Tests.{offers-steps, offers-not, offers-among, room-none, room-some}
+use mathlib.Core.Path.{◌∙◌}
 use native.Mathlib.Omega.{arith}
 use Rattle.intervals.proofs.offers.Goals as goal
 
@@ -23,5 +24,5 @@ has-requires c = room-some _ _ _ c.requires c.if-k-eq0.false
 pub returns-then-rise : goal.returns-then-rise
 returns-then-rise c = search offers-among
 
-pub returns : goal.returns
-returns c = search offers-not
+pub returns-else-rise : goal.returns-else-rise
+returns-else-rise c = c.if-rise.false ∙ offers-not _ _ _ _ _ c.if-k-eq0.false c.rise.ensures c.if-rise.false

@@ -8,18 +8,18 @@ use Rattle.ledger.proofs.timed.Goals as goal
 pub plus-requires : goal.plus-requires
 plus-requires c = adding _ _ untimed_at 1 c.requires (omega arith) (omega arith) (omega arith)
 
-pub returns-in-Absent : goal.returns-in-Absent
-returns-in-Absent c = search timed-none
+pub returns-in-None : goal.returns-in-None
+returns-in-None c = search timed-none
 
-pub returns-in-Absent-last : goal.returns-in-Absent-last
+pub returns-in-None-last : goal.returns-in-None-last
 unfolding timed_of
-returns-in-Absent-last c = simp (c.in-At.is, c.in-Absent-last.is)
+returns-in-None-last c = simp (c.in-Some.is, c.in-None-last.is)
 
-pub returns-in-At-last : goal.returns-in-At-last
+pub returns-in-Some-last : goal.returns-in-Some-last
 unfolding timed_of
-returns-in-At-last c = simp (
-  c.in-At.is,
-  c.in-At-last.is,
+returns-in-Some-last c = simp (
+  c.in-Some.is,
+  c.in-Some-last.is,
   c.stepped.ensures,
   c.step_between.ensures,
   with-stepped,

@@ -1,6 +1,6 @@
 use mathlib.Core.Path.{refl}
 use native.Mathlib.Omega.{arith}
-use Rattle.long_records.proofs.Rounds.{record-put}
+use Rattle.long_records.proofs.Parts.{record-put}
 use Rattle.long_records.proofs.write.Goals as goal
 
 pub returns : goal.returns

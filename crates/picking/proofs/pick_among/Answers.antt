@@ -11,8 +11,8 @@ offset_bounds-streams-i c = omega (arith, place_in c.args.streams _ c.args.inter
 pub bounds-streams-i : goal.bounds-streams-i
 bounds-streams-i c = place_in c.args.streams _ c.args.interface _ c.place_of-i.ensures c.if-i-count.false c.requires
 
-pub returns-in-Nothing : goal.returns-in-Nothing
-returns-in-Nothing c = none-large _ _ _ _ _ _ c.place_of-i.ensures c.if-i-count.false _ c.fewest.ensures c.in-Nothing.is _ c.refused-in-Nothing.ensures
+pub returns-in-None : goal.returns-in-None
+returns-in-None c = none-large _ _ _ _ _ _ c.place_of-i.ensures c.if-i-count.false _ c.fewest.ensures c.in-None.is _ c.refused-in-None.ensures
 
-pub returns-in-At : goal.returns-in-At
-returns-in-At c = one-large _ _ _ _ _ _ c.place_of-i.ensures c.if-i-count.false _ c.fewest.ensures _ c.in-At.is
+pub returns-in-Some : goal.returns-in-Some
+returns-in-Some c = one-large _ _ _ _ _ _ c.place_of-i.ensures c.if-i-count.false _ c.fewest.ensures _ c.in-Some.is

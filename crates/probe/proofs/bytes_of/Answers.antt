@@ -2,10 +2,7 @@ use Rattle.probe.proofs.Each.{bytes-are}
 use Rattle.probe.proofs.bytes_of.Goals as goal
 
 pub returns : goal.returns
-returns c = bytes-are _ _ _ _ _ _ _ _ _ _ _ _ _ _ _ _ _ _ _ _ _ _ _ _ _ _ _ _ _ _ _ c.low.ensures c.high.ensures
-    c.byte_0.ensures c.byte_1.ensures c.byte_2.ensures c.byte_3.ensures c.low-2.ensures
-    c.high-2.ensures c.low-3.ensures c.high-3.ensures c.low-4.ensures c.high-4.ensures
-    c.low-5.ensures c.high-5.ensures c.low-6.ensures c.high-6.ensures c.byte_0-2.ensures
-    c.byte_1-2.ensures c.byte_2-2.ensures c.byte_3-2.ensures c.byte_0-3.ensures
-    c.byte_1-3.ensures c.byte_2-3.ensures c.byte_3-3.ensures c.byte_0-4.ensures
-    c.byte_1-4.ensures c.byte_2-4.ensures c.byte_3-4.ensures c.low-7.ensures c.high-7.ensures
+returns c = bytes-are _ _ _ _ _ _ _ _ _ _ _ _ c.to_le_bytes-hint.ensures c.to_le_bytes-interval.ensures c.to_le_bytes-key_rate.ensures
+    c.to_le_bytes-p_rate.ensures c.to_le_bytes-quality.ensures c.to_le_bytes-window.ensures
+    c.to_le_bytes-delay.ensures c.to_le_bytes-frame_size.ensures c.to_le_bytes-payload_size.ensures
+    c.to_le_bytes-clock.ensures c.to_le_bytes-rate_modes.ensures

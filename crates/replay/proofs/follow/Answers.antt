@@ -1,58 +1,47 @@
 use mathlib.Core.Path.{◌∙◌}
-use native.Mathlib.Omega.{arith}
-use Rattle.replay.proofs.Records.{fits_said, one-leads, one-text, ends_at, follow-begins, follow-room, next_here, follow-decides, follow-on, follow-ends}
+use Rattle.replay.proofs.Records.{fits_said, one-leads, one-text, positive, follow-begins, follow-room, follow-decides, follow-on, follow-ends}
 use borrow.Author.Rules.{rules}
 use Rattle.replay.proofs.follow.Goals as goal
 
-pub loop-from-init : goal.loop-from-init
-loop-from-init c = follow-begins _ _ _ _ _ _ _ _ c.requires (search rules)
+pub chunks-record-items-requires : goal.chunks-record-items-requires
+chunks-record-items-requires c = rw c.size.ensures (positive c.args.form)
 
-pub slice_bounds-step-count : goal.slice_bounds-step-count
-slice_bounds-step-count c = let u = next_here _ _ _ _ _ _ _ _ _ _ _ _ c.loop-from.invariant c.loop-from-test.true _ (ends_at c.args.form _ _ _ _ c.size.ensures c.next-end.ensures) in omega (arith, u.on)
-
-pub slice_bounds-step-start : goal.slice_bounds-step-start
-slice_bounds-step-start c = let u = next_here _ _ _ _ _ _ _ _ _ _ _ _ c.loop-from.invariant c.loop-from-test.true _ (ends_at c.args.form _ _ _ _ c.size.ensures c.next-end.ensures) in omega (arith, u.on)
-
-pub slice_bounds-step-end : goal.slice_bounds-step-end
-slice_bounds-step-end c = let u = next_here _ _ _ _ _ _ _ _ _ _ _ _ c.loop-from.invariant c.loop-from-test.true _ (ends_at c.args.form _ _ _ _ c.size.ensures c.next-end.ensures) in omega (arith, u.within)
+pub loop-record-init : goal.loop-record-init
+loop-record-init c =
+    let e = c.into_iter-record-iterator.ensures.into_iter_gives in (
+      rw e (c.chunks-record-items.ensures.size ∙ c.size.ensures),
+      follow-begins _ _ _ _ _ _ _ _ _ (rw e c.chunks-record-items.ensures.rest) c.requires (search rules),
+    )
 
 pub step-going-requires : goal.step-going-requires
-step-going-requires c = c.loop-from.invariant.places
-
-pub slice_bounds-put_lines-count : goal.slice_bounds-put_lines-count
-slice_bounds-put_lines-count c = let u = next_here _ _ _ _ _ _ _ _ _ _ _ _ c.loop-from.invariant c.loop-from-test.true _ (ends_at c.args.form _ _ _ _ c.size.ensures c.next-end.ensures) in omega (arith, u.on)
-
-pub slice_bounds-put_lines-start : goal.slice_bounds-put_lines-start
-slice_bounds-put_lines-start c = let u = next_here _ _ _ _ _ _ _ _ _ _ _ _ c.loop-from.invariant c.loop-from-test.true _ (ends_at c.args.form _ _ _ _ c.size.ensures c.next-end.ensures) in omega (arith, u.on)
-
-pub slice_bounds-put_lines-end : goal.slice_bounds-put_lines-end
-slice_bounds-put_lines-end c = let u = next_here _ _ _ _ _ _ _ _ _ _ _ _ c.loop-from.invariant c.loop-from-test.true _ (ends_at c.args.form _ _ _ _ c.size.ensures c.next-end.ensures) in omega (arith, u.within)
+step-going-requires c = c.loop-record.invariant.1.places
 
 pub put_lines-lines-requires : goal.put_lines-lines-requires
-put_lines-lines-requires c = (fits_said _ _ _ _ c.step-going.ensures.said_value, follow-room _ _ _ _ _ _ _ _ _ _ _ _ c.loop-from.invariant c.loop-from-test.true c.requires)
+put_lines-lines-requires c = (fits_said _ _ _ _ c.step-going.ensures.said_value, follow-room _ _ _ _ _ _ _ _ _ _ _ _ c.loop-record.invariant.1 c.in-Some.ensures.steps.1.2 c.requires)
 
 pub shape_of-out-then-decided : goal.shape_of-out-then-decided
-shape_of-out-then-decided c = c.put_lines-lines.ensures.put.size ∙ c.loop-from.invariant.put.size
+shape_of-out-then-decided c = c.put_lines-lines.ensures.put.size ∙ c.loop-record.invariant.1.put.size
 
 pub returns-then-decided : goal.returns-then-decided
-returns-then-decided c = follow-decides _ _ _ _ _ _ _ _ _ _ _ _ c.loop-from.invariant c.loop-from-test.true _
-    (ends_at c.args.form _ _ _ _ c.size.ensures c.next-end.ensures) _ _ _ _ _ _
+returns-then-decided c =
+    let s = c.in-Some.ensures.steps in
+    follow-decides _ _ _ _ _ _ _ _ _ _ _ _ c.loop-record.invariant.1 _ _ _ c.loop-record.invariant.0 s.1.0 s.1.1 s.1.2 _ _ _ _ _ _
     (one-leads _ _ _ _ _ _ c.step-going.result _ _ c.step-going.ensures.m_after c.step-going.ensures.said_value c.put_lines-lines.ensures.counted_value.0)
     (one-text _ _ _ _ _ _ c.step-going.result c.step-going.ensures.said_value c.put_lines-lines.ensures.put)
     c.put_lines-lines.ensures.counted_value.1 _ c.decided.ensures c.if-decided.true
 
-pub loop-from-smaller : goal.loop-from-smaller
-loop-from-smaller c = let u = next_here _ _ _ _ _ _ _ _ _ _ _ _ c.loop-from.invariant c.loop-from-test.true _ (ends_at c.args.form _ _ _ _ c.size.ensures c.next-end.ensures) in omega (arith, u.on, u.within)
-
-pub loop-from-preserved : goal.loop-from-preserved
-loop-from-preserved c = follow-on _ _ _ _ _ _ _ _ _ _ _ _ c.loop-from.invariant c.loop-from-test.true _
-    (ends_at c.args.form _ _ _ _ c.size.ensures c.next-end.ensures) _ _ _ _ _ _
-    (one-leads _ _ _ _ _ _ c.step-going.result _ _ c.step-going.ensures.m_after c.step-going.ensures.said_value c.put_lines-lines.ensures.counted_value.0)
-    (one-text _ _ _ _ _ _ c.step-going.result c.step-going.ensures.said_value c.put_lines-lines.ensures.put)
-    c.put_lines-lines.ensures.counted_value.1 _ c.decided.ensures c.if-decided.false
+pub loop-record-preserved : goal.loop-record-preserved
+loop-record-preserved c =
+    let s = c.in-Some.ensures.steps in (
+      s.0 ∙ c.loop-record.invariant.0,
+      follow-on _ _ _ _ _ _ _ _ _ _ _ _ c.loop-record.invariant.1 _ _ _ c.loop-record.invariant.0 s.1.0 s.1.1 s.1.2 _ _ _ _ _ _
+          (one-leads _ _ _ _ _ _ c.step-going.result _ _ c.step-going.ensures.m_after c.step-going.ensures.said_value c.put_lines-lines.ensures.counted_value.0)
+          (one-text _ _ _ _ _ _ c.step-going.result c.step-going.ensures.said_value c.put_lines-lines.ensures.put)
+          c.put_lines-lines.ensures.counted_value.1 _ c.decided.ensures c.if-decided.false,
+    )
 
 pub shape_of-out : goal.shape_of-out
-shape_of-out c = c.loop-from.invariant.put.size
+shape_of-out c = c.loop-record.invariant.1.put.size
 
 pub returns : goal.returns
-returns c = follow-ends _ _ _ _ _ _ _ _ _ _ _ _ c.loop-from.invariant c.loop-from-test.false
+returns c = follow-ends _ _ _ _ _ _ _ _ _ _ _ _ c.loop-record.invariant.1 c.in-None.ensures.steps.1.0

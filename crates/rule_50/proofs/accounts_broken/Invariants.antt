@@ -1,12 +1,8 @@
-use Rattle.session_rules.specs.Accounts.{account_count}
-use Prim.Native.Nat.{ℕ, ◌-◌, ◌≤◌, ◌<◌}
+use Prim.Native.Nat.{ℕ, ◌<◌}
 use mathlib.Core.Path.{◌≡◌}
 use mathlib.Core.Bool.{false}
 use Rattle.rule_50.specs.Inner.{posted_account}
 use Rattle.rule_50.proofs.accounts_broken.Given as goal
 
 abbrev pub invariant-loop-k : goal.invariant-loop-k
-invariant-loop-k l = (l.k ≤ account_count) × ((j : ℕ) → j < l.k → posted_account l.m l.n j ≡ false)
-
-abbrev pub decreases-loop-k : goal.decreases-loop-k
-decreases-loop-k l = account_count - l.k
+invariant-loop-k l = (j : ℕ) → j < l.k → posted_account l.m l.n j ≡ false

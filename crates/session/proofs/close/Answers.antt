@@ -1,4 +1,5 @@
 use native.Mathlib.Omega.{arith}
+use Rattle.rules.proofs.Kept.{ok-is}
 use Rattle.frames.proofs.Bounds.{closed-gone}
 use Rattle.ledger.proofs.Rooms.{room-up}
 use Rattle.rule_50.proofs.Able.{able}
@@ -10,18 +11,17 @@ use Rattle.session.proofs.Calls.{close-refused, close-closed}
 use borrow.Author.Rules.{rules}
 use Rattle.session.proofs.close.Goals as goal
 
-pub returns-then-number-ne0 : goal.returns-then-number-ne0
-returns-then-number-ne0 c = let e = close-found c.args.rest c.args.m.now (search rules) _ c.posted_broken-posted.ensures _ c.close_refusal-number.ensures in
-    close-refused c.args.rest c.args.m.now _ e c.if-number-ne0.true
+pub returns-in-Err : goal.returns-in-Err
+returns-in-Err c = close-refused c.args.rest c.args.m.now _ (close-found c.args.rest c.args.m.now (search rules) _ c.posted_broken-posted.ensures _ c.in-Err.ensures)
 
 pub ended-requires : goal.ended-requires
-ended-requires c = let e = close-found c.args.rest c.args.m.now (search rules) _ c.posted_broken-posted.ensures _ c.close_refusal-number.ensures in
+ended-requires c = let e = close-found c.args.rest c.args.m.now (search rules) _ c.posted_broken-posted.ensures _ c.in-Ok.ensures in
     let r = whole_of c.args.rest c.args.m.now in
-    let a = able _ _ (posted_of r) _ (close-sound r _ e (omega arith)) (search rules) (search rules) in (
+    let a = able _ _ (posted_of r) _ (close-sound r (ok-is _ _ e)) (search rules) (search rules) in (
       room-up _ _ _ a.room (omega arith),
       rw c.shut-shut.ensures (omega (arith, closed-gone c.args.rest.track, a.under)),
     )
 
-pub returns : goal.returns
-returns c = let e = close-found c.args.rest c.args.m.now (search rules) _ c.posted_broken-posted.ensures _ c.close_refusal-number.ensures in
-    close-closed c.args.rest c.args.m.now _ e _ _ (omega arith) c.shut-shut.ensures c.ended.ensures
+pub returns-in-Ok : goal.returns-in-Ok
+returns-in-Ok c = let e = close-found c.args.rest c.args.m.now (search rules) _ c.posted_broken-posted.ensures _ c.in-Ok.ensures in
+    close-closed c.args.rest c.args.m.now _ _ (ok-is _ _ e) c.shut-shut.ensures c.ended.ensures

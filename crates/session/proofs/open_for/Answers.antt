@@ -1,8 +1,8 @@
 use Rattle.session.proofs.Calls.{open-refused, open-open}
 use Rattle.session.proofs.open_for.Goals as goal
 
-pub returns-then-number-ne0 : goal.returns-then-number-ne0
-returns-then-number-ne0 c = search open-refused
+pub returns-in-Err : goal.returns-in-Err
+returns-in-Err c = open-refused _ _ _ _ c.in-Err.ensures c.with.ensures
 
-pub returns : goal.returns
-returns c = search open-open
+pub returns-in-Ok : goal.returns-in-Ok
+returns-in-Ok c = open-open _ _ _ _ c.in-Ok.ensures c.with-in-Ok.ensures

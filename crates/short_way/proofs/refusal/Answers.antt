@@ -3,4 +3,4 @@ use borrow.Author.Rules.{rules}
 use Rattle.short_way.proofs.refusal.Goals as goal
 
 pub returns : goal.returns
-returns c = take_found c.args.rest c.args.m.now (search rules) _ c.posted_broken-posted.ensures _ c.args.room c.args.n c.take_refusal.ensures
+returns c = take_found c.args.rest.now c.args.m.now (search rules) _ c.posted_broken.ensures _ c.args.room c.args.n c.take_refusal.ensures

@@ -7,13 +7,10 @@ pub loop-i-init : goal.loop-i-init
 loop-i-init c = seek _ _
 
 pub returns-then-f-counts : goal.returns-then-f-counts
-returns-then-f-counts c = found_here _ _ _ c.loop-i.invariant c.loop-i-test.true (count-differs _ _ c.if-f-counts.true)
-
-pub loop-i-smaller : goal.loop-i-smaller
-loop-i-smaller c = omega arith
+returns-then-f-counts c = found_here _ _ _ c.loop-i.invariant (omega arith) (count-differs _ _ c.if-f-counts.true)
 
 pub loop-i-preserved : goal.loop-i-preserved
-loop-i-preserved c = not-here _ _ _ c.loop-i.invariant c.loop-i-test.true (count-agrees _ _ c.if-f-counts.false)
+loop-i-preserved c = not-here _ _ _ c.loop-i.invariant (omega arith) (count-agrees _ _ c.if-f-counts.false)
 
 pub returns : goal.returns
-returns c = none_here _ _ _ c.loop-i.invariant c.loop-i-test.false
+returns c = none_here _ _ _ c.loop-i.invariant (omega arith)

@@ -7,13 +7,10 @@ pub loop-i-init : goal.loop-i-init
 loop-i-init c = seek _ _
 
 pub returns-then-default_broken : goal.returns-then-default_broken
-returns-then-default_broken c = found_here _ _ _ c.loop-i.invariant c.loop-i-test.true (sym c.default_broken.ensures ∙ c.if-default_broken.true)
-
-pub loop-i-smaller : goal.loop-i-smaller
-loop-i-smaller c = omega arith
+returns-then-default_broken c = found_here _ _ _ c.loop-i.invariant (omega arith) (sym c.default_broken.ensures ∙ c.if-default_broken.true)
 
 pub loop-i-preserved : goal.loop-i-preserved
-loop-i-preserved c = not-here _ _ _ c.loop-i.invariant c.loop-i-test.true (sym c.default_broken.ensures ∙ c.if-default_broken.false)
+loop-i-preserved c = not-here _ _ _ c.loop-i.invariant (omega arith) (sym c.default_broken.ensures ∙ c.if-default_broken.false)
 
 pub returns : goal.returns
-returns c = none_here _ _ _ c.loop-i.invariant c.loop-i-test.false
+returns c = none_here _ _ _ c.loop-i.invariant (omega arith)

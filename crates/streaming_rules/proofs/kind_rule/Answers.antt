@@ -1,4 +1,5 @@
 use mathlib.Core.Path.{refl}
+use Rattle.rules.proofs.Kept.{ok-kept}
 use Rattle.streaming_rules.proofs.Ladder.{kind-none}
 use Rattle.streaming_descriptors.proofs.Subtypes.{header-room, format-room, frame-room}
 use Rattle.streaming_rules.proofs.kind_rule.Goals as goal
@@ -22,7 +23,7 @@ pub returns-in-Frames : goal.returns-in-Frames
 returns-in-Frames c = rw c.in-Frames.is c.frame_rule.ensures
 
 pub returns-in-Unread : goal.returns-in-Unread
-returns-in-Unread c = rw c.in-Unread.is (kind-none _ _ _ _ refl refl refl)
+returns-in-Unread c = rw c.in-Unread.is (ok-kept _ (kind-none _ _ _ _ refl refl refl))
 
 pub returns-in-Other : goal.returns-in-Other
-returns-in-Other c = rw c.in-Other.is (kind-none _ _ _ _ refl refl refl)
+returns-in-Other c = rw c.in-Other.is (ok-kept _ (kind-none _ _ _ _ refl refl refl))

@@ -2,7 +2,8 @@ use Rattle.host_session.specs.Packets.{Packets, done_with}
 use Rattle.session_words.specs.declared.Told.{Told}
 use native.Mathlib.Omega.{arith}
 use mathlib.Core.List.{[], ◌∷◌}
-use mathlib.Core.Path.{refl, sym, ap, ◌∙◌}
+use mathlib.Core.Path.{◌≡◌, refl, sym, ap, ◌∙◌}
+use lib.ListN.{length}
 use Prim.Native.Nat.{ℕ, ◌+◌}
 use Rattle.host_session.proofs.Urb.{at-start, one_more, one-tells, at-end}
 use borrow.Author.Rules.{rules}
@@ -22,7 +23,7 @@ shape_of-buffer-then-not-is_quiet c = search (rules, c.loop-k.invariant.room)
 
 pub returns-then-not-is_quiet : goal.returns-then-not-is_quiet
 returns-then-not-is_quiet c =
-    let e = one-tells _ _ _ _ _ _ _ _ _ _ _ _ c.loop-k.invariant _ _ _ _ _ refl c.loop-k-test.true c.packet-step.ensures (search (rules, c.loop-k.invariant.room)) (sym c.is_quiet.ensures ∙ c.if-not-is_quiet.true) in
+    let e = one-tells _ _ _ _ _ _ _ _ _ _ _ _ c.loop-k.invariant _ _ _ _ _ refl (omega arith) c.packet-step.ensures (search (rules, c.loop-k.invariant.room)) (sym c.is_quiet.ensures ∙ c.if-not-is_quiet.true) in
     record {
       value = c.packet-step.ensures.told ∙ ap (λ (x : Packets). x.left.told) (sym e);
       m_after = c.packet-step.ensures.numbers ∙ ap (λ (x : Packets). x.left.numbers) (sym e);
@@ -34,22 +35,20 @@ returns-then-not-is_quiet c =
 pub next-at-requires : goal.next-at-requires
 next-at-requires c = c.loop-k.invariant.within
 
-pub loop-k-smaller : goal.loop-k-smaller
-loop-k-smaller c = omega (arith, c.more-k.ensures, c.loop-k-test.true)
-
 pub loop-k-preserved : goal.loop-k-preserved
-loop-k-preserved c = rw c.more-k.ensures (one_more _ _ _ _ _ _ _ _ _ _ _ _ c.loop-k.invariant _ _ _ _ _ refl c.loop-k-test.true c.packet-step.ensures (search (rules, c.loop-k.invariant.room)) (sym c.is_quiet.ensures ∙ c.if-not-is_quiet.false) _ c.next-at.ensures)
+loop-k-preserved c = (one_more _ _ _ _ _ _ _ _ _ _ _ _ c.loop-k.invariant _ _ _ _ _ refl (omega arith) c.packet-step.ensures (search (rules, c.loop-k.invariant.room)) (sym c.is_quiet.ensures ∙ c.if-not-is_quiet.false) _ c.next-at.ensures)
 
 pub shape_of-buffer : goal.shape_of-buffer
 shape_of-buffer c = search (rules, c.loop-k.invariant.room)
 
 pub returns : goal.returns
 returns c =
-    let e = at-end _ _ _ _ _ _ _ _ _ _ _ _ c.loop-k.invariant c.loop-k-test.false in
+    let all : length c.args.lengths.now ≡ c.loop-k.k = omega arith in
+    let e = at-end _ _ _ _ _ _ _ _ _ _ _ _ c.loop-k.invariant (omega arith) in
     record {
       value = c.plain.ensures ∙ ap (λ (x : Packets). x.left.told) (sym e);
       m_after = ap (λ (x : Packets). x.left.numbers) (sym e);
       w_after = ap (λ (x : Packets). x.left.words) (sym e);
       buffer_after = ap (λ (x : Packets). x.left.buffer) (sym e);
-      taken_after = ap (λ (n : ℕ). n ∷ []) (ap (λ (x : Packets). x.taken) (sym e));
+      taken_after = ap (λ (n : ℕ). n ∷ []) (all ∙ ap (λ (x : Packets). x.taken) (sym e));
     }

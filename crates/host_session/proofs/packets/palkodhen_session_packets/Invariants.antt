@@ -1,11 +1,6 @@
-use Prim.Native.Nat.{◌-◌}
 use Rattle.host_session.proofs.Urb.{Under}
-use lib.ListN.{length}
 use Rattle.host_session.proofs.packets.palkodhen_session_packets.Given as goal
 
 abbrev pub invariant-loop-k : goal.invariant-loop-k
 invariant-loop-k l =
     Under l.initial.m l.initial.w l.initial.buffer l.bytes l.stride l.lengths l.m l.w l.buffer l.known l.at l.k
-
-abbrev pub decreases-loop-k : goal.decreases-loop-k
-decreases-loop-k l = length l.lengths - l.k

@@ -1,10 +1,7 @@
-use Rattle.std.proofs.Common.{◌≡◌, ◌-◌, ◌<◌, ◌≤◌, length}
+use Rattle.std.proofs.Common.{◌≡◌, ◌<◌, length}
 use Rattle.records.specs.Form.{size_of}
 use Rattle.trace_cases.proofs.shown.all.Given as goal
 
-abbrev pub invariant-loop-at : goal.invariant-loop-at
-invariant-loop-at l =
-    (l.at ≤ length l.trace) × (l.reader.have < size_of l.form) × (length l.piece ≡ length l.initial.piece) × (length l.out ≡ length l.initial.out)
-
-abbrev pub decreases-loop-at : goal.decreases-loop-at
-decreases-loop-at l = length l.trace - l.at
+abbrev pub invariant-loop-part : goal.invariant-loop-part
+invariant-loop-part l =
+    (l.part-iterator.size ≡ l.read) × (l.reader.have < size_of l.form) × (length l.piece ≡ length l.initial.piece) × (length l.out ≡ length l.initial.out)
