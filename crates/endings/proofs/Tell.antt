@@ -18,7 +18,7 @@ use Rattle.session_rules.specs.declared.HandOut.{HandOut}
 use Rattle.session_rules.specs.declared.Answer.{Answer}
 use Rattle.std.specs.Option.{option_or}
 use mathlib.Core.Bool.{beq}
-use Rattle.session_rules.proofs.Choices.{or-earlier, beq-same}
+use Rattle.frames.proofs.Choices.{or-earlier, beq-same}
 use Rattle.session_rules.specs.Turns.{same_of}
 use Rattle.session_rules.specs.declared.Rest.{Rest}
 use Rattle.session_rules.specs.declared.Outcome.{Outcome}

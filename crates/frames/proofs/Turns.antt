@@ -1,7 +1,7 @@
 -- What a call makes of the frame under way, one law for each way through the code.
 use Rattle.std.specs.Prelude.{None, Some}
 use Rattle.std.specs.Option.{unwrap_or}
-use Rattle.session_rules.proofs.Choices.{or-why, beq-same}
+use Rattle.frames.proofs.Choices.{or-why, beq-same}
 use Rattle.session_rules.specs.Options.{Fault, Layer, Stamp}
 use Prim.Native.Nat.{ℕ, ◌+◌, ◌<◌, ◌^◌}
 use mathlib.Core.Path.{◌≡◌, refl, sym, ◌∙◌}

@@ -1,6 +1,5 @@
 -- Laws of a session's definitions.
 pub mod Laid
-pub mod Choices
 pub mod Readings
 pub mod OldKind
 pub mod Vp8

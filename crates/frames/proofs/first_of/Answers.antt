@@ -1,5 +1,5 @@
 use mathlib.Core.Path.{◌∙◌}
-use Rattle.session_rules.proofs.Choices.{or-first}
+use Rattle.frames.proofs.Choices.{or-first}
 use Rattle.frames.proofs.first_of.Goals as goal
 
 pub returns : goal.returns

@@ -1,5 +1,5 @@
 use mathlib.Core.Path.{◌∙◌}
-use Rattle.session_rules.proofs.Choices.{or-earlier, or-later, beq-same}
+use Rattle.frames.proofs.Choices.{or-earlier, or-later, beq-same}
 use Rattle.frames.proofs.joined.Goals as goal
 
 pub returns : goal.returns

@@ -1,4 +1,4 @@
-use Rattle.session_rules.proofs.Choices.{none-ready}
+use Rattle.frames.proofs.Choices.{none-ready}
 use Rattle.frames.proofs.ready.Goals as goal
 
 pub returns-then-is_none : goal.returns-then-is_none

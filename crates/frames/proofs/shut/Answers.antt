@@ -1,5 +1,5 @@
 use mathlib.Core.Logic.{inl, inr}
-use Rattle.session_rules.proofs.Choices.{or-why}
+use Rattle.frames.proofs.Choices.{or-why}
 use Rattle.frames.proofs.Turns.{closed-fresh, closed-past}
 use Rattle.session_rules.specs.Turns.{closed_of}
 use Rattle.frames.proofs.shut.Goals as goal
