@@ -3,16 +3,17 @@ use Prim.Native.Nat.{ℕ}
 use mathlib.Core.Path.{◌≡◌, sym, ◌∙◌}
 use mathlib.Core.List.{List}
 use mathlib.Core.Bool.{Bool}
-use Rattle.rules.specs.Numbered.{first_row}
+use Rattle.std.specs.Prelude.{Result}
+use Rattle.rules.specs.Numbered.{first_row, kept}
 use Rattle.entities.specs.declared.Entity.{Entity}
 use Rattle.entities.specs.declared.Revision.{Revision}
 use Rattle.control_rules.specs.Descriptors.{revision_of, known_as, kind_of, is_entity}
 use Rattle.control_rules.specs.Rules.{head_rows, rows_in, entity_of}
 
-pub head-rule-unique : (s : List ℕ) (a b : ℕ) → a ≡ first_row (head_rows s) → b ≡ first_row (head_rows s) → a ≡ b
+pub head-rule-unique : (s : List ℕ) (a b : Result (Unit {0}) ℕ) → a ≡ kept (first_row (head_rows s)) → b ≡ kept (first_row (head_rows s)) → a ≡ b
 head-rule-unique s a b p q = p ∙ sym q
 
-pub rule-at-unique : (v : Revision) (s : List ℕ) (o n : ℕ) (u : Bool) (a b : ℕ) → a ≡ first_row (rows_in v s o u n) → b ≡ first_row (rows_in v s o u n) → a ≡ b
+pub rule-at-unique : (v : Revision) (s : List ℕ) (o n : ℕ) (u : Bool) (a b : Result (Unit {0}) ℕ) → a ≡ kept (first_row (rows_in v s o u n)) → b ≡ kept (first_row (rows_in v s o u n)) → a ≡ b
 rule-at-unique v s o n u a b p q = p ∙ sym q
 
 pub entity-at-unique : (s : List ℕ) (o : ℕ) (a b : Entity) → a ≡ entity_of s o → b ≡ entity_of s o → a ≡ b
