@@ -1,7 +1,8 @@
 -- Record by record: from `at` the next one, and then the rest.
 use Prim.Native.Nat.{ℕ, ◌+◌, ◌-◌, ◌≤◌, ◌<◌}
 use Rattle.std.proofs.Common.{min}
-use mathlib.Core.Path.{◌≡◌, refl, sym, ap, ◌∙◌}
+use Rattle.std.proofs.Math.Nat.{min-eq_left, min-eq_right}
+use mathlib.Core.Path.{◌≡◌, refl, sym, ap, subst, ◌∙◌}
 use mathlib.Core.Bool.{Bool, true, false}
 use mathlib.Core.List.{List, [], ◌∷◌, ◌++◌}
 use native.Mathlib.Omega.{arith}
@@ -72,3 +73,18 @@ pub chunk-first : (n : ℕ) (rest x more : List ℕ) → 0 < n → rest ≡ x ++
 chunk-first n rest x more pos e size some =
     let parts = chunk-parts n rest x more e size in
     cut-first n pos rest some ∙ ap (λ (l : List ℕ). l ∷ cut_of n (drop n rest)) parts.0 ∙ ap (λ (l : List ℕ). x ∷ cut_of n l) parts.1
+
+-- and it ends where `next` says: what `next-is` says of that end holds of each chunk
+pub chunk-next : (n at : ℕ) (l x more : List ℕ) → 0 < n → at < length l → drop at l ≡ x ++ more → length x ≡ min n (length (drop at l)) → at + length x ≡ next_of n at (length l)
+unfolding if_else
+chunk-next n at l x more pos here e size = go (ltb (length l - at) n) refl
+  where
+    left : length (drop at l) ≡ length l - at
+    left = length-drop at l
+
+    go : (c : Bool) → ltb (length l - at) n ≡ c → at + length x ≡ if_else c (length l) (at + n)
+    go true q = let s : min n (length (drop at l)) ≡ length (drop at l) = min-eq_right (omega (arith, left, ltb-true (length l - at) n q)) in omega (arith, size, s, left, here)
+    go false q = let s : min n (length (drop at l)) ≡ n = min-eq_left (omega (arith, left, ltb-false (length l - at) n q)) in omega (arith, size, s)
+
+pub chunk-is : (n at : ℕ) (l x more : List ℕ) → 0 < n → at < length l → drop at l ≡ x ++ more → length x ≡ min n (length (drop at l)) → Next n l at (at + length x)
+chunk-is n at l x more pos here e size = subst (Next n l at) (sym (chunk-next n at l x more pos here e size)) (next-is n pos l at here)

@@ -1,4 +1,4 @@
-use Rattle.std.proofs.Common.{ℕ, ◌≤◌, min, length, subst, sym}
+use Rattle.std.proofs.Common.{ℕ, ◌≤◌, length, subst, sym}
 use Rattle.std.proofs.Math.Nat.{min-le_left}
 use Rattle.cuts.proofs.Branches.{least-is, put_first}
 use Rattle.cuts.proofs.fill.Goals as goal
