@@ -58,7 +58,7 @@ fn moved(last: Stamp, stamp: Stamp) -> Stamp
     stamp.or(last)
 }
 
-// No step, or no stamp.
+// No stamp. A step that is not there has a dash of its own, in put_since.
 fn put_dash(buf: &mut [u8], at: usize) -> usize
     requires { at + 2 ≤ length buf.old }
     ensures { Put buf.old at (32 ∷ 45 ∷ []) result buf.new }
@@ -81,7 +81,7 @@ fn put_since(buf: &mut [u8], at: usize, s: Option<Step>) -> usize
     ensures upper_bound { result ≤ at + 22 }
 {
     match s {
-        None => put_dash(buf, at),
+        None => text::put(buf, at, b" -"),
         Some(step) => match step {
             Step::Forward(n) => text::number(buf, at, n as u64),
             Step::Backward(n) => put_backward(buf, at, n),

@@ -8,7 +8,7 @@ pub loop-n-init : goal.loop-n-init
 loop-n-init c = (omega arith, none _ _ (omega arith))
 
 pub loop-n-preserved : goal.loop-n-preserved
-loop-n-preserved c = (omega arith, turn number 0 c.args.ns.now c.loop-n.n-index (omega arith) c.loop-n.invariant.1 (search rules))
+loop-n-preserved c = (grind arith, turn number 0 c.args.ns.now c.loop-n.n-index (omega arith) c.loop-n.invariant.1 (search rules))
 
 pub returns : goal.returns
 returns c = record { put = full number c.args.ns.now c.loop-n.n-index (omega arith) c.loop-n.invariant.1; upper_bound = omega arith }
