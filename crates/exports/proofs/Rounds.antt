@@ -4,7 +4,7 @@ use mathlib.Core.Path.{◌≡◌, refl, ap, ◌∙◌}
 use mathlib.Core.List.{List}
 use lib.ListN.{length, take, drop}
 use Rattle.std.proofs.Math.Nat.{div-mul-le_self, mul-le-mul_right}
-use native.Mathlib.Nat.{div-zero}
+use native.Mathlib.Nat.{div-eq_of_lt, div-zero}
 use native.Mathlib.Numerals.{add-one}
 use native.Mathlib.Omega.{arith}
 use Rattle.session_rules.specs.declared.Session.{Session}
@@ -83,3 +83,6 @@ module _ (p : Opening) (size times : ℕ) (l b : List ℕ) where
 
   pub no_size : size ≡ 0 → Answered size l (opened p b) times 0 b
   no_size e = nothing (rw e (div-zero (length l)))
+
+  pub too_short : length l < size → Answered size l (opened p b) times 0 b
+  too_short h = nothing (div-eq_of_lt h)

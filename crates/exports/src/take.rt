@@ -36,6 +36,10 @@ pub extern "C" fn palkodhen_take(
     if size == 0 {
         return 0;
     }
+    // No transfer: so many rounds of nothing are not gone through.
+    if transfers.len() < size {
+        return 0;
+    }
     for _round in 0..times {
         for k in 0..transfers.len() / size {
             let at = k * size;

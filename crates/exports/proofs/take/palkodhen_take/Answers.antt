@@ -2,11 +2,14 @@ use Rattle.std.proofs.Common.{◌≡◌, ℕ, length, arith, rules, subst}
 use Rattle.sizes.specs.declared.HeaderKind.TheVariants.{Old}
 use Rattle.session.specs.Inner.{whole_of}
 use Rattle.exports.specs.Taking.{opened}
-use Rattle.exports.proofs.Rounds.{Going, going_start, going_more, going-round, all-taken, no_size}
+use Rattle.exports.proofs.Rounds.{Going, going_start, going_more, going-round, all-taken, no_size, too_short}
 use Rattle.exports.proofs.take.palkodhen_take.Goals as goal
 
 pub returns-then-size-eq0 : goal.returns-then-size-eq0
 returns-then-size-eq0 c = let both = no_size _ _ _ _ _ c.if-size-eq0.true in record { value = both.0; buffer_after = both.1 }
+
+pub returns-then-transfers-size : goal.returns-then-transfers-size
+returns-then-transfers-size c = let both = too_short _ _ _ _ _ c.if-transfers-size.true in record { value = both.0; buffer_after = both.1 }
 
 pub loop-round-init : goal.loop-round-init
 loop-round-init c = (search rules, going_start _ _ _ _ _ c.open-start.ensures (search rules))
