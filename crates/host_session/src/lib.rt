@@ -254,8 +254,8 @@ fn lay(to: &mut [u64; 40], numbers: &Numbers)
     requires { (length numbers.now ≡ number_count) × (length to.old ≡ 40) }
     ensures { to.new ≡ places_of numbers.now }
 {
-    *to = [0; 40];
     to[..31].copy_from_slice(numbers);
+    to[31..].fill(0);
 }
 
 // The ledger, with the frame under way in its account, in its forty places.
