@@ -1,15 +1,16 @@
 use mathlib.Core.Path.{◌∙◌}
 use Rattle.replay.proofs.Records.{fits_said, one-leads, one-text, positive, follow-begins, follow-room, follow-decides, follow-on, follow-ends}
 use borrow.Author.Rules.{rules}
+use native.Mathlib.Omega.{arith}
 use Rattle.replay.proofs.follow.Goals as goal
 
 pub chunks-record-items-requires : goal.chunks-record-items-requires
-chunks-record-items-requires c = rw c.size.ensures (positive c.args.form)
+chunks-record-items-requires c = let p = positive c.args.form in omega (arith, p, c.size.ensures)
 
 pub loop-record-init : goal.loop-record-init
 loop-record-init c =
     let e = c.into_iter-record-iterator.ensures.into_iter_gives in (
-      rw e (c.chunks-record-items.ensures.size ∙ c.size.ensures),
+      rw e (omega (arith, c.chunks-record-items.ensures.size, c.size.ensures)),
       follow-begins _ _ _ _ _ _ _ _ _ (rw e c.chunks-record-items.ensures.rest) c.requires (search rules),
     )
 

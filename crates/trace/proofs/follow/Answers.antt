@@ -4,15 +4,16 @@ use mathlib.Core.Path.{refl, ap, ◌∙◌}
 use Prim.Native.Nat.{ℕ, min}
 use lib.ListN.{length}
 use borrow.Author.Rules.{rules}
+use native.Mathlib.Omega.{arith}
 use Rattle.trace.proofs.follow.Goals as goal
 
 pub chunks-record-items-requires : goal.chunks-record-items-requires
-chunks-record-items-requires c = rw c.size.ensures (some_size c.args.form)
+chunks-record-items-requires c = let p = some_size c.args.form in omega (arith, p, c.size.ensures)
 
 pub loop-record-init : goal.loop-record-init
 loop-record-init c =
     let e = c.into_iter-record-iterator.ensures.into_iter_gives in (
-      rw e (c.chunks-record-items.ensures.size ∙ c.size.ensures),
+      rw e (omega (arith, c.chunks-record-items.ensures.size, c.size.ensures)),
       run-begins c.args.form _ c.args.records.now _ _ _ refl (rw e c.chunks-record-items.ensures.rest) (search rules),
     )
 
